@@ -1,0 +1,140 @@
+"""What the selftest asks and what must come back: document 01's table and findings about the Rust.
+
+A case is a contour and its answer, for all three programs unless it says otherwise.
+"""
+
+
+def zigzag(count):
+    """Points of which every one is a corner by sign."""
+    return [(i % 512, 40 * (i % 2), 1) for i in range(count)]
+
+
+def line(points):
+    return " ".join(f"{x} {y} {f}" for x, y, f in points)
+
+
+def reversed_answer(points):
+    return "ok 0 " + line(points[::-1])
+
+
+NAN = "7ff8000000000000"
+
+# contour, answer
+WHOLE = [
+    # document 01, "Values on both sides"
+    ("7 9 1", "ok 0 7 9 1"),
+    ("0 0 1 100 0 1 0 100 1", "ok 0 0 100 1 100 0 1 0 0 1"),
+    ("0 0 1 100 0 1 50 100 0", "ok 0 100 0 1 0 0 1"),
+    ("5 5 1 5 5 0 5 5 1", "ok 1 5 5 1 5 5 1 5 5 0 5 5 1"),
+    (line(zigzag(1024)), reversed_answer(zigzag(1024))),
+    (line(zigzag(1025)), "refused 3"),
+    # refusals 2 to 5, in that order
+    ("", "refused 2"),
+    ("0 0 0", "refused 4"),
+    ("0 0 1 1 1 0 2 2 0", "refused 5"),
+    ("0 0 0 1 1 0 2 2 0", "refused 4"),
+    (line([(0, 0, 0)] * 1025), "refused 3"),
+    # the last point is no neighbour of the first in the row
+    ("0 0 1 10 10 0", "ok 0 0 0 1"),
+    # rooms; the first met is given, and an unchanged run ends the work
+    ("0 0 1 32767 0 0 32767 32767 1", "refused 6"),
+    ("0 0 1 700 0 0 700 700 1", "refused 7"),
+    ("0 0 1 700 0 0 700 700 1 32767 700 0 32767 -32768 1", "refused 7"),
+    ("0 0 1 432 433 0 410 410 1 -300 900 1", "refused 8"),
+    ("5 5 1 5 5 0 5 5 1 700 5 0 700 700 1", "ok 1 5 5 1 700 700 1 700 5 0 5 5 1 5 5 0 5 5 1"),
+    # 16,384 samples fit (then there are too many breaks), and 2,048 breaks
+    ("0 0 1 8190 0 0 16382 0 1 0 500 1", "refused 7"),
+    ("0 0 1 8190 0 0 16383 0 1 0 500 1", "refused 6"),
+    ("0 0 1 500 0 0 1022 2 1 -3000 500 1", "ok 1 -3000 500 1 1022 2 1 0 0 1"),
+    ("0 0 1 500 0 0 1022 3 1 -3000 500 1", "refused 7"),
+    # zero first tangent, a loop, one break, a last break short of the end
+    ("0 0 1 0 0 0 60 40 1 5 50 1", "ok 1 5 50 1 60 40 1 0 0 1"),
+    ("0 0 1 40 0 0 0 0 1 5 50 1", "ok 1 5 50 1 0 0 1 0 0 1"),
+    ("0 0 1 0 1 0 0 0 1 5 50 1", "ok 1 5 50 1 0 0 1 0 0 1"),
+    ("1 0 1 9 7 0 8 6 1", "ok 1 7 6 1 1 0 1"),
+    ("-25 -55 1 5 -15 1 41 33 1 -71 51 1", "ok 1 -71 51 1 41 33 1 -25 -55 1"),
+    # only bit 0 of a flag counts
+    ("7 9 3", "ok 0 7 9 1"),
+    ("7 9 255", "ok 0 7 9 1"),
+    ("7 9 128", "refused 4"),
+    ("0 0 129 100 0 5 50 100 254", "ok 0 100 0 1 0 0 1"),
+    # lines that hold no contour
+    ("1 2", "malformed"),
+    ("x", "malformed"),
+    ("0 0 1 5", "malformed"),
+    ("1.5 0 1", "malformed"),
+    ("+1 0 1", "malformed"),
+    ("32768 0 1", "malformed"),
+    ("0 -32769 1", "malformed"),
+    ("0 0 256", "malformed"),
+    ("0 0 -1", "malformed"),
+    ("-32768 32767 1", "ok 0 -32768 32767 1"),
+]
+
+# contour, answer of the release builds; the debug build stops on the overflowing sum
+OVERFLOW = [
+    (
+        "20000 0 1 20000 10 0 20005 20 1 20020 30 0 20040 30 1",
+        "ok 2 20040 30 1 20020 30 0 20005 20 1 20000 10 0 20000 0 1",
+    ),
+    # an unchanged contour, so that document 01's implied point between 32767 and 32767 is written
+    (
+        "5 5 1 5 5 0 5 5 1 32767 0 0 -1 0 1 32767 0 0",
+        "ok 1 5 5 1 32767 0 0 32767 0 0 5 5 1 5 5 0 5 5 1",
+    ),
+]
+
+# contour, its segments and marks; the lengths that follow are not compared here
+CORNERS = [
+    ("0 0 1 100 0 1 200 2 1 300 -300 1", "corners 4: 0 2 3 ;"),
+    ("0 0 1 100 0 1 199 2 1 300 -300 1", "corners 4: 0 1 2 3 ;"),
+    ("0 0 1 -50 50 0 50 50 1 -50 50 0 100 100 1", "corners 3: 0 2 ;"),
+    ("0 0 1 10 10 0", "corners 1: ;"),
+    ("7 9 1", "corners 1: 0 ; 0000000000000000"),
+    ("0 0 1 0 0 1 5 0 1", "corners 3: 0 1 2 ; 0000000000000000 4014000000000000 4014000000000000"),
+    ("0 0 0", "refused 4"),
+]
+
+# option, contour, all lines of the answer
+LINES = [
+    ("--runs", "0 0 1 432 433 0 410 410 1 -300 900 1", ["refused 8", "run 0 refused 8"]),
+    ("--runs", "0 0 1 100 0 1 0 100 1", ["ok 0 0 100 1 100 0 1 0 0 1", "run 0 copied", "run 1 copied"]),
+    (
+        "--runs",
+        "5 5 1 5 5 0 5 5 1",
+        [
+            "ok 1 5 5 1 5 5 1 5 5 0 5 5 1",
+            "run 0 samples 3 length 0000000000000000 breaks 1 pairs 1 unchanged",
+        ],
+    ),
+    (
+        "--breaks",
+        "5 5 1 5 5 0 5 5 1",
+        ["contour", f"run 0 samples 3 length 0000000000000000 breaks 1 {NAN} {NAN} {NAN} {NAN} {NAN}"],
+    ),
+    # refused runs do not stop the rest
+    (
+        "--breaks",
+        "0 0 1 700 0 0 700 700 1 32767 700 0 32767 -32768 1 0 0 1",
+        ["contour", "run 0 refused 7", "run 1 refused 6", "run 2 copied"],
+    ),
+    ("--measures 2", "7 9 128", ["refused 4"]),
+    (
+        "--measures 2",
+        "5 5 1 5 5 0 5 5 1",
+        [
+            "contour",
+            f"run 0 samples 3 length 0000000000000000 breaks 1 0 0 {NAN} {NAN} 0 0 {NAN} {NAN}",
+        ],
+    ),
+    (
+        "--samples",
+        "5 5 1 5 5 0 5 5 1",
+        ["contour", "run 0 samples 3 length 0000000000000000 4014000000000000 4014000000000000" + f" {NAN}" * 10],
+    ),
+    ("--samples", "x", ["malformed"]),
+]
+
+# The oracle's own root decides between two places for this break, and a host's hypot may take the
+# other: contour, break number, bits of its s. It is asked of the oracle alone.
+ROOT = ("-25 -55 1 5 -15 1 41 33 1 -71 51 1", 292, "405a1fffffffffe5")

@@ -1,0 +1,169 @@
+//! What the edited Rust calls: the rooms, the count of pairs, and a record of each run.
+//! Nothing here touches a number that the Rust works with.
+
+use super::{Break, Statelet, Thetas};
+use kurbo::{Point, QuadBez};
+use std::cell::{Cell, RefCell};
+
+const SAMPLE_ROOM: usize = 16_384;
+const BREAK_ROOM: usize = 2_048;
+
+/// Thrown where a room is exceeded: the number that is handed back.
+pub struct Refused(pub u32);
+
+pub enum Ending {
+    Open,
+    Copied,
+    Unchanged,
+    Chain { score: f64, pieces: Vec<Piece> },
+}
+
+pub struct Piece {
+    pub start: usize,
+    pub end: usize,
+    pub control: Point,
+}
+
+pub struct Run {
+    pub number: usize,
+    pub quads: Vec<QuadBez>,
+    pub samples: usize,
+    pub length: f64,
+    pub breaks: usize,
+    pub pairs: u64,
+    pub ending: Ending,
+}
+
+#[derive(Clone, Copy, PartialEq)]
+pub enum Keep {
+    /// Count pairs only.
+    Nothing,
+    /// Record what each run came to.
+    Runs,
+    /// Record the curves of each run and work none of them.
+    Curves,
+}
+
+thread_local! {
+    static PAIRS: Cell<u64> = const { Cell::new(0) };
+    static KEEP: Cell<Keep> = const { Cell::new(Keep::Nothing) };
+    static RUNS: RefCell<Vec<Run>> = const { RefCell::new(Vec::new()) };
+}
+
+/// A new contour: forgets the one before, which may have stopped half way.
+pub fn start(keep: Keep) {
+    PAIRS.with(|p| p.set(0));
+    KEEP.with(|k| k.set(keep));
+    RUNS.with(|r| r.borrow_mut().clear());
+}
+
+pub fn pairs() -> u64 {
+    PAIRS.with(|p| p.get())
+}
+
+pub fn runs() -> Vec<Run> {
+    RUNS.with(|r| std::mem::take(&mut *r.borrow_mut()))
+}
+
+fn refuse(number: u32) -> ! {
+    // resume_unwind and not panic: a refusal is no fault, so no panic hook is called
+    std::panic::resume_unwind(Box::new(Refused(number)))
+}
+
+#[inline(always)]
+pub fn sample_room(stored: usize) {
+    if stored >= SAMPLE_ROOM {
+        refuse(6)
+    }
+}
+
+#[inline(always)]
+pub fn break_room(stored: &[Break]) {
+    if stored.len() >= BREAK_ROOM {
+        refuse(7)
+    }
+}
+
+#[inline(always)]
+pub fn pair() {
+    PAIRS.with(|p| p.set(p.get() + 1))
+}
+
+fn add(number: usize, quads: &[QuadBez], ending: Ending) {
+    let quads = quads.to_vec();
+    let run = Run {
+        number,
+        quads,
+        samples: 0,
+        length: 0.0,
+        breaks: 0,
+        pairs: pairs(),
+        ending,
+    };
+    RUNS.with(|r| r.borrow_mut().push(run))
+}
+
+fn last(change: impl FnOnce(&mut Run)) {
+    if KEEP.with(|k| k.get()) == Keep::Runs {
+        RUNS.with(|r| change(r.borrow_mut().last_mut().expect("a run is under way")))
+    }
+}
+
+/// A run is about to be sampled; true if it is to be passed over.
+pub fn begin(number: usize, quads: &[QuadBez]) -> bool {
+    let keep = KEEP.with(|k| k.get());
+    if keep != Keep::Nothing {
+        add(number, quads, Ending::Open);
+    }
+    keep == Keep::Curves
+}
+
+pub fn copied(number: usize) {
+    if KEEP.with(|k| k.get()) != Keep::Nothing {
+        add(number, &[], Ending::Copied)
+    }
+}
+
+pub fn sampled(curve: &Thetas) {
+    last(|run| {
+        run.samples = curve.xys.len();
+        run.length = curve.arclen
+    })
+}
+
+pub fn broken(breaks: &[Break]) {
+    last(|run| run.breaks = breaks.len())
+}
+
+pub fn unchanged() {
+    last(|run| {
+        run.pairs = pairs() - run.pairs;
+        run.ending = Ending::Unchanged
+    })
+}
+
+/// The last break's answer, before the Rust walks it back to its quads.
+pub fn chained(answer: &Statelet) {
+    last(|run| {
+        run.pairs = pairs() - run.pairs;
+        run.ending = Ending::Chain {
+            score: answer.score,
+            pieces: pieces(answer),
+        }
+    })
+}
+
+fn pieces(answer: &Statelet) -> Vec<Piece> {
+    let mut pieces = vec![];
+    let mut at = Some(answer);
+    while let Some(one) = at {
+        pieces.push(Piece {
+            start: one.from,
+            end: one.to,
+            control: one.quad.p1,
+        });
+        at = one.prev.as_deref();
+    }
+    pieces.reverse();
+    pieces
+}
