@@ -1,0 +1,84 @@
+-- An index is a corner exactly when one of its tests holds: a sign turn in x or in y in the first or the second round, a zero
+-- tangent before or after, or an angle; and no index past the segments is one. A theorem on the definitions, for a reader: no proof of a function uses it. Assumes nothing.
+use Prim.Native.Nat.{ℕ, zero, suc, _≤_, _<_}
+use mathlib.Core.Bool.{Bool, true, false, _||_, or-true, or-false}
+use mathlib.Core.List.{List}
+use mathlib.Core.Logic.{_⊎_, inl, inr, _≢_}
+use mathlib.Core.Path.{_≡_, refl, sym, ap, _∙_}
+use native.Mathlib.Nat.{eq-or-lt-of-le}
+use native.Mathlib.Omega.{arith}
+use lib.IntN.{ℤ}
+use lib.ListN.{length, getD, set, length-set, length-replicate, getD-replicate}
+use lib.Seq.{getD-set-same, getD-set-other}
+use Rattle.corners.specs.Segments.{countOf}
+use Rattle.corners.specs.Corners.{none, markIf, marked, origin, turnAt, tangentAt, afterFirst, cornersOf}
+
+abbrev at : List Bool → ℕ → Bool
+at marks k = getD marks k false
+
+here : (t : Bool) (marks : List Bool) (k : ℕ) → k < length marks → at (markIf t marks k) k ≡ (at marks k || t)
+here true marks k h = getD-set-same marks k true false h ∙ sym (or-true (at marks k))
+here false marks k h = sym (or-false (at marks k))
+
+elsewhere : (t : Bool) (marks : List Bool) (j k : ℕ) → k ≢ j → at (markIf t marks j) k ≡ at marks k
+elsewhere true marks j k h = getD-set-other marks j k true false h
+elsewhere false marks j k h = refl
+
+module _ (test : ℕ → Bool) (marks : List Bool) where
+  marked-length : (m : ℕ) → length (marked test m marks) ≡ length marks
+  unfolding marked
+  marked-length zero = refl
+  marked-length (suc m) = kept (test m) ∙ marked-length m
+    where
+      kept : (t : Bool) → length (markIf t (marked test m marks) m) ≡ length (marked test m marks)
+      kept true = length-set (marked test m marks) m true
+      kept false = refl
+
+  -- a place that is not tested keeps its mark
+  untested : (m k : ℕ) → m ≤ k → at (marked test m marks) k ≡ at marks k
+  unfolding marked
+  untested zero k h = refl
+  untested (suc m) k h = elsewhere (test m) (marked test m marks) m k (λ e. omega arith) ∙ untested m k (omega arith)
+
+  -- one that is tested has a mark where it had one or passes
+  tested : (m k : ℕ) → k < m → k < length marks → at (marked test m marks) k ≡ (at marks k || test k)
+  unfolding marked
+  tested zero k h l = absurd (omega arith)
+  tested (suc m) k h l = by (eq-or-lt-of-le (last h)) (λ lt. tested m k lt l)
+    where
+      last : k < suc m → k ≤ m
+      last p = omega arith
+
+      by : (k ≡ m) ⊎ (k < m) → (k < m → at (marked test m marks) k ≡ (at marks k || test k)) →
+          at (markIf (test m) (marked test m marks) m) k ≡ (at marks k || test k)
+      by (inr lt) before = elsewhere (test m) (marked test m marks) m k (λ e. omega arith) ∙ before lt
+      by (inl eq) before =
+          rw eq (here (test m) (marked test m marks) m (rw marked-length (omega arith)) ∙ ap (λ (b : Bool). b || test m) (untested m m (omega arith)))
+
+unmarked : (n k : ℕ) → at (none n) k ≡ false
+unmarked zero k = refl
+unmarked (suc n) zero = refl
+unmarked (suc n) (suc k) = unmarked n k
+
+module _ (xs ys : List ℤ) (fs : List ℕ) (n k : ℕ) where
+  pub corner-when : k < countOf fs → k < n →
+      at (cornersOf xs ys fs n) k ≡ (turnAt xs ys fs origin k || turnAt xs ys fs (afterFirst xs ys fs) k || tangentAt xs ys fs (countOf fs) k)
+  unfolding cornersOf
+  corner-when h l =
+      let m = countOf fs in
+      let once = marked (turnAt xs ys fs origin) m (none n) in
+      let twice = marked (turnAt xs ys fs (afterFirst xs ys fs)) m once in
+      let l₀ : k < length (none n) = rw length-replicate l in
+      let l₁ : k < length once = rw marked-length l₀ in
+      let l₂ : k < length twice = rw marked-length l₁ in
+      tested (tangentAt xs ys fs m) twice m k h l₂
+      ∙ rw (tested (turnAt xs ys fs (afterFirst xs ys fs)) once m k h l₁, tested (turnAt xs ys fs origin) (none n) m k h l₀, getD-replicate n k false false l)
+
+  -- an index past the segments is no corner
+  pub no-corner-past : countOf fs ≤ k → at (cornersOf xs ys fs n) k ≡ false
+  unfolding cornersOf
+  no-corner-past h =
+      let m = countOf fs in
+      let once = marked (turnAt xs ys fs origin) m (none n) in
+      let twice = marked (turnAt xs ys fs (afterFirst xs ys fs)) m once in
+      untested (tangentAt xs ys fs m) twice m k h ∙ untested (turnAt xs ys fs (afterFirst xs ys fs)) once m k h ∙ untested (turnAt xs ys fs origin) (none n) m k h ∙ unmarked n k

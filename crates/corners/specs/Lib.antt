@@ -1,0 +1,5 @@
+pub mod Segments
+pub mod Corners
+pub mod Runs
+pub mod OpenType
+pub mod Laws
