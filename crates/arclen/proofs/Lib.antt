@@ -1,0 +1,5 @@
+-- What the proofs share, here and in the crates that build on this one. `Values` has theorems on the definitions, for a reader.
+pub mod Laws
+pub mod Again
+mod Walking
+mod Values

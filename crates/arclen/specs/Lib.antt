@@ -1,0 +1,3 @@
+pub mod Rk4
+pub mod Arclen
+pub mod Stages

@@ -1,0 +1,63 @@
+-- How the code goes along a quad: a root that is known is not taken again, and the 40 stages of ten steps, four to a step, are written down.
+-- Definitions only, for the contracts.
+use Prim.Native.Nat.{ℕ, zero, suc, _/_, _%_, _<_}
+use mathlib.Core.Path.{_≡_}
+use mathlib.Core.List.{List, [], _∷_}
+use lib.ListN.{getD}
+use lib.Ieee.{Float, binary64, add, mul}
+use Rattle.float.specs.Numbers.{nil}
+use Rattle.float.specs.Float.{rootOf}
+use Rattle.geometry.specs.Geometry.{squareNormOf}
+use Rattle.arclen.specs.Rk4.{halfOf}
+use Rattle.arclen.specs.Arclen.{tenth, derivOf, speedOf, rk4One}
+use Rattle.arclen.specs.declared.ArclenFunctor.{ArclenFunctor}
+use Rattle.arclen.specs.declared.Pace.{Pace}
+use Rattle.arclen.specs.declared.Reached.{Reached}
+
+-- a speed with its square
+abbrev pub Paced : Pace → Type 0
+Paced p = p .speed ≡ rootOf (p .square)
+
+abbrev pub paceOf : ArclenFunctor → Float → Pace
+paceOf f t = record { square = squareNormOf (derivOf f t); speed = speedOf f t }
+
+-- where a step of h leads from the length y at t, with the pace there
+abbrev pub reachedBy : ArclenFunctor → Float → Float → Float → Reached
+reachedBy f h t y = record { length = rk4One f h t y; pace = paceOf f (add binary64 t h) }
+
+-- the time after i steps of h, and the length after i steps of a tenth
+unfoldable pub timeAt : Float → ℕ → Float
+timeAt h zero = nil
+timeAt h (suc i) = add binary64 (timeAt h i) h
+
+unfoldable pub lengthAt : ArclenFunctor → ℕ → Float
+lengthAt f zero = nil
+lengthAt f (suc i) = rk4One f tenth (timeAt tenth i) (lengthAt f i)
+
+-- a stage: its time, the speed there, and the length that RK4 takes to be reached there
+abbrev pub stage : ArclenFunctor → Float → Float → List Float
+stage f t y = t ∷ speedOf f t ∷ y ∷ []
+
+-- y + a * v, with the speed v at t
+abbrev pub ahead : ArclenFunctor → Float → Float → Float → Float
+ahead f y a t = add binary64 y (mul binary64 a (speedOf f t))
+
+-- the stage j of a step of h from the length y at t
+unfoldable pub stageOf : ArclenFunctor → Float → Float → Float → ℕ → List Float
+stageOf f h t y zero = stage f t y
+stageOf f h t y (suc zero) = stage f (add binary64 t (halfOf h)) (ahead f y (halfOf h) t)
+stageOf f h t y (suc (suc zero)) = stage f (add binary64 t (halfOf h)) (ahead f y (halfOf h) (add binary64 t (halfOf h)))
+stageOf f h t y (suc (suc (suc j))) = stage f (add binary64 t h) (ahead f y h (add binary64 t (halfOf h)))
+
+-- the stage k of ten steps
+unfoldable pub stageAt : ArclenFunctor → ℕ → List Float
+stageAt f k = stageOf f tenth (timeAt tenth (k / 4)) (lengthAt f (k / 4)) (k % 4)
+
+-- all stages are written
+pub record Written (f : ArclenFunctor) (stages : List (List Float)) : Type 0 where
+  pub is : (k : ℕ) → k < 40 → getD stages k [] ≡ stageAt f k
+
+-- and y is the length
+pub record Walked (f : ArclenFunctor) (stages : List (List Float)) (y : Float) : Type 0 where
+  pub written : Written f stages
+  pub whole : y ≡ lengthAt f 10

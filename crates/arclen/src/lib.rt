@@ -1,0 +1,142 @@
+// Module 4: the derivative of a quad, and its length by RK4. The rate of the length does not look at the
+// length, so that the two middle rates of a step are one, and a step's last rate is the next one's first:
+// 21 speeds serve ten steps.
+ghost use mathlib.Core.Path.{_≡_};
+ghost use lib.ListN.{length};
+ghost use Rattle.arclen.specs.Rk4.{grownBy};
+ghost use Rattle.arclen.specs.Arclen.{arclenFunctorOf, derivOf, arclenOf};
+ghost use Rattle.arclen.specs.Stages.{Paced, paceOf, reachedBy, Walked};
+use geometry::Point;
+use geometry::Quad;
+
+// The derivative of a quad: its values at both ends.
+pub struct ArclenFunctor {
+    pub dx0: f64,
+    pub dy0: f64,
+    pub dx1: f64,
+    pub dy1: f64,
+}
+
+// A speed and its square.
+pub struct Pace {
+    pub square: f64,
+    pub speed: f64,
+}
+
+// The length so far, and the pace there.
+pub struct Reached {
+    pub length: f64,
+    pub pace: Pace,
+}
+
+impl Pace {
+    // Before any other is known.
+    pub fn still() -> Self
+        ensures { λ r. ⌜ Paced r ⌝ }
+    {
+        Pace {
+            square: 0.0,
+            speed: 0.0,
+        }
+    }
+}
+
+impl ArclenFunctor {
+    pub fn new(q: Quad) -> Self
+        ensures { λ r. ⌜ r ≡ arclenFunctorOf q ⌝ }
+    {
+        ArclenFunctor {
+            dx0: 2.0 * (q.p1.x - q.p0.x),
+            dy0: 2.0 * (q.p1.y - q.p0.y),
+            dx1: 2.0 * (q.p2.x - q.p1.x),
+            dy1: 2.0 * (q.p2.y - q.p1.y),
+        }
+    }
+
+    pub fn deriv(self, t: f64) -> Point
+        ensures { λ r. ⌜ r ≡ derivOf self t ⌝ }
+    {
+        Point {
+            x: self.dx0 + t * (self.dx1 - self.dx0),
+            y: self.dy0 + t * (self.dy1 - self.dy0),
+        }
+    }
+
+    // The pace at t. Where its square is that of the last pace, as all along a line, the root is not
+    // taken again.
+    pub fn pace(self, t: f64, last: Pace) -> Pace
+        requires { ⌜ Paced last ⌝ }
+        ensures { λ r. ⌜ r ≡ paceOf self t ⌝ }
+    {
+        let square = self.deriv(t).square_norm();
+        if square > 0.0 {
+            if square == last.square {
+                return Pace {
+                    square,
+                    speed: last.speed,
+                };
+            }
+        }
+        Pace {
+            square,
+            speed: quickroot::root(square),
+        }
+    }
+}
+
+// A value after a step of h, from its four rates.
+pub fn grown(h: f64, y: f64, a: f64, b: f64, c: f64, d: f64) -> f64
+    ensures { λ r. ⌜ r ≡ grownBy h y a b c d ⌝ }
+{
+    y + h / 6.0 * (a + d + 2.0 * (c + b))
+}
+
+// One step of h of RK4 for one value, the length. It takes two roots, since it starts from the pace at t.
+pub fn rk4(f: ArclenFunctor, h: f64, t: f64, from: Reached) -> Reached
+    requires { ⌜ from .pace ≡ paceOf f t ⌝ }
+    ensures { λ r. ⌜ r ≡ reachedBy f h t (from .length) ⌝ }
+{
+    let first = from.pace;
+    let middle = f.pace(t + h * 0.5, first);
+    let pace = f.pace(t + h, middle);
+    let v = middle.speed;
+    let length = grown(h, from.length, first.speed, v, v, pace.speed);
+    Reached { length, pace }
+}
+
+// Ten steps along a quad: writes the 40 stages, each with its time, the speed there and the length that
+// RK4 takes to be reached there, and gives the length.
+pub fn walk(f: ArclenFunctor, stages: &mut [[f64; 3]; 40]) -> f64
+    requires { ⌜ length (now stages) ≡ 40 ⌝ }
+    ensures { λ r. ⌜ Walked f (now (stages .exit)) r ⌝ }
+{
+    let h = 1.0 / 10.0;
+    let mut t = 0.0;
+    let mut y = 0.0;
+    let mut pace = f.pace(t, Pace::still());
+    let mut i = 0usize;
+    while i < 10 {
+        let middle = f.pace(t + h * 0.5, pace);
+        let end = f.pace(t + h, middle);
+        let a = pace.speed;
+        let b = middle.speed;
+        let d = end.speed;
+        stages[4 * i] = [t, a, y];
+        stages[4 * i + 1] = [t + h * 0.5, b, y + h * 0.5 * a];
+        stages[4 * i + 2] = [t + h * 0.5, b, y + h * 0.5 * b];
+        stages[4 * i + 3] = [t + h, d, y + h * b];
+        y = grown(h, y, a, b, b, d);
+        pace = end;
+        t = t + h;
+        i += 1;
+    }
+    y
+}
+
+// The length of a quad.
+pub fn arclen(q: Quad) -> f64
+    ensures { λ r. ⌜ r ≡ arclenOf q ⌝ }
+{
+    let mut stages = [[0.0; 3]; 40];
+    walk(ArclenFunctor::new(q), &mut stages)
+}
