@@ -1,0 +1,57 @@
+-- A place and a direction looked up in a row of samples [x, y, dx, dy], at a length. Definitions only.
+use Prim.Native.Nat.{ℕ, _+_}
+use mathlib.Core.Bool.{cond}
+use mathlib.Core.List.{List, []}
+use lib.Dec.{leb}
+use lib.ListN.{length, getD}
+use lib.Ieee.{Float, nan, toUnsigned}
+use Rattle.float.specs.Numbers.{nil}
+use Rattle.float.specs.Float.{fractOf}
+use Rattle.geometry.specs.Geometry.{lerpOf}
+use Rattle.geometry.specs.declared.Point.{Point}
+use Rattle.lookup.specs.declared.Spot.{Spot}
+use Rattle.lookup.specs.declared.Looked.{Looked}
+use Rattle.lookup.specs.declared.Looked.the-variants.{At, Last}
+
+-- a point, or the refusal 8
+pub data Found : Type 0 where
+  found : Point → Found
+  refused : Found
+
+-- the numbers k and k + 1 of a sample, which has four
+abbrev pub pointFrom : ℕ → List Float → Point
+pointFrom k s = record { x = getD s k nan; y = getD s (k + 1) nan }
+
+-- the numbers k and k + 1, u of the way from the sample p to the sample q
+abbrev pub pointBetween : ℕ → List Float → List Float → Float → Point
+pointBetween k p q u = lerpOf (pointFrom k p) (pointFrom k q) u
+
+abbrev pub origin : Point
+origin = record { x = nil; y = nil }
+
+-- at or past the row's length (0, 0); at the last stored place the Rust would index past its end, which is refused. A NaN looks at place 0.
+unfoldable pub lookedUp : ℕ → List (List Float) → Float → Found
+lookedUp k row s =
+    let b = toUnsigned 64 s in
+    cond (leb (length row) b) (found origin)
+    (cond (leb (length row) (b + 1)) refused
+    (found (pointBetween k (getD row b []) (getD row (b + 1) []) (fractOf s))))
+
+abbrev pub xyAt : List (List Float) → Float → Found
+xyAt row s = lookedUp 0 row s
+
+abbrev pub dirAt : List (List Float) → Float → Found
+dirAt row s = lookedUp 2 row s
+
+-- the place, then the direction
+abbrev pub both : Found → Found → Looked
+both (found p) (found d) = At (record { xy = p; dir = d })
+both (found p) refused = Last
+both refused f = Last
+
+abbrev pub spotAt : List (List Float) → Float → Looked
+spotAt row s = both (xyAt row s) (dirAt row s)
+
+-- place and direction, u of the way from the sample p to the sample q
+abbrev pub spotBetween : List Float → List Float → Float → Spot
+spotBetween p q u = record { xy = pointBetween 0 p q u; dir = pointBetween 2 p q u }

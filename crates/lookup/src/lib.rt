@@ -1,0 +1,72 @@
+// The lookup of module 5: a place and a direction in a row of samples [x, y, direction x, y], at a length.
+ghost use mathlib.Core.Path.{_≡_};
+ghost use lib.Ieee.{toUnsigned};
+ghost use Rattle.float.specs.Float.{fractOf};
+ghost use Rattle.lookup.specs.Lookup.{pointFrom, spotBetween, spotAt};
+use geometry::Point;
+
+// What the samples have at a length: the place and the direction.
+pub struct Spot {
+    pub xy: Point,
+    pub dir: Point,
+}
+
+pub enum Looked {
+    At(Spot),
+    // At the last stored place: refusal 8.
+    Last,
+}
+
+// The place of a sample.
+fn place(p: [f64; 4]) -> Point
+    ensures { λ r. ⌜ r ≡ pointFrom 0 p ⌝ }
+{
+    Point { x: p[0], y: p[1] }
+}
+
+// The direction of a sample.
+fn direction(p: [f64; 4]) -> Point
+    ensures { λ r. ⌜ r ≡ pointFrom 2 p ⌝ }
+{
+    Point { x: p[2], y: p[3] }
+}
+
+// Between two samples: u of the way from p to q.
+fn between(p: [f64; 4], q: [f64; 4], u: f64) -> Spot
+    ensures { λ r. ⌜ r ≡ spotBetween p q u ⌝ }
+{
+    Spot {
+        xy: place(p).lerp(place(q), u),
+        dir: direction(p).lerp(direction(q), u),
+    }
+}
+
+// The fraction of s, whose place b is known: above 0 one subtraction.
+fn part(s: f64, b: usize) -> f64
+    requires { ⌜ b ≡ toUnsigned 64 s ⌝ }
+    ensures { λ r. ⌜ r ≡ fractOf s ⌝ }
+{
+    if s > 0.0 {
+        if b < 0x20_0000_0000_0000 {
+            return s - (b as f64);
+        }
+    }
+    float::fract(s)
+}
+
+// Place and direction at the length s.
+pub fn lookup(row: &[[f64; 4]], s: f64) -> Looked
+    ensures { λ r. ⌜ r ≡ spotAt (now (row .entry)) s ⌝ }
+{
+    let b = float::to_index(s);
+    if row.len() <= b {
+        return Looked::At(Spot {
+            xy: Point { x: 0.0, y: 0.0 },
+            dir: Point { x: 0.0, y: 0.0 },
+        });
+    }
+    if row.len() - b <= 1 {
+        return Looked::Last;
+    }
+    Looked::At(between(row[b], row[b + 1], part(s, b)))
+}

@@ -1,0 +1,4 @@
+-- What the proofs share. `Values` has theorems on the definitions, for a reader.
+mod Laws
+mod Stored
+mod Values

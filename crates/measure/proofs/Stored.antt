@@ -1,0 +1,99 @@
+-- The 40 terms against the ten steps: where all are there their sum is the error, and the first refused one ends the steps. Assumes nothing.
+use Prim.Native.Nat.{ℕ, zero, suc, _+_, _*_, _/_, _%_, _≤_, _<_}
+use mathlib.Core.Path.{_≡_, sym, _∙_}
+use mathlib.Core.List.{List, [], _∷_}
+use native.Mathlib.Omega.{arith}
+use borrow.Author.Count.{below-more}
+use lib.ListN.{length, set, getD}
+use lib.Seq.{getD-set-same, getD-set-other}
+use lib.Ieee.{Float, nan}
+use Rattle.arclen.specs.Rk4.{at, rk4}
+use Rattle.arclen.specs.Arclen.{tenth}
+use Rattle.arclen.specs.Stages.{timeAt, lengthAt, Written}
+use Rattle.arclen.proofs.Laws.{ends, reach, all-steps, stage-first, stage-next}
+use Rattle.measure.specs.Measure.{applyOf, walkedBy}
+use Rattle.measure.specs.Terms.{measured, sumsOf}
+use Rattle.measure.specs.declared.MeasureFunctor.{MeasureFunctor}
+use Rattle.measure.specs.declared.Measured.{Measured}
+use Rattle.measure.specs.declared.Measured.the-variants.{Last}
+use Rattle.measure.proofs.Laws.{summed, rateOf, part, step-flat}
+
+-- the terms below k are stored
+pub record Stored (r : ℕ → Measured) (g : List Float) (k : ℕ) : Type 0 where
+  pub is : (j : ℕ) → j < k → r j ≡ measured (getD g j nan)
+
+pub none : {r : ℕ → Measured} {g : List Float} → Stored r g 0
+none = record { is = λ j less. absurd (omega arith) }
+
+pub one-more : {r : ℕ → Measured} {g : List Float} {k : ℕ} {z : Float} → Stored r g k → k < length g → r k ≡ measured z → Stored r (set g k z) (k + 1)
+one-more {r} {g} {k} {z} all h e =
+    record {
+      is = below-more _ k (λ j less. rw (getD-set-other g k j z nan (λ same. omega arith)) (all .is j less)) (rw (getD-set-same g k z nan h) e);
+    }
+
+module _ (row : List (List Float)) (m : MeasureFunctor) (stages : List (List Float)) (w : Written (m .af) stages) (g : List Float) where
+  abbrev rate : ℕ → Measured
+  rate k = rateOf row m (getD stages k [])
+
+  part-first : (i : ℕ) → i < 10 → part row m i 0 ≡ rate (4 * i)
+  part-first i less = rw (w .is (4 * i) (omega arith), stage-first (m .af) i)
+
+  part-next : (i j : ℕ) → i < 10 → j < 4 → part row m i j ≡ rate (4 * i + j)
+  part-next i j less h = rw (w .is (4 * i + j) (omega arith), stage-next (m .af) i j h)
+
+  -- length and error after i steps
+  abbrev after : ℕ → List Float
+  after i = lengthAt (m .af) i ∷ sumsOf g i ∷ []
+
+  module _ (k : ℕ) (within : k ≤ 40) (all : Stored rate g k) where
+    got-first : (i : ℕ) → 4 * i < k → part row m i 0 ≡ measured (getD g (4 * i) nan)
+    got-first i h = part-first i (omega arith) ∙ all .is (4 * i) h
+
+    got-next : (i j : ℕ) → j < 4 → 4 * i + j < k → part row m i j ≡ measured (getD g (4 * i + j) nan)
+    got-next i j less h = part-next i j (omega arith) less ∙ all .is (4 * i + j) h
+
+    step-done : (i : ℕ) → 4 * i + 3 < k → rk4 (applyOf row m) tenth (timeAt tenth i) (after i) ≡ at (after (suc i))
+    unfolding sumsOf summed
+    step-done i h =
+        step-flat row m i (sumsOf g i)
+        ∙ rw (
+          got-first i (omega arith),
+          got-next i 1 (omega arith) (omega arith),
+          got-next i 2 (omega arith) (omega arith),
+          got-next i 3 (omega arith) h,
+        )
+
+    -- the term k is refused, that of the stage j of the step i
+    refused-at : (i j : ℕ) → j < 4 → k ≡ 4 * i + j → i < 10 → rate k ≡ Last → part row m i j ≡ Last
+    refused-at i j h p less e = part-next i j less h ∙ rw (sym p) e
+
+    step-refused : (i j : ℕ) → j < 4 → k ≡ 4 * i + j → i < 10 → rate k ≡ Last →
+        summed tenth (sumsOf g i) (part row m i 0) (part row m i 1) (part row m i 2) (part row m i 3) ≡ Last
+    unfolding summed
+    step-refused i zero h p less e =
+        let here : 4 * i ≡ k = omega arith in
+        let last : part row m i 0 ≡ Last = part-first i less ∙ rw here e in
+        rw last
+    step-refused i (suc zero) h p less e = rw (got-first i (omega arith), refused-at i 1 h p less e)
+    step-refused i (suc (suc zero)) h p less e =
+        rw (got-first i (omega arith), got-next i 1 (omega arith) (omega arith), refused-at i 2 h p less e)
+    step-refused i (suc (suc (suc zero))) h p less e =
+        rw (
+          got-first i (omega arith),
+          got-next i 1 (omega arith) (omega arith),
+          got-next i 2 (omega arith) (omega arith),
+          refused-at i 3 h p less e,
+        )
+    step-refused i (suc (suc (suc (suc j)))) h p less e = absurd (omega arith)
+
+    pub broken : k < 40 → rate k ≡ Last → Last ≡ walkedBy row m
+    unfolding walkedBy lengthAt sumsOf
+    broken less e =
+        sym (rw (reach (applyOf row m) tenth 10 after (k / 4) (omega arith) (λ n h. step-done n (omega arith))
+        ∙ ends (applyOf row m) tenth (timeAt tenth (k / 4)) (after (k / 4)) 10 (k / 4) (omega arith)
+        (step-flat row m (k / 4) (sumsOf g (k / 4)) ∙ rw (step-refused (k / 4) (k % 4) (omega arith) (omega arith) (omega arith) e))))
+
+  -- all terms are there
+  pub whole : Stored rate g 40 → measured (sumsOf g 10) ≡ walkedBy row m
+  unfolding walkedBy lengthAt sumsOf
+  whole all = sym (rw (all-steps (applyOf row m) tenth 10 after (λ n h. step-done 40 (omega arith) all n (omega arith))))
