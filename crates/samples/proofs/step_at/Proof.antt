@@ -1,0 +1,19 @@
+use borrow.Author.Needs.{needs}
+use Rattle.samples.proofs.step_at.Statement.{statement}
+use Rattle.samples.proofs.step_at.Tie as tie
+use Rattle.samples.proofs.step_at.Reads as reads
+use Rattle.samples.proofs.step_at.Lts as lts
+use Rattle.arclen.proofs.ArclenFunctor.deriv.Reads as deriv-reads
+use Rattle.geometry.proofs.Quad.point_at_t.Reads as point-at-t-reads
+
+point-at-t-requires : tie.Need-point-at-t-requires
+point-at-t-requires c κs = search needs
+
+deriv-requires : tie.Need-deriv-requires
+deriv-requires c κs = search needs
+
+returns : tie.Need-returns
+returns c = rw (c .deriv .ensures, c .before .point-at-t .ensures, c .before .before .pre)
+
+pub step-at-spec : {M : Type 1} → statement M
+step-at-spec = tie.close (tie.spec point-at-t-requires deriv-requires returns)
