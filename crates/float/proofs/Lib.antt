@@ -4,6 +4,7 @@ pub mod Number
 mod Sign
 mod Saturate
 mod Fitting
+pub mod Zeros
 mod Whole
 pub mod Squares
 pub mod Scaled

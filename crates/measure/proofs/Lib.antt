@@ -1,4 +1,5 @@
--- What the proofs share. `Values` has theorems on the definitions, for a reader.
+-- What the proofs share. `Still` is a theorem on the definitions, for the optimiser; `Values` has theorems for a reader.
 mod Laws
 mod Stored
+pub mod Still
 mod Values
