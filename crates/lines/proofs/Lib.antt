@@ -1,0 +1,10 @@
+-- What the proofs of the functions share.
+mod Texts
+mod Digits
+mod Words
+mod Reading
+mod Signs
+mod Parsing
+mod Feeding
+mod Theorems
+mod Values
