@@ -1,0 +1,35 @@
+-- Worked values of the definitions, by computation. Assumes nothing.
+use mathlib.Core.List.{[], _∷_, map}
+use mathlib.Core.Path.{_≡_, refl}
+use lib.IntN.{pos, negsuc}
+use lib.Ieee as Ieee
+use Rattle.corners.specs.Segments.{countOf, endOf, placeAfter, segFrom}
+use Rattle.contour.specs.Points.{pointsTo, unchangedPoints}
+use Rattle.contour.specs.Implied.{cutOf, middleOf, isImplied, impliedAt, look, dropFrom, dropImplied, finished}
+use Rattle.contour.proofs.Table.{on, off}
+
+-- sums at the ends of 16 bits
+cuts : map cutOf (pos 32767 ∷ pos 32768 ∷ pos 65534 ∷ negsuc 32767 ∷ negsuc 32768 ∷ negsuc 65535 ∷ []) ≡ pos 32767 ∷ negsuc 32767 ∷ negsuc 1 ∷ negsuc 32767 ∷ pos 32767 ∷ pos 0 ∷ []
+unfolding cutOf
+cuts = refl
+
+-- 3 and -3 are halved toward zero, to 1 and -1
+halves : middleOf (pos 1) (pos 2) ∷ middleOf (negsuc 0) (negsuc 1) ∷ [] ≡ pos 1 ∷ negsuc 0 ∷ []
+unfolding cutOf
+halves = refl
+
+-- (5, 5) on, off, on: unchanged, so on, on, off, on. The start is written twice.
+doubled : finished (unchangedPoints (pos 5 ∷ pos 5 ∷ pos 5 ∷ []) (pos 5 ∷ pos 5 ∷ pos 5 ∷ []) (1 ∷ 0 ∷ 1 ∷ []))
+    ≡ on (pos 5) (pos 5) ∷ on (pos 5) (pos 5) ∷ off (pos 5) (pos 5) ∷ on (pos 5) (pos 5) ∷ []
+unfolding pointsTo countOf placeAfter endOf segFrom dropFrom look impliedAt isImplied cutOf Ieee.ofInt Ieee.round Ieee.size Ieee.toSigned
+doubled = refl
+
+-- neighbours going round: at place 0 and at the last place
+first-place : dropImplied isImplied (on (pos 1) (pos 0) ∷ off (pos 2) (pos 0) ∷ off (pos 0) (pos 0) ∷ []) ≡ off (pos 2) (pos 0) ∷ off (pos 0) (pos 0) ∷ []
+unfolding dropFrom look impliedAt isImplied cutOf
+first-place = refl
+
+last-place : dropImplied isImplied (off (pos 0) (pos 0) ∷ on (pos 9) (pos 9) ∷ off (pos 2) (pos 0) ∷ on (pos 1) (pos 0) ∷ [])
+    ≡ off (pos 0) (pos 0) ∷ on (pos 9) (pos 9) ∷ off (pos 2) (pos 0) ∷ []
+unfolding dropFrom look impliedAt isImplied cutOf
+last-place = refl

@@ -1,0 +1,19 @@
+-- `contour::is_midway` meets its contract. Assumes nothing.
+use mathlib.Core.Path.{_∙_, ap}
+use borrow.Author.Needs.{sfits-of}
+use Rattle.contour.specs.Implied.{same}
+use Rattle.contour.proofs.Sixteen.{same-bits, middle-back}
+use Rattle.contour.proofs.is_midway.Statement.{statement}
+use Rattle.contour.proofs.is_midway.Tie as tie
+
+middle-requires : tie.Need-middle-requires
+middle-requires c κs = tt
+
+returns : tie.Need-returns
+returns c =
+    let start = c .before in
+    same-bits {b = c .middle .result} (start .fits .this) (sfits-of (c .middle .ok))
+    ∙ ap (same (start .args .this)) (c .middle .ensures ∙ middle-back (start .args .prev) (start .args .next) (start .fits .prev) (start .fits .next))
+
+pub is-midway-spec : {M : Type 1} → statement M
+is-midway-spec = tie.close (tie.spec middle-requires returns)

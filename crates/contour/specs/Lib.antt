@@ -1,0 +1,5 @@
+pub mod Points
+pub mod Writing
+pub mod Implied
+pub mod Output
+pub mod Laws

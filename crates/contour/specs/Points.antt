@@ -1,0 +1,56 @@
+-- The points of a contour as they are written, [x, y, flag], where the flag is 1 on-curve and 0 off: of a segment, of a piece, of a
+-- contour that stays unchanged. Definitions only.
+use Prim.Native.Nat.{ℕ, zero, suc}
+use mathlib.Core.Bool.{Bool, true, false}
+use mathlib.Core.List.{List, [], _∷_, _++_}
+use lib.IntN.{ℤ, pos}
+use lib.ListN.{getD}
+use lib.Ieee.{toSigned}
+use Rattle.geometry.specs.declared.Point.{Point}
+use Rattle.geometry.specs.declared.Quad as Q
+use Rattle.geometry.specs.Geometry.{isLine}
+use Rattle.corners.specs.declared.Seg.{Seg}
+use Rattle.corners.specs.declared.Seg.the-variants.{Line, Quad}
+use Rattle.corners.specs.Segments.{point, countOf, segAt}
+
+abbrev pub Points : Type 0
+Points = List (List ℤ)
+
+-- coordinates are cut and saturated to 16 bits, the Rust's `as i16`
+abbrev pub onPoint : Point → List ℤ
+onPoint p = toSigned 15 (p .x) ∷ toSigned 15 (p .y) ∷ pos 1 ∷ []
+
+abbrev pub offPoint : Point → List ℤ
+offPoint p = toSigned 15 (p .x) ∷ toSigned 15 (p .y) ∷ pos 0 ∷ []
+
+-- a segment's points, after its start
+abbrev pub pointsOf : Seg → Points
+pointsOf (Line x0 y0 x1 y1) = onPoint (point x1 y1) ∷ []
+pointsOf (Quad x0 y0 x1 y1 x2 y2) = offPoint (point x1 y1) ∷ onPoint (point x2 y2) ∷ []
+
+-- a piece's points, after its start: a line gives its end alone
+abbrev pub pieceIf : Bool → Q.Quad → Points
+pieceIf true q = onPoint (q .p2) ∷ []
+pieceIf false q = offPoint (q .p1) ∷ onPoint (q .p2) ∷ []
+
+abbrev pub piecePoints : Q.Quad → Points
+piecePoints q = pieceIf (isLine q) q
+
+-- the pieces of a chain, one after the other
+unfoldable pub piecesPoints : List Q.Quad → Points
+piecesPoints [] = []
+piecesPoints (q ∷ qs) = piecePoints q ++ piecesPoints qs
+
+-- the start point, with its coordinates as they came
+abbrev pub startPoint : List ℤ → List ℤ → List ℤ
+startPoint xs ys = getD xs 0 (pos 0) ∷ getD ys 0 (pos 0) ∷ pos 1 ∷ []
+
+module _ (xs ys : List ℤ) (fs : List ℕ) where
+  -- the start, then the points of the first k segments
+  unfoldable pub pointsTo : ℕ → Points
+  pointsTo zero = startPoint xs ys ∷ []
+  pointsTo (suc k) = pointsTo k ++ pointsOf (segAt xs ys fs k)
+
+  -- the contour itself: the start, then every segment's points. The closing segment is one of its own, so the start comes again at the end.
+  abbrev pub unchangedPoints : Points
+  unchangedPoints = pointsTo (countOf fs)
