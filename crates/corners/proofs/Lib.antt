@@ -1,6 +1,5 @@
 -- What the proofs share. From `Table` on: theorems on the definitions, for a reader, which no proof of a function uses.
 mod Laws
-mod Filled
 mod Rounds
 mod Table
 mod Values
