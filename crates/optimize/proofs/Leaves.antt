@@ -1,0 +1,90 @@
+-- What the functions over one stored answer rest on: a row whose first places are made one value, the break behind a link, an answer
+-- against an attempt, and what stands at a break. Assumes nothing.
+use Prim.Native.Nat.{ℕ, zero, suc, _+_, _-_, _/_, _≤_, _<_}
+use mathlib.Core.Bool.{Bool}
+use mathlib.Core.Path.{_≡_, refl, sym, ap, _∙_}
+use mathlib.Core.List.{List, [], _∷_, _++_}
+use native.Mathlib.Nat.{not-suc-le-zero, le-of-suc-le-suc}
+use native.Mathlib.Numerals.{add-one}
+use native.Mathlib.Omega.{arith}
+use borrow.Author.Tests.{eq-eqb, ne-eqb}
+use lib.Ieee.{Float, lt}
+use lib.ListN.{length, getD, set, drop, replicate, length-set}
+use Rattle.float.specs.Numbers.{nil}
+use Rattle.geometry.specs.declared.Quad.{Quad}
+use Rattle.breaks.specs.Breaks.{Row}
+use Rattle.optimize.specs.declared.answer.Answer as A
+use Rattle.optimize.specs.Answers.{totalOf}
+use Rattle.optimize.specs.Stored.{bestOf, orElse, newAnswer, combineOf, fromBreak, slotAt, loaded, startName, nothingAt, standingAt}
+
+-- ---- the first places of a row made one value, at any type of element
+
+module _ {A : Type 0} where
+  one-more : (v : A) (l : List A) (i : ℕ) → i < length l → set (replicate i v ++ drop i l) i v ≡ replicate (suc i) v ++ drop (suc i) l
+  one-more v [] i h = absurd (not-suc-le-zero h)
+  one-more v (x ∷ l) zero h = refl
+  one-more v (x ∷ l) (suc i) h = ap (_∷_ v) (one-more v l i (le-of-suc-le-suc h))
+
+  -- m is l with v in its first i places
+  pub record Filled (v : A) (l m : List A) (i : ℕ) : Type 0 where
+    pub same : length m ≡ length l
+    pub is : m ≡ replicate i v ++ drop i l
+
+  pub start : (v : A) (l : List A) → Filled v l l 0
+  start v l = record { same = refl; is = refl }
+
+  pub more : {v : A} {l m : List A} {i : ℕ} → Filled v l m i → i < length l → Filled v l (set m i v) (i + 1)
+  more {v} {l} {m} {i} f h = record { same = simp length-set (f .same); is = rw (add-one, f .is) (one-more v l i h) }
+
+-- ---- the break behind a link
+
+pub from-start : (l : ℕ) → l < 2 → 0 ≡ fromBreak l
+unfolding fromBreak
+from-start zero h = refl
+from-start (suc zero) h = refl
+from-start (suc (suc l)) h = absurd (omega arith)
+
+pub from-stored : (l : ℕ) → 2 ≤ l → (l - 2) / 2 ≡ fromBreak l
+unfolding fromBreak
+from-stored zero h = absurd (omega arith)
+from-stored (suc zero) h = absurd (omega arith)
+from-stored (suc (suc l)) h =
+    let e : suc (suc l) - 2 ≡ l = omega arith in
+    rw e
+
+-- ---- an answer against an attempt with the score s
+
+module _ (old previous : A.Answer) (measure : Float) (q : Quad) (penalty s : Float) (e : s ≡ totalOf (bestOf previous) q measure penalty) where
+  pub compared : (less : Bool) → (previous .name ≡ 0 → ⊥) → (old .link ≡ 0 → ⊥) → lt s (old .score) ≡ less →
+      orElse less (newAnswer old previous q s) old ≡ combineOf old previous measure q penalty
+  unfolding combineOf
+  compared less h k l = rw (ne-eqb (previous .name) 0 h, ← e, ne-eqb (old .link) 0 k, l)
+
+-- ---- what stands at break b, by the answer x that is loaded from its place k
+
+module _ (breaks : Row) (answers : List (List Float)) (links : List ℕ) (b k : ℕ) (x : A.Answer) (place : k ≡ slotAt links b) (e : x ≡ loaded breaks answers links k) where
+  there : x ≡ loaded breaks answers links (slotAt links b)
+  there = rw place at e
+
+  link-is : x .link ≡ getD links (slotAt links b) 0
+  link-is = ap (λ (y : A.Answer). y .link) there
+
+  pub stands : (x .link ≡ 0 → ⊥) → x ≡ standingAt breaks answers links b
+  unfolding standingAt
+  stands h = rw (ne-eqb (getD links (slotAt links b) 0) 0 (λ z. h (link-is ∙ z))) there
+
+  lacks : x .link ≡ 0 → nothingAt b (x .quad) ≡ standingAt breaks answers links b
+  unfolding standingAt
+  lacks h = rw (eq-eqb (getD links (slotAt links b) 0) 0 (sym link-is ∙ h), there)
+
+  -- break 0 starts the run, and has the name 1
+  pub starts : x .link ≡ 0 → b ≡ 0 → record { name = 1; link = 0; score = nil; quad = x .quad } ≡ standingAt breaks answers links b
+  starts h z = rw (ap startName z) at (lacks h)
+
+  nameless : (i : ℕ) → (i ≡ 0 → ⊥) → startName i ≡ 0
+  nameless zero h = absurd (h refl)
+  nameless (suc i) h = refl
+
+  -- no other break has a name
+  pub nothing : x .link ≡ 0 → (b ≡ 0 → ⊥) → record { name = 0; link = 0; score = nil; quad = x .quad } ≡ standingAt breaks answers links b
+  nothing h z = rw (nameless b z) at (lacks h)

@@ -1,0 +1,127 @@
+-- The steps of a pair, as the code takes them. Assumes nothing.
+use Prim.Native.Nat.{ℕ, _+_, _*_, _≤_, _<_}
+use native.Mathlib.Omega.{arith}
+use mathlib.Core.Bool.{Bool, true, false, false≢true, true≢false}
+use mathlib.Core.List.{List}
+use mathlib.Core.Path.{_≡_, refl, sym, _∙_}
+use lib.ListN.{length, set}
+use lib.Ieee.{Float}
+use Rattle.geometry.specs.Geometry.{isWhole, lineQuad, intersectOf}
+use Rattle.geometry.specs.declared.Crossing.{Crossing}
+use Rattle.geometry.specs.declared.Crossing.the-variants as Crossing
+use Rattle.geometry.specs.declared.Break.{Break}
+use Rattle.geometry.specs.declared.Point.{Point}
+use Rattle.geometry.specs.declared.Quad.{Quad}
+use Rattle.measure.specs.declared.Measured.the-variants as Measured
+use Rattle.measure.specs.declared.Measure as M
+use Rattle.breaks.specs.Breaks.{Row, breakAt}
+use Rattle.optimize.specs.declared.answer.Answer as A
+use Rattle.optimize.specs.declared.Tried.{Tried}
+use Rattle.optimize.specs.Answers.{Best, okForHalf, combined}
+use Rattle.optimize.specs.Optimize.{Measure, bestAt, States, refused, states, tryQuad, bentQuad, bent, thenBent, tryLineQuad}
+use Rattle.optimize.specs.Stored.{bestOf, slotAt, Inside, Phase, Room, Into, Rep, Ready, Becomes, stops, goes}
+use Rattle.optimize.proofs.Attempt.{readable}
+
+-- ---- one attempt
+module _ (measure : Measure) (breaks : Row) (penalty : Float) (i j : ℕ) (q : Quad) (st : List Best) where
+  pub quad-refused : measure i j q ≡ Measured.Last → tryQuad measure breaks penalty i j q st ≡ refused
+  unfolding tryQuad
+  quad-refused e = rw e refl
+
+  pub quad-made : (m : M.Measure) → measure i j q ≡ Measured.At m →
+      tryQuad measure breaks penalty i j q st ≡ states (set st j (combined (bestAt st j) (bestAt st i) (record { from = i; to = j; quad = q }) (m .error) penalty))
+  unfolding tryQuad
+  quad-made m e = rw e refl
+
+-- ---- the bent piece
+pub crossing-of : {a b c d : Break} → a ≡ c → b ≡ d → intersectOf (a .xy) (a .dir) (b .xy) (b .dir) ≡ intersectOf (c .xy) (c .dir) (d .xy) (d .dir)
+crossing-of e f = rw (e, f) refl
+
+pub quad-of : {a b c d : Break} {p q : Point} → a ≡ c → p ≡ q → b ≡ d → _≡_ {A = Quad} (record { p0 = a .xy; p1 = p; p2 = b .xy }) (record { p0 = c .xy; p1 = q; p2 = d .xy })
+quad-of e f g = rw (e, f, g) refl
+
+pub half-of : {x y : A.Answer} {q r : Quad} → x ≡ y → q ≡ r → okForHalf (bestOf x) q ≡ okForHalf (bestOf y) r
+half-of e f = rw (e, f) refl
+
+module _ (measure : Measure) (breaks : Row) (penalty : Float) (i j : ℕ) (st : List Best) where
+  abbrev crossing : Crossing
+  crossing = intersectOf (breakAt breaks i .xy) (breakAt breaks i .dir) (breakAt breaks j .xy) (breakAt breaks j .dir)
+
+  pub bent-nowhere : Crossing.Nowhere ≡ crossing → bent measure breaks penalty i j st ≡ states st
+  unfolding bent
+  bent-nowhere e = rw (← e) refl
+
+  module _ (p : Point) (e : Crossing.At p ≡ crossing) where
+    pub bent-allowed : okForHalf (bestAt st i) (bentQuad measure breaks penalty i j p) ≡ true → bent measure breaks penalty i j st ≡ tryQuad measure breaks penalty i j (bentQuad measure breaks penalty i j p) st
+    unfolding bent
+    bent-allowed ok = rw (← e, ok) refl
+
+    pub bent-not-allowed : okForHalf (bestAt st i) (bentQuad measure breaks penalty i j p) ≡ false → bent measure breaks penalty i j st ≡ states st
+    unfolding bent
+    bent-not-allowed bad = rw (← e, bad) refl
+
+-- ---- what may be read
+module _ {bs : Row} {rs : List (List Float)} {ls : List ℕ} {i j k : ℕ} (r : Ready bs rs ls i j k) where
+  pub break-to : j < length bs
+  break-to = omega (arith, r .room .all-breaks, r .into .upto)
+
+  pub break-from : i < length bs
+  break-from = omega (arith, r .into .rising, break-to)
+
+  pub readable-from : Inside bs rs ls (slotAt ls i)
+  readable-from =
+      let upto : i ≤ r .last = omega (arith, r .into .rising, r .into .upto) in
+      readable (r .room) upto (r .rep .stands i upto)
+
+  pub readable-to : Inside bs rs ls (slotAt ls j)
+  readable-to = readable (r .room) (r .into .upto) (r .rep .stands j (r .into .upto))
+
+  pub room-from : 2 * i + 1 < length ls
+  room-from = omega (arith, r .room .in-links, r .into .rising, r .into .upto)
+
+-- ---- after an attempt
+pub record Went (f : Phase) (n : ℕ) (bs : Row) (rs : List (List Float)) (ls : List ℕ) (s : States) : Type 0 where
+  pub st : List Best
+  pub is : s ≡ states st
+  pub rep : Rep f n bs rs ls st
+
+module _ {f : Phase} {n : ℕ} {bs : Row} {rs : List (List Float)} {ls : List ℕ} where
+  pub went : {s : States} {r : Tried} → Becomes f n bs rs ls s r → r .ok ≡ true → Went f n bs rs ls s
+  went (stops e) ok = absurd (false≢true (sym e ∙ ok))
+  went (goes {st = st} e rep) ok = record { st = st; is = refl; rep = rep }
+
+  pub stopped : {s : States} {r : Tried} → Becomes f n bs rs ls s r → r .ok ≡ false → s ≡ refused
+  stopped (stops e) bad = refl
+  stopped (goes e rep) bad = absurd (true≢false (sym e ∙ bad))
+
+pub same-room : {n : ℕ} {bs : Row} {rs rs' : List (List Float)} {ls ls' : List ℕ} → length rs' ≡ length rs → length ls' ≡ length ls → Room n bs rs ls → Room n bs rs' ls'
+same-room e f room = record {
+  all-breaks = room .all-breaks;
+  in-answers = rw e (room .in-answers);
+  in-links = rw f (room .in-links);
+  few = room .few;
+}
+
+pub line-of : {a b c d : Break} {q : Quad} → q ≡ lineQuad (a .xy) (b .xy) → a ≡ c → b ≡ d → q ≡ lineQuad (c .xy) (d .xy)
+line-of e f g = e ∙ rw (f, g) refl
+
+-- the rows are ready for the next attempt of the pair
+pub again : {bs : Row} {rs rs' : List (List Float)} {ls ls' : List ℕ} {i j k : ℕ} {s : States} {r : Tried} (x : Ready bs rs ls i j k) → length rs' ≡ length rs → length ls' ≡ length ls →
+    Becomes (x .phase) (x .last) bs rs' ls' s r → r .ok ≡ true → Ready bs rs' ls' i j k
+again x e f b ok =
+    let w = went b ok in
+    record { phase = x .phase; last = x .last; st = w .st; room = same-room e f (x .room); into = x .into; rep = w .rep }
+
+-- ---- one pair
+module _ (measure : Measure) (breaks : Row) (penalty : Float) (i j : ℕ) (st : List Best) where
+  pub from-whole : isWhole (breakAt breaks i .xy) ≡ true →
+      tryLineQuad measure breaks penalty i j st ≡ thenBent measure breaks penalty i j (tryQuad measure breaks penalty i j (lineQuad (breakAt breaks i .xy) (breakAt breaks j .xy)) st)
+  unfolding tryLineQuad
+  from-whole e = rw e refl
+
+  pub from-half : isWhole (breakAt breaks i .xy) ≡ false → tryLineQuad measure breaks penalty i j st ≡ bent measure breaks penalty i j st
+  unfolding tryLineQuad
+  from-half e = rw e refl
+
+pub is-whole-of : {a c : Break} {t u : Bool} → t ≡ isWhole (a .xy) → a ≡ c → t ≡ u → isWhole (c .xy) ≡ u
+is-whole-of e f g = rw (← f, ← e) g
