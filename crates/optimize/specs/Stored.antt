@@ -9,7 +9,16 @@ use lib.Dec.{eqb}
 use lib.ListN.{length, getD}
 use lib.Ieee.{Float, nan, lt}
 use Rattle.float.specs.Numbers.{nil}
+use Rattle.geometry.specs.Geometry.{lineQuad, roundPointOf, intersectOf}
+use Rattle.geometry.specs.declared.Break.{Break}
+use Rattle.geometry.specs.declared.Crossing.{Crossing}
+use Rattle.geometry.specs.declared.Crossing.the-variants as Crossing
+use Rattle.geometry.specs.declared.Point.{Point}
 use Rattle.geometry.specs.declared.Quad.{Quad}
+use Rattle.measure.specs.Measure.{measureOf}
+use Rattle.measure.specs.declared.Measure as M
+use Rattle.measure.specs.declared.Measured.{Measured}
+use Rattle.measure.specs.declared.Measured.the-variants as Measured
 use Rattle.breaks.specs.Breaks.{Row, breakAt}
 use Rattle.optimize.specs.declared.answer.Answer as A
 use Rattle.optimize.specs.declared.Tried.{Tried}
@@ -216,3 +225,32 @@ pub data Solves (breaks : Row) (answers : List (List Float)) (links : List ℕ) 
   lost : {r : S.Solved} → r ≡ Solved.Last → Solves breaks answers links refused8 r
   stays : {r : S.Solved} {p : ℕ} → r ≡ Solved.Unchanged p → Solves breaks answers links (unchanged p) r
   found : {r : S.Solved} {k p : ℕ} {a : Answer} → r ≡ Solved.Done k p → Holds Anywhere breaks answers links k a → Solves breaks answers links (solved a p) r
+
+-- ---- a run with one break
+
+-- room for two answers a break, of one break or more
+pub record Rooms (breaks : Row) (answers : List (List Float)) (links : List ℕ) : Type 0 where
+  pub some : 0 < length breaks
+  pub few : length breaks ≤ 2048
+  pub in-answers : 2 * length breaks ≤ length answers
+  pub in-links : 2 * length breaks ≤ length links
+
+-- the straight piece from a point to itself
+abbrev pub inPlace : Point → Quad
+inPlace p = lineQuad p p
+
+-- a measure that is a NaN, where there is one
+abbrev pub Spoilt : Measured → Type 0
+Spoilt r = (m : M.Measure) → r ≡ Measured.At m → m .error ≡ nan
+
+abbrev pub measuredOk : Measured → Tried
+measuredOk (Measured.At m) = record { ok = true }
+measuredOk Measured.Last = record { ok = false }
+
+abbrev pub bendOk : List (List Float) → Break → Crossing → Tried
+bendOk samples a Crossing.Nowhere = record { ok = true }
+bendOk samples a (Crossing.At p) = measuredOk (measureOf samples (a .s) (a .s) (record { p0 = a .xy; p1 = roundPointOf p; p2 = a .xy }))
+
+-- whether the bent piece of such a run is measured without refusal
+unfoldable pub bendInPlace : List (List Float) → Break → Tried
+bendInPlace samples a = bendOk samples a (intersectOf (a .xy) (a .dir) (a .xy) (a .dir))

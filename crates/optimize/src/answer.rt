@@ -2,7 +2,7 @@
 use geometry::Quad;
 ghost use mathlib.Core.Path.{_≡_};
 ghost use Rattle.optimize.specs.Answers.{smoothAfter, okForHalf, jointOf, totalOf};
-ghost use Rattle.optimize.specs.Stored.{bestOf, combineOf};
+ghost use Rattle.optimize.specs.Stored.{bestOf, combineOf, nothingAt};
 
 pub struct Answer {
     // what a link to this answer says: 0 where nothing may be built on it
@@ -14,6 +14,18 @@ pub struct Answer {
 }
 
 impl Answer {
+    // What the first piece of a run is built on. It has no quad of its own.
+    pub fn start(quad: Quad) -> Answer
+        ensures { λ r. ⌜ r ≡ nothingAt 0 quad ⌝ }
+    {
+        Answer {
+            name: 1,
+            link: 0,
+            score: 0.0,
+            quad,
+        }
+    }
+
     // Whether a quad goes on from this one, both curves, with a smooth joint.
     pub fn goes_on(self, q: Quad) -> bool
         ensures { λ r. ⌜ r ≡ smoothAfter (bestOf self) q ⌝ }

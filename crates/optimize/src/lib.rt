@@ -5,18 +5,23 @@
 mod answer;
 mod stored;
 
+use answer::Answer;
+use geometry::Break;
 use geometry::Crossing;
+use geometry::Point;
 use geometry::Quad;
 use measure::Measured;
 ghost use mathlib.Core.Path.{_≡_};
+ghost use mathlib.Core.Bool.{true};
 ghost use mathlib.Core.List.{List, [], _∷_};
 ghost use Prim.Native.Nat.{ℕ, _+_, _*_, _≤_, _<_};
 ghost use lib.ListN.{length};
 ghost use Rattle.breaks.specs.Breaks.{breakAt};
 ghost use Rattle.optimize.specs.Answers.{Best};
 ghost use Rattle.optimize.specs.Optimize.{measureBy, states, tryQuad, bent, thenBent, tryLineQuad, tryAll, splits, falling, search, splitted, tried, optimizeOf};
-ghost use Rattle.geometry.specs.Geometry.{lineQuad};
-ghost use Rattle.optimize.specs.Stored.{Phase, early, late, Room, Into, Rep, Ready, Holding, Becomes, solvedAt, aboveAt, Solves};
+ghost use Rattle.geometry.specs.Geometry.{isWhole, lineQuad};
+ghost use Rattle.measure.specs.Measure.{measureOf};
+ghost use Rattle.optimize.specs.Stored.{Phase, early, late, Room, Into, Rep, Ready, Holding, Becomes, solvedAt, aboveAt, Solves, Rooms, inPlace, Spoilt, bendInPlace};
 
 // Whether every sample asked for was there; where not, refusal 8.
 pub struct Tried {
@@ -327,9 +332,8 @@ fn after_first(
     standing_last(links, n, 1)
 }
 
-// The chain of pieces with the least score over the breaks of a run, of which there are two or more: n is
-// the last. Answers and links take two places a break.
-pub fn optimize_many(
+// A run with two breaks or more, of which n is the last.
+fn optimize_many(
     samples: &[[f64; 4]],
     breaks: &[[f64; 5]],
     answers: &mut [[f64; 3]],
@@ -346,4 +350,90 @@ pub fn optimize_many(
         return after_first(samples, breaks, answers, links, n, penalty);
     }
     Solved::Last
+}
+
+// The straight piece of a run with one break, from the break to itself. The coordinates are arguments of
+// their own: that the measure is a NaN is told of doubles, and a function knows its arguments as such.
+fn straight_in_place(samples: &[[f64; 4]], s: f64, x: f64, y: f64) -> Measured
+    ensures is { λ r. ⌜ r ≡ measureOf (now (samples .entry)) s s (inPlace (record { x = x; y = y })) ⌝ }
+    ensures spoilt { λ r. ⌜ (isWhole (record { x = x; y = y }) ≡ true → Spoilt r) ⌝ }
+{
+    let p = Point { x, y };
+    measure::measure_quad(samples, s, s, Quad::line(p, p))
+}
+
+// The bent piece of a run with one break: where the directions cross it is measured, and never stored,
+// since no score is less than the straight piece's NaN.
+fn bend_in_place(samples: &[[f64; 4]], a: Break) -> Tried
+    ensures { λ r. ⌜ r ≡ bendInPlace (now (samples .entry)) a ⌝ }
+{
+    let p0 = a.xy;
+    let Crossing::At(p) = geometry::intersect(p0, a.dir, p0, a.dir) else {
+        return Tried { ok: true };
+    };
+    let p1 = p.round();
+    let q = Quad { p0, p1, p2: p0 };
+    let Measured::At(_) = measure::measure_quad(samples, a.s, a.s, q) else {
+        return Tried { ok: false };
+    };
+    Tried { ok: true }
+}
+
+// A run with one break: a straight piece from it to itself, if it is on whole units. It is apart, since
+// elsewhere nothing stands at break 0: here the answer stands where the run starts, and the bent piece
+// is built on the place that it would be written to.
+fn optimize_one(
+    samples: &[[f64; 4]],
+    breaks: &[[f64; 5]],
+    answers: &mut [[f64; 3]],
+    links: &mut [u32],
+    penalty: f64,
+) -> Solved
+    requires { ⌜ Room 0 (now breaks) (now answers) (now links) ⌝ }
+    ensures { λ r. ⌜ Solves (now (breaks .entry)) (now (answers .exit)) (now (links .exit)) (optimizeOf (measureBy (now (samples .entry)) (now (breaks .entry))) (now (breaks .entry)) penalty) r ⌝ }
+{
+    let a = breaks::read(breaks, 0);
+    let p = a.xy;
+    if !p.is_whole() {
+        return Solved::Unchanged(1);
+    }
+    let Measured::At(m) = straight_in_place(samples, a.s, p.x, p.y) else {
+        return Solved::Last;
+    };
+    let quad = Quad::line(p, p);
+    let score = Answer::start(quad).total(quad, m.error, penalty);
+    stored::store(
+        answers,
+        links,
+        0,
+        Answer {
+            name: 2,
+            link: 1,
+            score,
+            quad,
+        },
+    );
+    let t = bend_in_place(samples, a);
+    if t.ok {
+        return Solved::Done(0, 1);
+    }
+    Solved::Last
+}
+
+// The best chain of pieces that was tried over the breaks. Answers and links take two places a break.
+pub fn optimize(
+    samples: &[[f64; 4]],
+    breaks: &[[f64; 5]],
+    answers: &mut [[f64; 3]],
+    links: &mut [u32],
+    penalty: f64,
+) -> Solved
+    requires { ⌜ Rooms (now breaks) (now answers) (now links) ⌝ }
+    ensures { λ r. ⌜ Solves (now (breaks .entry)) (now (answers .exit)) (now (links .exit)) (optimizeOf (measureBy (now (samples .entry)) (now (breaks .entry))) (now (breaks .entry)) penalty) r ⌝ }
+{
+    let n = breaks.len() - 1;
+    if n == 0 {
+        return optimize_one(samples, breaks, answers, links, penalty);
+    }
+    optimize_many(samples, breaks, answers, links, n, penalty)
 }

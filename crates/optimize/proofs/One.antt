@@ -1,11 +1,12 @@
 -- A run with one break. Assumes nothing.
-use Prim.Native.Nat.{ℕ, _+_, _-_}
+use Prim.Native.Nat.{ℕ, _-_, _<_}
 use native.Mathlib.Omega.{arith}
 use mathlib.Core.Bool.{Bool, true, false, not, _&&_, false≢true, true≢false}
 use mathlib.Core.List.{List, [], _∷_}
 use mathlib.Core.Path.{_≡_, refl, sym, ap, _∙_}
-use lib.ListN.{length}
-use lib.Ieee.{Float, nan, inf, fin, binary64, add, mul, lt}
+use lib.Dec.{T}
+use lib.ListN.{length, set}
+use lib.Ieee.{Float, nan, inf, fin, binary64, fits, add, mul, lt}
 use Rattle.float.specs.Numbers.{three}
 use Rattle.float.proofs.Zeros.{plus-nan}
 use Rattle.geometry.specs.Geometry.{isLine, isWhole, lineQuad, roundPointOf, intersectOf}
@@ -15,6 +16,7 @@ use Rattle.geometry.specs.declared.Crossing.the-variants as Crossing
 use Rattle.geometry.specs.declared.Point.{Point}
 use Rattle.geometry.specs.declared.Quad.{Quad}
 use Rattle.measure.specs.Measure.{measureOf}
+use Rattle.measure.proofs.Still.{still}
 use Rattle.measure.specs.declared.Measure as M
 use Rattle.measure.specs.declared.Measured.{Measured}
 use Rattle.measure.specs.declared.Measured.the-variants as Measured
@@ -23,7 +25,8 @@ use Rattle.optimize.specs.declared.answer.Answer as A
 use Rattle.optimize.specs.declared.Tried.{Tried}
 use Rattle.optimize.specs.Answers.{Piece, Answer, first, scoreOf, Best, none, best, smoothAfter, okForHalf, totalOf, combined}
 use Rattle.optimize.specs.Optimize.{Measure, measureBy, bestAt, States, refused, states, tryQuad, bentQuad, bentAt, bent, thenBent, tryLineQuad, refused8, unchanged, solved, tried, optimizeOf}
-use Rattle.optimize.specs.Stored.{bestOf, nothingAt, measuredOk, bendOk, bendInPlace}
+use Rattle.optimize.specs.Stored.{bestOf, nothingAt, rowOf, Holds, Anywhere, inPlace, Spoilt, measuredOk, bendOk, bendInPlace}
+use Rattle.optimize.proofs.Held.{new-start}
 use Rattle.optimize.proofs.Solving.{optimized-by}
 use Rattle.optimize.proofs.Trying.{quad-refused, quad-made, from-whole, from-half}
 
@@ -71,7 +74,7 @@ module _ (samples : List (List Float)) (bs : Row) (penalty : Float) (one : lengt
 
   module _ (whole : isWhole (breakAt bs 0 .xy) ≡ true) where
     abbrev line : Quad
-    line = lineQuad (breakAt bs 0 .xy) (breakAt bs 0 .xy)
+    line = inPlace (breakAt bs 0 .xy)
 
     pub one-refused : measureOf samples (breakAt bs 0 .s) (breakAt bs 0 .s) line ≡ Measured.Last → optimizeOf measure bs penalty ≡ refused8
     one-refused e =
@@ -90,36 +93,36 @@ module _ (samples : List (List Float)) (bs : Row) (penalty : Float) (one : lengt
       stored = quad-made measure bs penalty 0 0 line (none ∷ []) m made
 
       -- the bent piece changes nothing, where its measure is not refused
-      tried-bent : (q : Quad) (w : Measured) → measureOf samples (breakAt bs 0 .s) (breakAt bs 0 .s) q ≡ w → measuredOk w ≡ record { ok = true } →
+      tried-bent : (q : Quad) (w : Measured) → measureOf samples (breakAt bs 0 .s) (breakAt bs 0 .s) q ≡ w → measuredOk w .ok ≡ true →
           tryQuad measure bs penalty 0 0 q (best answer ∷ []) ≡ states (best answer ∷ [])
       tried-bent q (Measured.At x) e ok =
           quad-made measure bs penalty 0 0 q (best answer ∷ []) x e
           ∙ ap (λ (t : Best). states (t ∷ [])) (nan-stays answer (record { from = 0; to = 0; quad = q }) (x .error) penalty score-nan)
-      tried-bent q Measured.Last e ok = absurd (false≢true (ap (λ (r : Tried). r .ok) ok))
+      tried-bent q Measured.Last e ok = absurd (false≢true ok)
 
-      refused-bent : (q : Quad) (w : Measured) → measureOf samples (breakAt bs 0 .s) (breakAt bs 0 .s) q ≡ w → measuredOk w ≡ record { ok = false } →
+      refused-bent : (q : Quad) (w : Measured) → measureOf samples (breakAt bs 0 .s) (breakAt bs 0 .s) q ≡ w → measuredOk w .ok ≡ false →
           tryQuad measure bs penalty 0 0 q (best answer ∷ []) ≡ refused
-      refused-bent q (Measured.At x) e bad = absurd (true≢false (ap (λ (r : Tried). r .ok) bad))
+      refused-bent q (Measured.At x) e bad = absurd (true≢false bad)
       refused-bent q Measured.Last e bad = quad-refused measure bs penalty 0 0 q (best answer ∷ []) e
 
-      bends : (c : Crossing) → bendOk samples (breakAt bs 0) c ≡ record { ok = true } → bentAt measure bs penalty c 0 0 (best answer ∷ []) ≡ states (best answer ∷ [])
+      bends : (c : Crossing) → bendOk samples (breakAt bs 0) c .ok ≡ true → bentAt measure bs penalty c 0 0 (best answer ∷ []) ≡ states (best answer ∷ [])
       bends Crossing.Nowhere ok = refl
       bends (Crossing.At p) ok = rw whole (tried-bent (bentQuad measure bs penalty 0 0 p) _ refl ok)
 
-      bends-not : (c : Crossing) → bendOk samples (breakAt bs 0) c ≡ record { ok = false } → bentAt measure bs penalty c 0 0 (best answer ∷ []) ≡ refused
-      bends-not Crossing.Nowhere bad = absurd (true≢false (ap (λ (r : Tried). r .ok) bad))
+      bends-not : (c : Crossing) → bendOk samples (breakAt bs 0) c .ok ≡ false → bentAt measure bs penalty c 0 0 (best answer ∷ []) ≡ refused
+      bends-not Crossing.Nowhere bad = absurd (true≢false bad)
       bends-not (Crossing.At p) bad = rw whole (refused-bent (bentQuad measure bs penalty 0 0 p) _ refl bad)
 
       both : {s : States} → bent measure bs penalty 0 0 (best answer ∷ []) ≡ s → tryLineQuad measure bs penalty 0 0 (none ∷ []) ≡ s
       both e = from-whole measure bs penalty 0 0 (none ∷ []) whole ∙ ap (thenBent measure bs penalty 0 0) stored ∙ e
 
-      pub one-solved : bendInPlace samples (breakAt bs 0) ≡ record { ok = true } → optimizeOf measure bs penalty ≡ solved answer 1
+      pub one-solved : bendInPlace samples (breakAt bs 0) .ok ≡ true → optimizeOf measure bs penalty ≡ solved answer 1
       unfolding bent bendInPlace
       one-solved ok =
           optimized-by measure penalty bs 0 (states (best answer ∷ [])) one (both (bends crossing ok))
           ∙ rw (last, ap (lt (mul binary64 three penalty)) score-nan ∙ less-nan (mul binary64 three penalty)) refl
 
-      pub one-bent-refused : bendInPlace samples (breakAt bs 0) ≡ record { ok = false } → optimizeOf measure bs penalty ≡ refused8
+      pub one-bent-refused : bendInPlace samples (breakAt bs 0) .ok ≡ false → optimizeOf measure bs penalty ≡ refused8
       unfolding bent bendInPlace
       one-bent-refused bad = optimized-by measure penalty bs 0 refused one (both (bends-not crossing bad))
 
@@ -134,9 +137,29 @@ module _ (samples : List (List Float)) (a : Break) where
   unfolding bendInPlace
   bend-by p r w v e f g h = rw (← e, ← f, ← g, h) refl
 
-pub measured-line : (samples : List (List Float)) (c : Break) {a : Break} {q : Quad} {w v : Measured} → w ≡ measureOf samples (a .s) (a .s) q → w ≡ v → a ≡ c → q ≡ lineQuad (c .xy) (c .xy) →
-    measureOf samples (c .s) (c .s) (lineQuad (c .xy) (c .xy)) ≡ v
-measured-line samples c e h f g = rw (← g, ← f, ← e) h
+-- the straight piece of a point whose coordinates are doubles
+pub in-place : (samples : List (List Float)) (s : Float) (p : Point) {q : Quad} {r : Measured} → T (fits binary64 (p .x)) → T (fits binary64 (p .y)) →
+    q ≡ inPlace p → r ≡ measureOf samples s s q → (r ≡ measureOf samples s s (inPlace p)) × (isWhole p ≡ true → Spoilt r)
+in-place samples s p fx fy e f =
+    let is = f ∙ ap (measureOf samples s s) e in
+    (is, λ whole m h. still samples s s p fx fy whole m (sym is ∙ h))
 
-pub first-total : (q line : Quad) (m penalty s : Float) (x : A.Answer) → x ≡ nothingAt 0 q → q ≡ line → s ≡ totalOf (bestOf x) q m penalty → s ≡ totalOf none line m penalty
+pub measured-line : (samples : List (List Float)) (c : Break) {a : Break} {w v : Measured} → w ≡ measureOf samples (a .s) (a .s) (inPlace (a .xy)) → w ≡ v → a ≡ c →
+    measureOf samples (c .s) (c .s) (inPlace (c .xy)) ≡ v
+measured-line samples c e h f = rw (← f, ← e) h
+
+pub bent-ok : (samples : List (List Float)) {a c : Break} {t : Tried} {u : Bool} → t ≡ bendInPlace samples a → a ≡ c → t .ok ≡ u → bendInPlace samples c .ok ≡ u
+bent-ok samples e f g = rw (← f, ← e) g
+
+first-total : (q line : Quad) (m penalty s : Float) (x : A.Answer) → x ≡ nothingAt 0 q → q ≡ line → s ≡ totalOf (bestOf x) q m penalty → s ≡ totalOf none line m penalty
 first-total q line m penalty s x e f g = g ∙ rw (e, f) refl
+
+-- the first place holds the answer, once it is stored there
+module _ (bs : Row) (penalty : Float) (rs : List (List Float)) (ls : List ℕ) (in-rs : 0 < length rs) (in-ls : 0 < length ls) where
+  pub held : {rs' : List (List Float)} {ls' : List ℕ} (m s : Float) (q : Quad) (x : A.Answer) → x ≡ nothingAt 0 q → q ≡ inPlace (breakAt bs 0 .xy) → s ≡ totalOf (bestOf x) q m penalty →
+      rs' ≡ set rs 0 (rowOf (record { name = 2; link = 1; score = s; quad = q })) → ls' ≡ set ls 0 1 →
+      Holds Anywhere bs rs' ls' 0 (first (record { from = 0; to = 0; quad = inPlace (breakAt bs 0 .xy) }) (totalOf none (inPlace (breakAt bs 0 .xy)) m penalty))
+  held m s q x e f g in-row in-link =
+      rw (in-row, in-link, ← first-total q (inPlace (breakAt bs 0 .xy)) m penalty s x e f g)
+      (new-start Anywhere bs rs ls 0 (record { name = 2; link = 1; score = s; quad = q }) tt in-rs in-ls (record { from = 0; to = 0; quad = inPlace (breakAt bs 0 .xy) })
+      refl refl refl refl refl (sym f))

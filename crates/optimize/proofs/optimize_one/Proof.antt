@@ -1,15 +1,12 @@
 -- `optimize::optimize_one` meets its contract. Assumes nothing.
 use native.Mathlib.Omega.{arith}
 use mathlib.Core.Path.{_≡_, refl, sym, ap, _∙_}
+use borrow.Author.Needs.{needs}
 use borrow.Author.Tests.{not-true, not-false}
-use Rattle.geometry.specs.Geometry.{lineQuad}
-use Rattle.geometry.specs.declared.Break.{Break}
-use Rattle.measure.proofs.Still.{still}
 use Rattle.breaks.specs.Breaks.{breakAt}
 use Rattle.optimize.specs.Stored.{lost, stays, found}
-use Rattle.optimize.proofs.One.{off-whole, one-refused, one-solved, one-bent-refused, measured-line, first-total}
-use Rattle.optimize.proofs.Trying.{is-whole-of}
-use borrow.Author.Needs.{needs}
+use Rattle.optimize.proofs.One.{off-whole, one-refused, one-solved, one-bent-refused, measured-line, bent-ok, held}
+use Rattle.optimize.proofs.Trying.{is-whole-of, line-of}
 use Rattle.optimize.proofs.optimize_one.Statement.{statement}
 use Rattle.optimize.proofs.optimize_one.Tie as tie
 
@@ -23,13 +20,12 @@ returns : tie.Need-returns
 returns c =
     let reading = c .before .before .before in
     let start = reading .before .before in
-    rw (off-whole (start .args .samples .now) (start .args .breaks .now) (start .args .penalty) (start .pre .all-breaks) (is-whole-of (c .before .is-whole .ensures) (reading .read .ensures) (not-true _ (c .if1 .taken)))) (stays refl)
+    let args = start .args in
+    let off = is-whole-of (c .before .is-whole .ensures) (reading .read .ensures) (not-true _ (c .if1 .taken)) in
+    rw (off-whole (args .samples .now) (args .breaks .now) (args .penalty) (start .pre .all-breaks) off) (stays refl)
 
-line-requires : tie.Need-line-requires
-line-requires c κs = search needs
-
-measure-quad-requires : tie.Need-measure-quad-requires
-measure-quad-requires c κs = search needs
+straight-in-place-requires : tie.Need-straight-in-place-requires
+straight-in-place-requires c κs = search needs
 
 enum-known-m : tie.Need-enum-known-m
 enum-known-m c = search needs
@@ -40,15 +36,18 @@ enum-told c = search needs
 returns-2 : tie.Need-returns-2
 returns-2 c =
     let measuring = c .before .before in
-    let drawn = measuring .before in
-    let tested = drawn .before in
+    let tested = measuring .before in
     let reading = tested .before .before .before in
     let start = reading .before .before in
     let args = start .args in
+    let samples = args .samples .now in
     let bs = args .breaks .now in
-    let line = drawn .line .ensures ∙ ap (λ (b : Break). lineQuad (b .xy) (b .xy)) (reading .read .ensures) in
     let whole = is-whole-of (tested .before .is-whole .ensures) (reading .read .ensures) (not-false _ (tested .if1 .left)) in
-    rw (one-refused (args .samples .now) bs (args .penalty) (start .pre .all-breaks) whole (measured-line (args .samples .now) (breakAt bs 0) (measuring .measure-quad .ensures) (c .enum-told .given .1) (reading .read .ensures) line)) (lost refl)
+    let made = measured-line samples (breakAt bs 0) (measuring .straight-in-place .ensures .0) (c .enum-told .given .1) (reading .read .ensures) in
+    rw (one-refused samples bs (args .penalty) (start .pre .all-breaks) whole made) (lost refl)
+
+line-requires : tie.Need-line-requires
+line-requires c κs = search needs
 
 start-requires : tie.Need-start-requires
 start-requires c κs = search needs
@@ -76,19 +75,23 @@ returns-3 c =
     let storing = bending .before .before .before .before in
     let totalling = storing .before .before .before in
     let starting = totalling .before in
-    let found = starting .before .before in
-    let measuring = found .before .before in
-    let drawn = measuring .before in
-    let tested = drawn .before in
+    let drawn = starting .before in
+    let found-m = drawn .before .before in
+    let measuring = found-m .before .before in
+    let tested = measuring .before in
     let reading = tested .before .before .before in
     let start = reading .before .before in
     let args = start .args in
+    let samples = args .samples .now in
     let bs = args .breaks .now in
-    let line = drawn .line .ensures ∙ ap (λ (b : Break). lineQuad (b .xy) (b .xy)) (reading .read .ensures) in
-    let whole = is-whole-of (tested .before .is-whole .ensures) (reading .read .ensures) (not-false _ (tested .if1 .left)) in
-    let made = measured-line (args .samples .now) (breakAt bs 0) (measuring .measure-quad .ensures) (found .m .given .1) (reading .read .ensures) line in
-    let nan = still (args .samples .now) _ _ (breakAt bs 0 .xy) ? ? whole _ made in
-    ?
+    let read = reading .read .ensures in
+    let whole = is-whole-of (tested .before .is-whole .ensures) read (not-false _ (tested .if1 .left)) in
+    let made = measured-line samples (breakAt bs 0) (measuring .straight-in-place .ensures .0) (found-m .m .given .1) read in
+    let spoilt = measuring .straight-in-place .ensures .1 (sym (tested .before .is-whole .ensures) ∙ not-false _ (tested .if1 .left)) _ (found-m .m .given .1) in
+    rw (one-solved samples bs (args .penalty) (start .pre .all-breaks) whole _ made spoilt (bent-ok samples (bending .bend-in-place .ensures) read (c .if2 .taken)))
+    (found refl
+    (held bs (args .penalty) (args .answers .now) (args .links .now) (omega (arith, start .pre .in-answers)) (omega (arith, start .pre .in-links)) _ _ _ _
+    (starting .start .ensures) (line-of (drawn .line .ensures) read read) (totalling .total .ensures) (storing .store .ensures .0) (storing .store .ensures .1)))
 
 same-length-3 : tie.Need-same-length-3
 same-length-3 c = search needs
@@ -99,22 +102,19 @@ same-length-4 c = search needs
 returns-4 : tie.Need-returns-4
 returns-4 c =
     let bending = c .before in
-    let storing = bending .before .before .before .before in
-    let totalling = storing .before .before .before in
-    let starting = totalling .before in
-    let found = starting .before .before in
-    let measuring = found .before .before in
-    let drawn = measuring .before in
-    let tested = drawn .before in
+    let found-m = bending .before .before .before .before .before .before .before .before .before .before .before in
+    let measuring = found-m .before .before in
+    let tested = measuring .before in
     let reading = tested .before .before .before in
     let start = reading .before .before in
     let args = start .args in
+    let samples = args .samples .now in
     let bs = args .breaks .now in
-    let line = drawn .line .ensures ∙ ap (λ (b : Break). lineQuad (b .xy) (b .xy)) (reading .read .ensures) in
-    let whole = is-whole-of (tested .before .is-whole .ensures) (reading .read .ensures) (not-false _ (tested .if1 .left)) in
-    let made = measured-line (args .samples .now) (breakAt bs 0) (measuring .measure-quad .ensures) (found .m .given .1) (reading .read .ensures) line in
-    let nan = still (args .samples .now) _ _ (breakAt bs 0 .xy) ? ? whole _ made in
-    ?
+    let read = reading .read .ensures in
+    let whole = is-whole-of (tested .before .is-whole .ensures) read (not-false _ (tested .if1 .left)) in
+    let made = measured-line samples (breakAt bs 0) (measuring .straight-in-place .ensures .0) (found-m .m .given .1) read in
+    let spoilt = measuring .straight-in-place .ensures .1 (sym (tested .before .is-whole .ensures) ∙ not-false _ (tested .if1 .left)) _ (found-m .m .given .1) in
+    rw (one-bent-refused samples bs (args .penalty) (start .pre .all-breaks) whole _ made spoilt (bent-ok samples (bending .bend-in-place .ensures) read (c .if2 .left))) (lost refl)
 
 pub optimize-one-spec : {M : Type 1} → statement M
 optimize-one-spec =
@@ -123,11 +123,11 @@ optimize-one-spec =
     read-requires
     is-whole-requires
     returns
-    line-requires
-    measure-quad-requires
+    straight-in-place-requires
     enum-known-m
     enum-told
     returns-2
+    line-requires
     start-requires
     total-requires
     store-requires
