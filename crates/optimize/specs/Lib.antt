@@ -1,3 +1,4 @@
 pub mod Answers
 pub mod Optimize
 pub mod Stored
+pub mod Laws

@@ -5,7 +5,7 @@ use mathlib.Core.Path.{_≡_, refl, sym, _∙_}
 use lib.ListN.{length}
 use Rattle.optimize.specs.Optimize.{measureBy, refused, states}
 use Rattle.optimize.specs.Stored.{lost}
-use Rattle.optimize.proofs.Counts.{split-pairs, few-pairs}
+use Rattle.optimize.specs.Laws.{split-pairs, few-pairs}
 use Rattle.optimize.proofs.Phases.{to-search}
 use Rattle.optimize.proofs.Solving.{after-search, splits-on, splits-off}
 use Rattle.optimize.proofs.Trying.{went, stopped}

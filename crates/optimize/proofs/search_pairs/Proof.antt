@@ -3,7 +3,7 @@ use Prim.Native.Nat.{_+_, _≤_}
 use native.Mathlib.Nat.{mul-le-mul, le-of-lt, lt-of-le-of-lt}
 use native.Mathlib.Omega.{arith}
 use lib.Dec.{lit<}
-use Rattle.optimize.proofs.Counts.{search-pairs}
+use Rattle.optimize.specs.Laws.{search-pairs}
 use borrow.Author.Needs.{needs}
 use Rattle.optimize.proofs.search_pairs.Statement.{statement}
 use Rattle.optimize.proofs.search_pairs.Tie as tie

@@ -1,6 +1,6 @@
 -- `optimize::split_pairs` meets its contract. Assumes nothing.
 use native.Mathlib.Omega.{arith}
-use Rattle.optimize.proofs.Counts.{split-pairs}
+use Rattle.optimize.specs.Laws.{split-pairs}
 use borrow.Author.Needs.{needs}
 use Rattle.optimize.proofs.split_pairs.Statement.{statement}
 use Rattle.optimize.proofs.split_pairs.Tie as tie
