@@ -1,40 +1,19 @@
--- What the functions over one stored answer rest on: a row whose first places are made one value, the break behind a link, an answer
--- against an attempt, and what stands at a break. Assumes nothing.
-use Prim.Native.Nat.{ℕ, zero, suc, _+_, _-_, _/_, _≤_, _<_}
+-- What the functions over one stored answer rest on: the break behind a link, an answer against an attempt, and what stands at a break.
+-- Assumes nothing.
+use Prim.Native.Nat.{ℕ, zero, suc, _-_, _/_, _≤_, _<_}
 use mathlib.Core.Bool.{Bool}
 use mathlib.Core.Path.{_≡_, refl, sym, ap, _∙_}
-use mathlib.Core.List.{List, [], _∷_, _++_}
-use native.Mathlib.Nat.{not-suc-le-zero, le-of-suc-le-suc}
-use native.Mathlib.Numerals.{add-one}
+use mathlib.Core.List.{List}
 use native.Mathlib.Omega.{arith}
 use borrow.Author.Tests.{eq-eqb, ne-eqb}
 use lib.Ieee.{Float, lt}
-use lib.ListN.{length, getD, set, drop, replicate, length-set}
+use lib.ListN.{getD}
 use Rattle.float.specs.Numbers.{nil}
 use Rattle.geometry.specs.declared.Quad.{Quad}
 use Rattle.breaks.specs.Breaks.{Row}
 use Rattle.optimize.specs.declared.answer.Answer as A
 use Rattle.optimize.specs.Answers.{totalOf}
 use Rattle.optimize.specs.Stored.{bestOf, orElse, newAnswer, combineOf, fromBreak, slotAt, loaded, startName, nothingAt, standingAt}
-
--- ---- the first places of a row made one value, at any type of element
-
-module _ {A : Type 0} where
-  one-more : (v : A) (l : List A) (i : ℕ) → i < length l → set (replicate i v ++ drop i l) i v ≡ replicate (suc i) v ++ drop (suc i) l
-  one-more v [] i h = absurd (not-suc-le-zero h)
-  one-more v (x ∷ l) zero h = refl
-  one-more v (x ∷ l) (suc i) h = ap (_∷_ v) (one-more v l i (le-of-suc-le-suc h))
-
-  -- m is l with v in its first i places
-  pub record Filled (v : A) (l m : List A) (i : ℕ) : Type 0 where
-    pub same : length m ≡ length l
-    pub is : m ≡ replicate i v ++ drop i l
-
-  pub start : (v : A) (l : List A) → Filled v l l 0
-  start v l = record { same = refl; is = refl }
-
-  pub more : {v : A} {l m : List A} {i : ℕ} → Filled v l m i → i < length l → Filled v l (set m i v) (i + 1)
-  more {v} {l} {m} {i} f h = record { same = simp length-set (f .same); is = rw (add-one, f .is) (one-more v l i h) }
 
 -- ---- the break behind a link
 

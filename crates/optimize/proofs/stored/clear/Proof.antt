@@ -1,20 +1,23 @@
--- `optimize::stored::clear` meets its contract. The loop's invariant: as many links as turns are 0, and there are at most n turns.
--- Assumes nothing.
-use Prim.Native.Nat.{_-_, _≤_}
-use mathlib.Core.Path.{_≡_}
+-- `optimize::stored::clear` meets its contract. The loop's invariant: as many links as turns are those of n zeros. Assumes nothing.
+use Prim.Native.Nat.{ℕ, _-_, _≤_, _<_}
+use mathlib.Core.List.{List}
+use mathlib.Core.Path.{_≡_, sym}
+use native.Mathlib.Nat.{le-refl}
 use native.Mathlib.Omega.{arith}
-use Rattle.optimize.proofs.Leaves.{Filled, start, more}
+use lib.ListN.{take, replicate, length-replicate, getD-replicate}
+use lib.Seq.{take-all}
+use Rattle.rows.proofs.Filled.{Filled, start, more, filled}
 use Rattle.optimize.proofs.stored.clear.Statement.{statement}
 use Rattle.optimize.proofs.stored.clear.Tie as tie
 
 abbrev Inv-loop : tie.InvT-loop
-Inv-loop links₀ n i₀ links i = (i ≤ n) × Filled 0 links₀ links i
+Inv-loop links₀ n i₀ links i = (i ≤ n) × Filled (replicate n 0) links₀ links i
 
 abbrev μ-loop : tie.MeasureT-loop
 μ-loop links₀ n i₀ links i = n - i
 
 loop-holds : tie.Need-loop-holds Inv-loop μ-loop
-loop-holds c = (omega arith, start 0 _)
+loop-holds c = (omega arith, start _ _)
 
 mul-links : tie.Need-mul-links Inv-loop μ-loop
 mul-links c = omega arith
@@ -29,15 +32,20 @@ loop-less : tie.Need-loop-less Inv-loop μ-loop
 loop-less c = omega arith
 
 loop-again : tie.Need-loop-again Inv-loop μ-loop
-loop-again c = (omega arith, more (c .before .loop .inv .1) (omega arith))
+loop-again c =
+    let less : c .before .loop .i < c .before .before .args .n = omega arith in
+    (omega arith, more 0 0 (c .before .loop .inv .1) (omega arith) (rw length-replicate less) (sym (getD-replicate _ _ _ _ less)))
 
 same-length : tie.Need-same-length Inv-loop μ-loop
 same-length c = c .before .loop .inv .1 .same
 
 returns : tie.Need-returns Inv-loop μ-loop
 returns c =
-    let done : c .before .loop .i ≡ c .before .before .args .n = omega arith in
-    rw done at (c .before .loop .inv .1 .is)
+    let n = c .before .before .args .n in
+    let done : c .before .loop .i ≡ n = omega arith in
+    let zeros : List ℕ = replicate n 0 in
+    let all : take n zeros ≡ zeros = take-all n zeros (rw length-replicate (le-refl n)) in
+    rw all at (filled n (c .before .loop .inv .1) done)
 
 pub clear-spec : {M : Type 1} → statement M
 clear-spec =
