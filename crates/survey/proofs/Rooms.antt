@@ -1,13 +1,12 @@
 -- A row that is lent up to its room: what is found in its first places is found in the row. Assumes nothing.
-use Prim.Native.Nat.{ℕ, zero, suc, min, _≤_}
-use mathlib.Core.List.{List, [], _∷_, _++_}
+use Prim.Native.Nat.{ℕ, min, _≤_}
+use mathlib.Core.List.{List, _++_}
 use mathlib.Core.Path.{_≡_, refl, sym, ap, _∙_}
-use native.Mathlib.Nat.{le-of-suc-le-suc}
 use native.Mathlib.Omega.{arith}
 use lib.IntN.{ℤ}
 use lib.Ieee.{Float}
-use lib.ListN.{length, take, drop, length-append, take-append-drop}
-use lib.Seq.{length-take-le}
+use lib.ListN.{length, take, length-append, length-take}
+use lib.Seq.{length-take-le, take-length, take-append-le, take-take}
 use Rattle.breaks.specs.Breaks.{Row, Result, breaksOf, breaksIn, countFound}
 use Rattle.breaks.specs.declared.Breaks as B
 use Rattle.breaks.specs.declared.Breaks.the-variants as Breaks
@@ -18,15 +17,6 @@ use Rattle.samples.specs.declared.Thetas.the-variants as Thetas
 use Rattle.survey.specs.Survey.{Survey, sampleRoom, breakRoom, surveyed, searched, afterSampling, surveyOf, surveyIn, samplesUsed}
 use Rattle.survey.specs.declared.Surveyed as S
 use Rattle.survey.specs.declared.Surveyed.the-variants as Surveyed
-
-pub take-within : {A : Type 0} (n : ℕ) (s t : List A) → n ≤ length s → take n (s ++ t) ≡ take n s
-take-within zero s t h = refl
-take-within (suc n) [] t h = absurd (omega arith)
-take-within (suc n) (x ∷ s) t h = ap {B = List _} (λ r. x ∷ r) (take-within n s t (le-of-suc-le-suc h))
-
-take-all : {A : Type 0} (l : List A) → take (length l) l ≡ l
-take-all [] = refl
-take-all (x ∷ l) = ap {B = List _} (λ r. x ∷ r) (take-all l)
 
 -- the room of a row, as the first places of the row have it
 pub room-is : {A : Type 0} (k : ℕ) (row : List A) (room : ℕ) → room ≡ min k (length row) → room ≡ length (take room row)
@@ -41,7 +31,7 @@ module _ (samples : List Sample) (row : Row) (g : Grid) (len : Float) (room : �
 -- so many breaks, in the row as in its first places
 pub searched-found : (samples : List Sample) (sub rest : Row) (n : ℕ) {k : ℕ} {x : Survey} → n ≤ k → length sub ≡ k → x ≡ surveyed samples (take n sub) →
     x ≡ surveyed (take (length samples) samples) (take n (sub ++ rest))
-searched-found samples sub rest n few kept e = e ∙ rw (take-all samples, take-within n sub rest (omega arith)) refl
+searched-found samples sub rest n few kept e = e ∙ rw (take-length samples, take-append-le n sub rest (omega arith)) refl
 
 pub count-found : {r : B.Breaks} {n k : ℕ} → r ≡ Breaks.Found n → countFound r ≤ k → n ≤ k
 count-found e h = rw e at h
@@ -63,7 +53,7 @@ pub of-first : (samples : List Sample) (breaks : Row) (n : ℕ) (r : S.Surveyed)
 of-first samples breaks n (Surveyed.Refused k) h = refl
 of-first samples breaks n Surveyed.Past h = refl
 of-first samples breaks n (Surveyed.Rows m b) h =
-    ap (λ (l : List Sample). surveyed l (take b breaks)) (sym (take-within m (take n samples) (drop n samples) h) ∙ ap (take m) (take-append-drop n samples))
+    ap (λ (l : List Sample). surveyed l (take b breaks)) (take-take m n samples (omega (arith, h, length-take n samples)))
 
 -- the first n of a row that is lent up to its room, and the rest
 pub within-all : {A : Type 0} (sub rest : List A) (n k : ℕ) → n ≤ k → length sub ≡ k → n ≤ length (sub ++ rest)
@@ -76,4 +66,4 @@ pub sampled-first : (g : Grid) (len : Float) (breakRow : ℕ) (sub rest : List S
     x ≡ afterSampling (breakRoom breakRow) g (runIn sub (Thetas.Sampled n len)) →
     searched (take n (sub ++ rest)) (breaksOf (breakRoom breakRow) (take n (sub ++ rest)) g len) ≡ y → x ≡ y
 sampled-first g len breakRow sub rest n few kept e f =
-    e ∙ ap (λ (l : List Sample). searched l (breaksOf (breakRoom breakRow) l g len)) (sym (take-within n sub rest (omega arith))) ∙ f
+    e ∙ ap (λ (l : List Sample). searched l (breaksOf (breakRoom breakRow) l g len)) (sym (take-append-le n sub rest (omega arith))) ∙ f

@@ -1,0 +1,48 @@
+-- Laws for callers: a surveyed run has a break, at most 2,048 of them, and their coordinates are doubles. Assumes nothing.
+use Prim.Native.Nat.{ℕ, min, _<_, _≤_}
+use native.Mathlib.Omega.{arith}
+use mathlib.Core.List.{List}
+use mathlib.Core.Path.{_≡_, refl, sym, ap, subst, _∙_}
+use lib.Dec.{T}
+use lib.Ieee.{Float, binary64, fits}
+use lib.IntN.{ℤ}
+use lib.ListN.{length}
+use Rattle.breaks.specs.Breaks.{Row, Result, breakAt, breaksOf}
+use Rattle.breaks.specs.Breaks as Breaks
+use Rattle.breaks.specs.Laws.{found-some, found-few, found-fit}
+use Rattle.breaks.specs.declared.Grid.{Grid}
+use Rattle.samples.specs.Samples.{Sample, Run, thetasOf, quadsOf}
+use Rattle.samples.specs.Samples as Samples
+use Rattle.survey.specs.Survey.{Survey, refused, past, surveyed, sampleRoom, breakRoom, searched, afterSampling, surveyOf}
+
+-- the breaks of a surveyed run are some that were found
+record Found (room : ℕ) (g : Grid) (row : Row) : Type 0 where
+  samples : List Sample
+  len : Float
+  found : breaksOf room samples g len ≡ Breaks.breaks row
+
+searched-found : (room : ℕ) (g : Grid) (samples s : List Sample) (len : Float) (row : Row) (x : Result) → breaksOf room samples g len ≡ x → searched samples x ≡ surveyed s row → Found room g row
+searched-found room g samples s len row (Breaks.breaks b) e h =
+    let same : b ≡ row = cc in
+    record { samples = samples; len = len; found = e ∙ ap Breaks.breaks same }
+searched-found room g samples s len row (Breaks.refused k) e h = let z : _≡_ {A = ℕ} 0 1 = cc in absurd (omega arith)
+searched-found room g samples s len row Breaks.unchanged e h = let z : _≡_ {A = ℕ} 0 1 = cc in absurd (omega arith)
+
+sampled-found : (room : ℕ) (g : Grid) (s : List Sample) (row : Row) (x : Run) → afterSampling room g x ≡ surveyed s row → Found room g row
+sampled-found room g s row Samples.refused h = let z : _≡_ {A = ℕ} 0 1 = cc in absurd (omega arith)
+sampled-found room g s row (Samples.sampled samples len) h = searched-found room g samples s len row _ refl h
+
+module _ (sampleRow breakRow : ℕ) (xs ys : List ℤ) (fs : List ℕ) (first count : ℕ) (g : Grid) (s : List Sample) (row : Row)
+    (e : surveyOf sampleRow breakRow xs ys fs first count g ≡ surveyed s row) where
+  was : Found (breakRoom breakRow) g row
+  unfolding surveyOf
+  was = sampled-found (breakRoom breakRow) g s row (thetasOf (sampleRoom sampleRow) (quadsOf xs ys fs first count)) e
+
+  pub surveyed-some : 0 < length row
+  surveyed-some = found-some (breakRoom breakRow) (was .samples) g (was .len) row (was .found)
+
+  pub surveyed-few : length row ≤ 2048
+  surveyed-few = omega (arith, found-few (breakRoom breakRow) (was .samples) g (was .len) row (was .found))
+
+  pub surveyed-fit : (i : ℕ) → i < length row → T (fits binary64 (breakAt row i .xy .x)) × T (fits binary64 (breakAt row i .xy .y))
+  surveyed-fit = found-fit (breakRoom breakRow) (was .samples) g (was .len) row (was .found)
