@@ -1,0 +1,78 @@
+-- The work on one run: the survey, then the edition, which tests half the answer rows and optimises. Definitions only.
+use Prim.Native.Nat.{ℕ, min, _/_, _<_, _≤_}
+use mathlib.Core.Bool.{Bool, true, false}
+use mathlib.Core.List.{List}
+use mathlib.Core.Path.{_≡_}
+use lib.Dec.{T, ltb}
+use lib.Ieee.{Float, binary64, fits}
+use lib.IntN.{ℤ}
+use lib.ListN.{length, take}
+use Rattle.breaks.specs.Breaks.{Row, breakAt}
+use Rattle.breaks.specs.declared.Grid.{Grid}
+use Rattle.samples.specs.Samples.{Sample}
+use Rattle.optimize.specs.Answers.{Answer}
+use Rattle.optimize.specs.Optimize.{Optimised, measureBy, optimizeOf}
+use Rattle.optimize.specs.Optimize as O
+use Rattle.optimize.specs.Stored.{Anywhere, Holds}
+use Rattle.survey.specs.Survey.{Survey, surveyOf}
+use Rattle.survey.specs.Survey as Survey
+use Rattle.edition.specs.declared.Worked as W
+use Rattle.edition.specs.declared.Worked.the-variants as Worked
+
+-- what becomes of a run: the number of a refusal; no answer at the last break, after so many pairs; or the answer and the pairs tried
+pub data Result : Type 0 where
+  refused : ℕ → Result
+  unchanged : ℕ → Result
+  solved : Answer → ℕ → Result
+
+-- half the shortest answer row: answers and links
+abbrev pub answerRoom : ℕ → ℕ → ℕ
+answerRoom answers links = min answers links / 2
+
+abbrev pub resultOf : Optimised → Result
+resultOf O.refused8 = refused 8
+resultOf (O.unchanged p) = unchanged p
+resultOf (O.solved a p) = solved a p
+
+abbrev pub unlessShort : Bool → Result → Result
+unlessShort true r = refused 7
+unlessShort false r = r
+
+-- an edition of a surveyed run, with so many places in the answer rows
+unfoldable pub editionOf : ℕ → ℕ → List Sample → Row → Float → Result
+editionOf answers links samples breaks penalty =
+    unlessShort (ltb (answerRoom answers links) (length breaks)) (resultOf (optimizeOf (measureBy samples breaks) breaks penalty))
+
+abbrev pub afterSurvey : ℕ → ℕ → Float → Survey → Result
+afterSurvey answers links penalty (Survey.refused k) = refused k
+afterSurvey answers links penalty Survey.past = unchanged 0
+afterSurvey answers links penalty (Survey.surveyed samples breaks) = editionOf answers links samples breaks penalty
+
+-- how many places the scratch rows have
+pub record Rooms : Type 0 where
+  pub samples : ℕ
+  pub breaks : ℕ
+  pub answers : ℕ
+  pub links : ℕ
+
+-- the run of `count` segments from segment `first` on
+unfoldable pub workOf : Rooms → Grid → Float → List ℤ → List ℤ → List ℕ → ℕ → ℕ → Result
+workOf rooms g penalty xs ys fs first count =
+    afterSurvey (rooms .answers) (rooms .links) penalty (surveyOf (rooms .samples) (rooms .breaks) xs ys fs first count g)
+
+-- ---- what the functions leave in the rows
+
+-- breaks that a survey found: there are some, at most 2,048, and the first stands on doubles
+pub record Found (breaks : Row) : Type 0 where
+  pub some : 0 < length breaks
+  pub few : length breaks ≤ 2048
+  pub fit-x : T (fits binary64 (breakAt breaks 0 .xy .x))
+  pub fit-y : T (fits binary64 (breakAt breaks 0 .xy .y))
+
+-- the breaks are the first n of their row, and the answer is the optimiser's for them
+pub data Works (penalty : Float) (breaks : Row) (answers : List (List Float)) (links : List ℕ) : Result → W.Worked → Type 0 where
+  no : {r : W.Worked} {k : ℕ} → r ≡ Worked.Refused k → Works penalty breaks answers links (refused k) r
+  stays : {r : W.Worked} {p : ℕ} → r ≡ Worked.Unchanged p → Works penalty breaks answers links (unchanged p) r
+  holds : {r : W.Worked} {n k p : ℕ} {a : Answer} (samples : List Sample) → r ≡ Worked.Done n k p → n ≤ length breaks → Found (take n breaks) →
+      optimizeOf (measureBy samples (take n breaks)) (take n breaks) penalty ≡ O.solved a p → Holds Anywhere (take n breaks) answers links k a →
+      Works penalty breaks answers links (solved a p) r

@@ -1,0 +1,134 @@
+-- Laws for callers: the work on a run that is solved is the optimiser's for the run's survey, and how many pairs it tries. Assumes nothing.
+use Prim.Native.Nat.{ℕ, _≤_}
+use native.Mathlib.Omega.{arith}
+use mathlib.Core.Bool.{Bool, true, false}
+use mathlib.Core.List.{List}
+use mathlib.Core.Path.{_≡_, refl, sym, ap, subst}
+use borrow.Author.Tests.{ltb-false}
+use lib.Dec.{ltb}
+use lib.Ieee.{Float}
+use lib.IntN.{ℤ}
+use lib.ListN.{length}
+use Rattle.breaks.specs.Breaks.{Row}
+use Rattle.breaks.specs.declared.Grid.{Grid}
+use Rattle.samples.specs.Samples.{Sample}
+use Rattle.optimize.specs.Answers.{Answer}
+use Rattle.optimize.specs.Laws.{mostPairs, pairs-few, pairs-few-unchanged}
+use Rattle.optimize.specs.Optimize.{Optimised, measureBy, optimizeOf}
+use Rattle.optimize.specs.Optimize as O
+use Rattle.survey.specs.Laws.{surveyed-some, surveyed-few, surveyed-fit}
+use Rattle.survey.specs.Survey.{Survey, surveyOf}
+use Rattle.survey.specs.Survey as Survey
+use Rattle.edition.specs.Edition.{Result, refused, unchanged, solved, answerRoom, resultOf, unlessShort, editionOf, afterSurvey, Rooms, workOf, Found, Works, no, stays, holds}
+use Rattle.edition.specs.declared.Worked as W
+use Rattle.edition.specs.declared.Worked.the-variants as Worked
+
+pub surveyed-found : (sampleRow breakRow : ℕ) (xs ys : List ℤ) (fs : List ℕ) (first count : ℕ) (g : Grid) (samples : List Sample) (breaks : Row) →
+    surveyOf sampleRow breakRow xs ys fs first count g ≡ Survey.surveyed samples breaks → Found breaks
+surveyed-found sampleRow breakRow xs ys fs first count g samples breaks e =
+    let some = surveyed-some sampleRow breakRow xs ys fs first count g samples breaks e in
+    let fit = surveyed-fit sampleRow breakRow xs ys fs first count g samples breaks e 0 some in
+    record { some = some; few = surveyed-few sampleRow breakRow xs ys fs first count g samples breaks e; fit-x = fit .0; fit-y = fit .1 }
+
+-- ---- a solved run
+
+-- the answer is the optimiser's for the survey, and the answer rows had room for its breaks
+pub record Optimal (rooms : Rooms) (g : Grid) (penalty : Float) (xs ys : List ℤ) (fs : List ℕ) (first count : ℕ) (a : Answer) (p : ℕ) : Type 0 where
+  pub samples : List Sample
+  pub breaks : Row
+  pub survey : surveyOf (rooms .samples) (rooms .breaks) xs ys fs first count g ≡ Survey.surveyed samples breaks
+  pub room : length breaks ≤ answerRoom (rooms .answers) (rooms .links)
+  pub is : optimizeOf (measureBy samples breaks) breaks penalty ≡ O.solved a p
+  pub fine : Found breaks
+
+-- no two kinds of result are one
+abbrev isSolved : Result → ℕ
+isSolved (refused k) = 0
+isSolved (unchanged p) = 0
+isSolved (solved a p) = 1
+
+solved-is : (o : Optimised) {a : Answer} {p : ℕ} → resultOf o ≡ solved a p → o ≡ O.solved a p
+solved-is O.refused8 e = absurd (omega (arith, ap isSolved e))
+solved-is (O.unchanged q) e = absurd (omega (arith, ap isSolved e))
+solved-is (O.solved b q) e = cc
+
+module _ (rooms : Rooms) (g : Grid) (penalty : Float) (xs ys : List ℤ) (fs : List ℕ) (first count : ℕ) (a : Answer) (p : ℕ) where
+  abbrev Solved : Type 0
+  Solved = Optimal rooms g penalty xs ys fs first count a p
+
+  tested-solved : (samples : List Sample) (breaks : Row) → surveyOf (rooms .samples) (rooms .breaks) xs ys fs first count g ≡ Survey.surveyed samples breaks →
+      (short : Bool) → ltb (answerRoom (rooms .answers) (rooms .links)) (length breaks) ≡ short →
+      unlessShort short (resultOf (optimizeOf (measureBy samples breaks) breaks penalty)) ≡ solved a p → Solved
+  tested-solved samples breaks s true t e = absurd (omega (arith, ap isSolved e))
+  tested-solved samples breaks s false t e = record {
+    samples = samples;
+    breaks = breaks;
+    survey = s;
+    room = ltb-false (answerRoom (rooms .answers) (rooms .links)) (length breaks) t;
+    is = solved-is _ e;
+    fine = surveyed-found (rooms .samples) (rooms .breaks) xs ys fs first count g samples breaks s;
+  }
+
+  after-solved : (s : Survey) → surveyOf (rooms .samples) (rooms .breaks) xs ys fs first count g ≡ s →
+      afterSurvey (rooms .answers) (rooms .links) penalty s ≡ solved a p → Solved
+  unfolding editionOf
+  after-solved (Survey.refused k) s e = absurd (omega (arith, ap isSolved e))
+  after-solved Survey.past s e = absurd (omega (arith, ap isSolved e))
+  after-solved (Survey.surveyed samples breaks) s e = tested-solved samples breaks s _ refl e
+
+  pub work-solved : workOf rooms g penalty xs ys fs first count ≡ solved a p → Solved
+  unfolding workOf
+  work-solved e = after-solved _ refl e
+
+-- ---- the pairs of a run
+
+abbrev pub pairsOf : Result → ℕ
+pairsOf (refused k) = 0
+pairsOf (unchanged p) = p
+pairsOf (solved a p) = p
+
+-- none of a refused run
+abbrev pub pairsIn : W.Worked → ℕ
+pairsIn (Worked.Refused k) = 0
+pairsIn (Worked.Unchanged p) = p
+pairsIn (Worked.Done n k p) = p
+
+module _ (samples : List Sample) (breaks : Row) (penalty : Float) (fine : Found breaks) where
+  optimised-few : (o : Optimised) → optimizeOf (measureBy samples breaks) breaks penalty ≡ o → pairsOf (resultOf o) ≤ mostPairs
+  optimised-few O.refused8 e = omega arith
+  optimised-few (O.unchanged p) e = pairs-few-unchanged (measureBy samples breaks) breaks penalty (fine .few) e
+  optimised-few (O.solved a p) e = pairs-few (measureBy samples breaks) breaks penalty (fine .few) e
+
+  tested-few : (short : Bool) → pairsOf (unlessShort short (resultOf (optimizeOf (measureBy samples breaks) breaks penalty))) ≤ mostPairs
+  tested-few true = omega arith
+  tested-few false = optimised-few _ refl
+
+module _ (rooms : Rooms) (g : Grid) (penalty : Float) (xs ys : List ℤ) (fs : List ℕ) (first count : ℕ) where
+  after-few : (s : Survey) → surveyOf (rooms .samples) (rooms .breaks) xs ys fs first count g ≡ s →
+      pairsOf (afterSurvey (rooms .answers) (rooms .links) penalty s) ≤ mostPairs
+  unfolding editionOf
+  after-few (Survey.refused k) s = omega arith
+  after-few Survey.past s = omega arith
+  after-few (Survey.surveyed samples breaks) s =
+      tested-few samples breaks penalty (surveyed-found (rooms .samples) (rooms .breaks) xs ys fs first count g samples breaks s) (ltb (answerRoom (rooms .answers) (rooms .links)) (length breaks))
+
+  pub work-pairs : pairsOf (workOf rooms g penalty xs ys fs first count) ≤ mostPairs
+  unfolding workOf
+  work-pairs = after-few _ refl
+
+  pub work-few : {a : Answer} {p : ℕ} → workOf rooms g penalty xs ys fs first count ≡ solved a p → p ≤ mostPairs
+  work-few e = subst (λ (x : Result). pairsOf x ≤ mostPairs) e work-pairs
+
+  pub work-few-unchanged : {p : ℕ} → workOf rooms g penalty xs ys fs first count ≡ unchanged p → p ≤ mostPairs
+  work-few-unchanged e = subst (λ (x : Result). pairsOf x ≤ mostPairs) e work-pairs
+
+pub works-pairs : {penalty : Float} {breaks : Row} {answers : List (List Float)} {links : List ℕ} {x : Result} {r : W.Worked} →
+    Works penalty breaks answers links x r → pairsOf x ≡ pairsIn r
+works-pairs (no e) = sym (ap pairsIn e)
+works-pairs (stays e) = sym (ap pairsIn e)
+works-pairs (holds samples e few fine is held) = sym (ap pairsIn e)
+
+-- of the result as the rows hold it
+pub works-few : (rooms : Rooms) (g : Grid) (penalty : Float) (xs ys : List ℤ) (fs : List ℕ) (first count : ℕ) {breaks : Row} {answers : List (List Float)} {links : List ℕ} {r : W.Worked} →
+    Works penalty breaks answers links (workOf rooms g penalty xs ys fs first count) r → pairsIn r ≤ mostPairs
+works-few rooms g penalty xs ys fs first count w = subst (λ (k : ℕ). k ≤ mostPairs) (works-pairs w) (work-pairs rooms g penalty xs ys fs first count)
