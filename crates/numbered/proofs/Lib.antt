@@ -1,0 +1,2 @@
+-- What the proof uses.
+mod Steps
