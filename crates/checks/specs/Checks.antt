@@ -1,0 +1,64 @@
+-- Demand 3 for one run of a contour: what the checker says of a chain, given how many places the scratch rows have. Definitions only.
+use Prim.Native.Nat.{ℕ}
+use mathlib.Core.Bool.{Bool, true, false}
+use mathlib.Core.List.{List}
+use lib.Dec.{ltb}
+use lib.Ieee.{Float}
+use lib.IntN.{ℤ}
+use lib.ListN.{length}
+use Rattle.refusals.specs.Refusals.{judged}
+use Rattle.refusals.specs.declared.Judged.{Judged}
+use Rattle.refusals.specs.declared.Judged.the-variants as Judged
+use Rattle.corners.specs.declared.Run.{Run}
+use Rattle.corners.specs.declared.Run.the-variants.{Between, Nothing}
+use Rattle.numbered.specs.Numbered.{numberedRun}
+use Rattle.breaks.specs.declared.Grid.{Grid}
+use Rattle.survey.specs.Survey.{Survey, surveyOf}
+use Rattle.survey.specs.Survey as Survey
+use Rattle.chain.specs.Valid.{checkRows}
+use Rattle.chain.specs.declared.Checked.{Checked}
+use Rattle.chain.specs.declared.Checked.the-variants as Checked
+use Rattle.edition.specs.Edition.{Rooms, answerRoom}
+use Rattle.checks.specs.declared.Verdict as D
+use Rattle.checks.specs.declared.Verdict.the-variants as Verdict
+
+abbrev pub verdictOf : Checked → D.Verdict
+verdictOf Checked.Last = Verdict.Refused 8
+verdictOf Checked.Yes = Verdict.Yes
+verdictOf Checked.No = Verdict.No
+
+-- a chain: its four rows and its score
+pub record Given : Type 0 where
+  pub starts : List ℕ
+  pub ends : List ℕ
+  pub xs : List Float
+  pub ys : List Float
+  pub score : Float
+
+abbrev pub unlessShort : Bool → D.Verdict → D.Verdict
+unlessShort true v = Verdict.Refused 7
+unlessShort false v = v
+
+-- half: half the shortest answer row, a room for breaks
+module _ (half : ℕ) (penalty : Float) (c : Given) where
+  -- after 6 and 7 the chain is judged; a run whose length is past its samples has no break, so no chain
+  abbrev pub ofSurvey : Survey → D.Verdict
+  ofSurvey (Survey.refused k) = Verdict.Refused k
+  ofSurvey Survey.past = Verdict.No
+  ofSurvey (Survey.surveyed samples breaks) =
+      unlessShort (ltb half (length breaks)) (verdictOf (checkRows samples breaks penalty (c .starts) (c .ends) (c .xs) (c .ys) (c .score)))
+
+  -- refusal 10: no such run, or the run is one copied line
+  abbrev pub ofRun : ℕ → ℕ → Grid → List ℤ → List ℤ → List ℕ → Run → D.Verdict
+  ofRun sampleRow breakRow g xs ys fs Nothing = Verdict.Refused 10
+  ofRun sampleRow breakRow g xs ys fs (Between first count) = ofSurvey (surveyOf sampleRow breakRow xs ys fs first count g)
+
+-- refusals 1 to 5 first
+abbrev pub afterJudging : Judged → D.Verdict → D.Verdict
+afterJudging (Judged.Refused k) v = Verdict.Refused k
+afterJudging Judged.Fine v = v
+
+-- of a chain for run k
+unfoldable pub checkOf : Rooms → Grid → Float → List ℤ → List ℤ → List ℕ → Given → ℕ → D.Verdict
+checkOf rooms g penalty xs ys fs c k =
+    afterJudging (judged xs ys fs) (ofRun (answerRoom (rooms .answers) (rooms .links)) penalty c (rooms .samples) (rooms .breaks) g xs ys fs (numberedRun xs ys fs k))
