@@ -1,5 +1,5 @@
 -- What the proofs share, leaves first: the functions over one stored answer; what a store keeps and makes; one attempt; one pair; the phases;
--- what stands at the last break; rows with no answer yet; a run with one break. `Table` has document 01's rows on pairs, for a reader: no
+-- what stands at the last break; rows with no answer yet; a run with one break, which `pieces` cites. `Table` has document 01's rows on pairs, for a reader: no
 -- proof of a function uses it.
 mod Leaves
 mod Held
@@ -8,5 +8,5 @@ mod Trying
 mod Phases
 mod Solving
 mod Fresh
-mod One
+pub mod One
 pub mod Table

@@ -3,7 +3,7 @@
 // j + 2 stored answer j. Answers 2 * b and 2 * b + 1 are those of break b: the first is written by the
 // first pair and the splits, the second by the full search, so that a link names an answer that stays.
 mod answer;
-mod stored;
+pub mod stored;
 
 use answer::Answer;
 use geometry::Break;

@@ -44,7 +44,7 @@ pub fn from_break(link: u32) -> usize
 }
 
 // The quad of stored answer k.
-fn quad_of(breaks: &[[f64; 5]], answers: &[[f64; 3]], k: usize, link: u32) -> Quad
+pub fn quad_of(breaks: &[[f64; 5]], answers: &[[f64; 3]], k: usize, link: u32) -> Quad
     requires { ⌜ (k < length (now answers)) × (k / 2 < length (now breaks)) × (fromBreak link < length (now breaks)) ⌝ }
     ensures { λ r. ⌜ r ≡ quadIn (now (breaks .entry)) (now (answers .entry)) k link ⌝ }
 {
