@@ -1,0 +1,4 @@
+pub mod Chains
+pub mod Determine
+pub mod Entry
+pub mod Steps

@@ -1,0 +1,25 @@
+-- What the steps of the chain entry hand on, and what they ask of the answer rows. Definitions only.
+use Prim.Native.Nat.{ℕ}
+use mathlib.Core.List.{List}
+use lib.Ieee.{Float}
+use Rattle.breaks.specs.Breaks.{Row}
+use Rattle.edition.specs.Edition.{Result, Works}
+use Rattle.edition.specs.declared.Worked as W
+use Rattle.pieces.specs.Slots.{Chain}
+use Rattle.chains.specs.Chains.{Outcome}
+use Rattle.chains.specs.Entry.{answerOf, rowsOf}
+use Rattle.chains.specs.declared.Chained as C
+
+-- the answer, and the chain's rows
+pub data Handed : Type 0 where
+  handed : C.Chained → Chain → Handed
+
+abbrev pub handing : Outcome → Chain → Handed
+handing o c = handed (answerOf o) (rowsOf o c)
+
+-- the rows hold what the work on a run says of them
+pub record Readable (answers : List (List Float)) (links : List ℕ) (worked : W.Worked) : Type 0 where
+  pub penalty : Float
+  pub breaks : Row
+  pub result : Result
+  pub works : Works penalty breaks answers links result worked
