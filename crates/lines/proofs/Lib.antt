@@ -6,5 +6,6 @@ mod Reading
 mod Signs
 mod Parsing
 mod Feeding
+mod Answers
 mod Theorems
 mod Values

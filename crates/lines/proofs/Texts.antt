@@ -60,7 +60,7 @@ joined {out} {out₁} {out₂} {at} {r₁} {r₂} {a} {b} p q =
       next = simp length-append (omega arith);
     }
 
--- ---- byte by byte
+-- ---- one text after the other
 
 -- `rest`, put from place a on, makes the whole text put from `at` on
 pub record Going (out₀ : List ℕ) (at : ℕ) (whole out : List ℕ) (a : ℕ) (rest : List ℕ) : Type 0 where
@@ -77,15 +77,19 @@ begin out at text a e = record {
       record { held = p .held ∙ sets-same text out a at (omega arith); next = omega arith };
 }
 
-pub more : {out₀ whole out rest out₁ : List ℕ} {at a b a₁ : ℕ} → Going out₀ at whole out a (b ∷ rest) → Put out a (b ∷ []) out₁ a₁ → Going out₀ at whole out₁ a₁ rest
-more {out₀} {whole} {out} {rest} {out₁} {at} {a} {b} {a₁} g p =
-    let same : length out₁ ≡ length out = ap length (p .held) ∙ length-sets out a (b ∷ []) in
+pub more-text : {out₀ whole out out₁ : List ℕ} {at a a₁ : ℕ} (text rest : List ℕ) → Going out₀ at whole out a (text ++ rest) → Put out a text out₁ a₁ →
+    Going out₀ at whole out₁ a₁ rest
+more-text {out₀} {whole} {out} {out₁} {at} {a} {a₁} text rest g p =
+    let same : length out₁ ≡ length out = ap length (p .held) ∙ length-sets out a text in
     let place = p .next in
     record {
       inside = omega arith;
       same = same ∙ g .same;
       whole-by = λ out′ r q. g .whole-by out′ r (joined p q);
     }
+
+pub more : {out₀ whole out rest out₁ : List ℕ} {at a b a₁ : ℕ} → Going out₀ at whole out a (b ∷ rest) → Put out a (b ∷ []) out₁ a₁ → Going out₀ at whole out₁ a₁ rest
+more {rest} {b} g p = more-text (b ∷ []) rest g p
 
 pub done : {out₀ whole out : List ℕ} {at a : ℕ} → Going out₀ at whole out a [] → Put out₀ at whole out a
 done {out₀} {whole} {out} {at} {a} g = g .whole-by out a (nothing out a (g .inside))

@@ -2,3 +2,4 @@ pub mod Line
 pub mod Text
 pub mod Steps
 pub mod Stream
+pub mod Answer
