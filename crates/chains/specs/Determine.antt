@@ -57,7 +57,7 @@ placesOf n (chain st en cx cy) = chain (take n st) (take n en) (take n cx) (take
 front-places : {A : Type 0} (f : Piece → A) (ps : List Piece) (row : List A) → take (length ps) (front (map f ps) row) ≡ map f ps
 front-places f ps row = subst (λ (n : ℕ). take n (front (map f ps) row) ≡ map f ps) (length-map ps f) (take-append-seam (map f ps) _)
 
-chained-places : (ps : List Piece) (c : Chain) →
+pub chained-places : (ps : List Piece) (c : Chain) →
     placesOf (length ps) (chained ps c)
     ≡ chain (map (λ (p : Piece). p .from) ps) (map (λ (p : Piece). p .to) ps) (map (λ (p : Piece). p .control .x) ps) (map (λ (p : Piece). p .control .y) ps)
 chained-places ps (chain st en cx cy) =

@@ -6,7 +6,7 @@ use Rattle.float.specs.Numbers.{nil, one}
 use Rattle.breaks.specs.Breaks.{halfGrid}
 use Rattle.rows.specs.Rows.{Work}
 use Rattle.edition.specs.Scratch.{Inputs, inputs, roomsOf, cleared}
-use Rattle.pieces.specs.Slots.{Chain, chain, chained, roomOf}
+use Rattle.pieces.specs.Slots.{Chain, chained, roomOf}
 use Rattle.chains.specs.Chains.{Outcome, refused, unchanged, chainOf}
 use Rattle.chains.specs.Chains as Chains
 use Rattle.chains.specs.declared.Chained as C

@@ -1,0 +1,4 @@
+pub mod Crunch
+pub mod Entry
+pub mod Stands
+pub mod Determine
