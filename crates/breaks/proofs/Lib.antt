@@ -1,3 +1,2 @@
--- What the proofs share. `Table` has document 01's row on break coordinates, for a reader: no proof of a function uses it.
+-- What the proofs share.
 mod Laws
-pub mod Table

@@ -1,10 +1,9 @@
--- What the proofs share. From `Table` on: theorems on the definitions, for a reader, which no proof of a function uses.
+-- What the proofs share. From `Values` on: theorems on the definitions, for a reader, which no proof of a function uses.
 mod Pushing
 mod Reversal
 mod Sixteen
 mod Dropping
 mod Copying
-mod Table
 mod Values
 mod Modulo
 mod Came

@@ -1,12 +1,17 @@
 -- Worked values of the definitions, by computation. Assumes nothing.
-use mathlib.Core.List.{[], _∷_, map}
+use mathlib.Core.List.{List, [], _∷_, map}
 use mathlib.Core.Path.{_≡_, refl}
-use lib.IntN.{pos, negsuc}
+use lib.IntN.{ℤ, pos, negsuc}
 use lib.Ieee as Ieee
 use Rattle.corners.specs.Segments.{countOf, endOf, placeAfter, segFrom}
 use Rattle.contour.specs.Points.{pointsTo, unchangedPoints}
 use Rattle.contour.specs.Implied.{cutOf, middleOf, isImplied, impliedAt, look, dropFrom, dropImplied, finished}
-use Rattle.contour.proofs.Table.{on, off}
+
+abbrev on : ℤ → ℤ → List ℤ
+on x y = x ∷ y ∷ pos 1 ∷ []
+
+abbrev off : ℤ → ℤ → List ℤ
+off x y = x ∷ y ∷ pos 0 ∷ []
 
 -- sums at the ends of 16 bits
 cuts : map cutOf (pos 32767 ∷ pos 32768 ∷ pos 65534 ∷ negsuc 32767 ∷ negsuc 32768 ∷ negsuc 65535 ∷ []) ≡ pos 32767 ∷ negsuc 32767 ∷ negsuc 1 ∷ negsuc 32767 ∷ pos 32767 ∷ pos 0 ∷ []

@@ -1,7 +1,6 @@
--- What the proofs share. From `Table` on: theorems on the definitions, for a reader, which no proof of a function uses.
+-- What the proofs share. From `Values` on: theorems on the definitions, for a reader, which no proof of a function uses.
 mod Laws
 mod Rounds
-mod Table
 mod Values
 mod Reasons
 mod Whole

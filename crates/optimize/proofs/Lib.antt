@@ -1,6 +1,5 @@
 -- What the proofs share, leaves first: the functions over one stored answer; what a store keeps and makes; one attempt; one pair; the phases;
--- what stands at the last break; rows with no answer yet; a run with one break, which `pieces` cites. `Table` has document 01's rows on pairs, for a reader: no
--- proof of a function uses it.
+-- what stands at the last break; rows with no answer yet; a run with one break, which `pieces` cites.
 mod Leaves
 mod Held
 mod Attempt
@@ -9,4 +8,3 @@ mod Phases
 mod Solving
 mod Fresh
 pub mod One
-pub mod Table

@@ -1,0 +1,30 @@
+-- `fontcrunch::check_report` meets its contract. Assumes nothing.
+use Rattle.fontcrunch.proofs.Reports.{check-as}
+use borrow.Author.Needs.{needs}
+use Rattle.fontcrunch.proofs.check_report.Statement.{statement}
+use Rattle.fontcrunch.proofs.check_report.Tie as tie
+
+enum-known-v : tie.Need-enum-known-v
+enum-known-v c = search needs
+
+cast-t4 : tie.Need-cast-t4
+cast-t4 c = search needs
+
+enum-told : tie.Need-enum-told
+enum-told c = search needs
+
+enum-told-2 : tie.Need-enum-told-2
+enum-told-2 c = search needs
+
+returns : tie.Need-returns
+returns c = check-as (c .before .v .given .1)
+
+returns-2 : tie.Need-returns-2
+returns-2 c = check-as (c .enum-told .given .1)
+
+returns-3 : tie.Need-returns-3
+returns-3 c = check-as (c .enum-told2 .given .1)
+
+pub check-report-spec : {M : Type 1} → statement M
+check-report-spec =
+    tie.close (tie.spec enum-known-v cast-t4 enum-told enum-told-2 returns returns-2 returns-3)

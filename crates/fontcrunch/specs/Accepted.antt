@@ -1,0 +1,157 @@
+-- Demand 3, for the entries: the first `pieces` places of the chain rows that the chain entry leaves, with its score, are accepted by the
+-- checker's entry for the same contour, run, grid, penalty and row lengths. Assumes nothing.
+use Prim.Native.Nat.{ℕ, zero, suc, _+_, _<_, _≤_}
+use native.Mathlib.Omega.{arith}
+use mathlib.Core.Bool.{Bool, true, false, _&&_}
+use mathlib.Core.List.{List, [], _∷_, map}
+use mathlib.Core.Path.{_≡_, refl, sym, ap, subst, _∙_}
+use borrow.Author.Tests.{le-ltb, eq-eqb}
+use lib.Dec.{ltb, eqb}
+use lib.Ieee.{Float}
+use lib.IntN.{ℤ}
+use lib.ListN.{length, length-map}
+use Rattle.refusals.specs.Refusals.{judged}
+use Rattle.refusals.specs.declared.Judged.{Judged}
+use Rattle.refusals.specs.declared.Judged.the-variants as Judged
+use Rattle.corners.specs.declared.Run.{Run}
+use Rattle.corners.specs.declared.Run.the-variants.{Between, Nothing}
+use Rattle.numbered.specs.Numbered.{numberedRun}
+use Rattle.breaks.specs.declared.Grid.{Grid}
+use Rattle.optimize.specs.Answers.{Answer, scoreOf}
+use Rattle.survey.specs.Survey.{Survey, surveyOf}
+use Rattle.survey.specs.Survey as Survey
+use Rattle.chain.specs.Valid as Valid
+use Rattle.chain.specs.declared.Piece.{Piece}
+use Rattle.chain.specs.declared.Checked.the-variants as Checked
+use Rattle.edition.specs.Edition.{Result, Rooms, answerRoom, workOf}
+use Rattle.edition.specs.Edition as Edition
+use Rattle.edition.specs.Laws.{Optimal, work-solved}
+use Rattle.edition.specs.Scratch.{Inputs, inputs, roomsOf}
+use Rattle.float.specs.Numbers.{one}
+use Rattle.breaks.specs.Breaks.{halfGrid}
+use Rattle.rows.specs.Rows.{Work}
+use Rattle.pieces.specs.Slots.{Chain, chain, roomOf}
+use Rattle.chains.specs.Entry as ChainEntry
+use Rattle.chains.specs.Determine.{placesOf, chained-places}
+use Rattle.checks.specs.Entry as CheckEntry
+use Rattle.pieces.specs.Pieces.{piecesOf}
+use Rattle.pieces.proofs.Accepted.{accepted-any}
+use Rattle.chains.specs.Chains.{Outcome, refused, unchanged, chained, overIf, written, chainOf}
+use Rattle.chains.specs.Chains as Chains
+use Rattle.checks.specs.Checks.{Given, verdictOf, unlessShort, checkOf}
+use Rattle.checks.specs.Checks as Checks
+use Rattle.checks.specs.declared.Verdict.the-variants as Verdict
+
+-- ---- a chain in rows is the chain
+
+abbrev pub startsOf : List Piece → List ℕ
+startsOf ps = map (λ (p : Piece). p .from) ps
+
+abbrev pub endsOf : List Piece → List ℕ
+endsOf ps = map (λ (p : Piece). p .to) ps
+
+abbrev pub xsOf : List Piece → List Float
+xsOf ps = map (λ (p : Piece). p .control .x) ps
+
+abbrev pub ysOf : List Piece → List Float
+ysOf ps = map (λ (p : Piece). p .control .y) ps
+
+-- the chain that these rows and this score give
+abbrev pub given : List Piece → Float → Given
+given ps score = record { starts = startsOf ps; ends = endsOf ps; xs = xsOf ps; ys = ysOf ps; score = score }
+
+-- reading goes on in the rows without their first places
+without-first : (a b : ℕ) (x y : Float) (starts ends : List ℕ) (xs ys : List Float) (k i : ℕ) →
+    Valid.piecesFrom (a ∷ starts) (b ∷ ends) (x ∷ xs) (y ∷ ys) k (suc i) ≡ Valid.piecesFrom starts ends xs ys k i
+unfolding Valid.piecesFrom
+without-first a b x y starts ends xs ys zero i = refl
+without-first a b x y starts ends xs ys (suc k) i =
+    let next : suc i + 1 ≡ suc (i + 1) = omega arith in
+    ap (λ (l : List Piece). Valid.pieceAt starts ends xs ys i ∷ l)
+    (ap (Valid.piecesFrom (a ∷ starts) (b ∷ ends) (x ∷ xs) (y ∷ ys) k) next ∙ without-first a b x y starts ends xs ys k (i + 1))
+
+read-back : (ps : List Piece) → Valid.chainOf (startsOf ps) (endsOf ps) (xsOf ps) (ysOf ps) ≡ ps
+unfolding Valid.piecesFrom
+read-back [] = refl
+read-back (p ∷ ps) =
+    ap (λ (l : List Piece). p ∷ l)
+    (without-first (p .from) (p .to) (p .control .x) (p .control .y) (startsOf ps) (endsOf ps) (xsOf ps) (ysOf ps) (length (startsOf ps)) 0 ∙ read-back ps)
+
+even : (ps : List Piece) → Valid.evenRows (startsOf ps) (endsOf ps) (xsOf ps) (ysOf ps) ≡ true
+even ps =
+    rw (
+      length-map ps (λ (p : Piece). p .from),
+      length-map ps (λ (p : Piece). p .to),
+      length-map ps (λ (p : Piece). p .control .x),
+      length-map ps (λ (p : Piece). p .control .y),
+      eq-eqb (length ps) (length ps) refl,
+    )
+
+-- ---- one run
+
+no-chain : {n : ℕ} {ps : List Piece} {s : Float} {p : ℕ} {A : Type 0} → refused n ≡ chained ps s p → A
+no-chain e = let z : _≡_ {A = ℕ} 0 1 = cc in absurd (omega arith)
+
+-- a chain that was written is the optimiser's
+record Written (x : Result) (ps : List Piece) (score : Float) : Type 0 where
+  answer : Answer
+  pairs : ℕ
+  is : x ≡ Edition.solved answer pairs
+  pieces : piecesOf answer ≡ ps
+  scored : scoreOf answer ≡ score
+
+was-written : (room : ℕ) (x : Result) {ps : List Piece} {score : Float} {p : ℕ} → written room x ≡ chained ps score p → Written x ps score
+was-written room (Edition.refused k) e = no-chain e
+was-written room (Edition.unchanged k) e = let z : _≡_ {A = ℕ} 0 1 = cc in absurd (omega arith)
+was-written room (Edition.solved a q) {ps} {score} {p} e = by (ltb room (length (piecesOf a))) e
+  where
+    by : (b : Bool) → overIf b (piecesOf a) (scoreOf a) q ≡ chained ps score p → Written (Edition.solved a q) ps score
+    by true f = no-chain f
+    by false f = record { answer = a; pairs = q; is = refl; pieces = cc; scored = cc }
+
+module _ (rooms : Rooms) (room : ℕ) (g : Grid) (penalty : Float) (xs ys : List ℤ) (fs : List ℕ) (ps : List Piece) (score : Float) (p : ℕ) where
+  abbrev half : ℕ
+  half = answerRoom (rooms .answers) (rooms .links)
+
+  accepted-rows : (samples : List (List Float)) (breaks : List (List Float)) → Valid.checkOf samples breaks penalty ps score ≡ Checked.Yes →
+      Valid.checkRows samples breaks penalty (startsOf ps) (endsOf ps) (xsOf ps) (ysOf ps) score ≡ Checked.Yes
+  unfolding Valid.checkRows
+  accepted-rows samples breaks e = rw (even ps, read-back ps) e
+
+  accepted-run : (first count : ℕ) → written room (workOf rooms g penalty xs ys fs first count) ≡ chained ps score p →
+      Checks.ofSurvey half penalty (given ps score) (surveyOf (rooms .samples) (rooms .breaks) xs ys fs first count g) ≡ Verdict.Yes
+  accepted-run first count e =
+      let was = was-written room (workOf rooms g penalty xs ys fs first count) e in
+      let best = work-solved rooms g penalty xs ys fs first count (was .answer) (was .pairs) (was .is) in
+      let fine = best .fine in
+      let yes = accepted-any (best .samples) (best .breaks) penalty (fine .some) (fine .fit-x) (fine .fit-y) (was .answer) (was .pairs) (best .is) in
+      let same : Valid.checkOf (best .samples) (best .breaks) penalty ps score ≡ Checked.Yes = rw (was .pieces, was .scored) at yes in
+      rw (best .survey, le-ltb half (length (best .breaks)) (best .room), accepted-rows (best .samples) (best .breaks) same) refl
+
+  -- ---- the whole
+
+  accepted-number : (r : Run) → Chains.ofRun rooms room g penalty xs ys fs r ≡ chained ps score p →
+      Checks.ofRun half penalty (given ps score) (rooms .samples) (rooms .breaks) g xs ys fs r ≡ Verdict.Yes
+  accepted-number Nothing e = no-chain e
+  accepted-number (Between first count) e = accepted-run first count e
+
+  pub accepted-chain : (k : ℕ) → chainOf rooms room g penalty xs ys fs k ≡ chained ps score p → checkOf rooms g penalty xs ys fs (given ps score) k ≡ Verdict.Yes
+  unfolding chainOf checkOf
+  accepted-chain k e = by (judged xs ys fs) e
+    where
+      by : (j : Judged) → Chains.afterJudging rooms room g penalty xs ys fs j (Chains.ofRun rooms room g penalty xs ys fs (numberedRun xs ys fs k)) ≡ chained ps score p →
+          Checks.afterJudging j (Checks.ofRun half penalty (given ps score) (rooms .samples) (rooms .breaks) g xs ys fs (numberedRun xs ys fs k)) ≡ Verdict.Yes
+      by (Judged.Refused n) f = no-chain f
+      by Judged.Fine f = accepted-number (numberedRun xs ys fs k) f
+
+-- ---- the entries: what the chain entry leaves in its rows, checked in scratch rows of the same lengths
+
+-- four rows with a score
+abbrev pub givenBy : Chain → Float → Given
+givenBy (chain starts ends xs ys) score = record { starts = starts; ends = ends; xs = xs; ys = ys; score = score }
+
+pub demand-three : (i : Inputs) (k : ℕ) (c : Chain) (w w' : Work) (ps : List Piece) (score : Float) (pairs : ℕ) → roomsOf w ≡ roomsOf w' →
+    ChainEntry.wholeOf i k c w ≡ chained ps score pairs →
+    CheckEntry.wholeOf i k (givenBy (placesOf (length ps) (ChainEntry.rowsOf (ChainEntry.wholeOf i k c w) c)) score) w' ≡ Verdict.Yes
+demand-three (inputs xs ys fs) k c w w' ps score pairs same e =
+    rw (e, chained-places ps c, sym same) (accepted-chain (roomsOf w) (roomOf c) halfGrid one xs ys fs ps score pairs k e)

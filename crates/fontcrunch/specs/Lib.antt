@@ -1,0 +1,4 @@
+pub mod Exports
+pub mod Determine
+pub mod Accepted
+pub mod Table

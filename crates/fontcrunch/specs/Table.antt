@@ -1,0 +1,147 @@
+-- Document 01's values on both sides, its rows marked P: cases and results as data, one way to evaluate them, one list, and one computed test of
+-- them all. Assumes nothing.
+use Prim.Native.Nat.{ℕ, zero, suc, _+_}
+use mathlib.Core.Bool.{Bool, true, false}
+use mathlib.Core.List.{List, [], _∷_, map, List·Memᴰ}
+use mathlib.Core.Path.{_≡_, refl}
+use lib.IntN.{ℤ, pos, negsuc}
+use lib.Ieee as Ieee
+use lib.Ieee.{Float, binary64, ofInt}
+use Rattle.float.specs.Float.{absOf, tiny, closeTo, wholeBy, rootOf, rootUnits, rootNear, rootDown}
+use Rattle.float.specs.Numbers.{nil, one}
+use Rattle.float.proofs.Table.{each}
+use Rattle.geometry.specs.declared.Point.{Point}
+use Rattle.refusals.specs.Refusals.{offNeighbours, judged}
+use Rattle.corners.specs.Segments.{countOf, endOf, placeAfter, segFrom}
+use Rattle.corners.specs.Corners as Corners
+use Rattle.corners.specs.Corners.{angleCorner}
+use Rattle.corners.specs.Runs.{firstMark}
+use Rattle.measure.specs.declared.Measured.the-variants as Measured
+use Rattle.breaks.specs.Breaks as Breaks
+use Rattle.breaks.specs.Breaks.{halfGrid, onGrid}
+use Rattle.optimize.specs.Answers.{scoreOf, combined}
+use Rattle.optimize.specs.Optimize.{Measure, tryQuad, bent, tryLineQuad, tryAll, splitsFrom, falling, searchFrom, Optimised, refused8, unchanged, solved, optimizeOf}
+use Rattle.edition.specs.Edition.{Rooms}
+use Rattle.contour.specs.Points.{Points, pointsTo, piecesPoints}
+use Rattle.contour.specs.Implied.{isImplied, impliedAt, look, dropFrom, dropImplied, cutOf}
+use Rattle.crunch.specs.Crunch.{Outcome, afterRun, crunchFrom, crunchRuns, crunchOf}
+use Rattle.crunch.specs.Crunch as Crunch
+
+-- what a row gives
+pub data Case : Type 0 where
+  -- a whole contour, in rows with document 01's full rooms
+  contour : List ℤ → List ℤ → List ℕ → Case
+  -- two tangents
+  tangents : Point → Point → Case
+  -- points, of which implied ones are dropped
+  points : Points → Case
+  -- a coordinate, brought to the half grid
+  coordinate : Float → Case
+  -- the breaks 0 to n on one line, with every piece at this error and the penalty 1
+  run : ℕ → Float → Case
+
+-- what comes of it
+pub data Result : Type 0 where
+  refused : ℕ → Result
+  -- the points out, and the pairs tried
+  gives : Points → ℕ → Result
+  -- whether the angle makes a corner
+  byAngle : Bool → Result
+  left : Points → Result
+  breakAt : Float → Result
+  -- the pairs tried
+  tried : ℕ → Result
+
+pub record Row : Type 0 where
+  pub case : Case
+  pub result : Result
+
+-- ---- evaluation
+
+abbrev pub fullRooms : Rooms
+fullRooms = record { samples = 16384; breaks = 2048; answers = 4096; links = 4096 }
+
+abbrev pub outcome : Outcome → Result
+outcome (Crunch.refused k) = refused k
+outcome (Crunch.crunched ps pairs) = gives ps pairs
+
+-- n breaks from (k, 0) on, each a unit after the one before, all with the direction (1, 0): no two of them cross
+abbrev pub inLine : ℕ → ℕ → Breaks.Row
+inLine zero k = []
+inLine (suc n) k = (ofInt binary64 (pos k) ∷ ofInt binary64 (pos k) ∷ nil ∷ one ∷ nil ∷ []) ∷ inLine n (k + 1)
+
+abbrev pub atError : Float → Measure
+atError e i j q = Measured.At (record { error = e })
+
+abbrev pub pairsOf : Optimised → Result
+pairsOf refused8 = refused 8
+pairsOf (unchanged p) = tried p
+pairsOf (solved a p) = tried p
+
+abbrev pub evaluate : Case → Result
+evaluate (contour xs ys fs) = outcome (crunchOf fullRooms 16384 halfGrid one xs ys fs)
+evaluate (tangents d0 d1) = byAngle (angleCorner d0 d1)
+evaluate (points ps) = left (dropImplied isImplied ps)
+evaluate (coordinate x) = breakAt (onGrid halfGrid x)
+evaluate (run n e) = pairsOf (optimizeOf (atError e) (inLine (n + 1) 0) one)
+
+-- ---- the rows
+
+abbrev pub on : ℤ → ℤ → List ℤ
+on x y = x ∷ y ∷ pos 1 ∷ []
+
+abbrev pub off : ℤ → ℤ → List ℤ
+off x y = x ∷ y ∷ pos 0 ∷ []
+
+abbrev pub number : ℕ → Float
+number k = ofInt binary64 (pos k)
+
+-- the tangent (x, y), of whole numbers
+abbrev pub whole : ℤ → ℤ → Point
+whole x y = record { x = ofInt binary64 x; y = ofInt binary64 y }
+
+abbrev pub rows : List Row
+rows =
+    -- one on-curve point (7, 9)
+    record { case = contour (pos 7 ∷ []) (pos 9 ∷ []) (1 ∷ []); result = gives (on (pos 7) (pos 9) ∷ []) 0 }
+    -- (0, 0), (100, 0), (0, 100), all on
+    ∷ record {
+      case = contour (pos 0 ∷ pos 100 ∷ pos 0 ∷ []) (pos 0 ∷ pos 0 ∷ pos 100 ∷ []) (1 ∷ 1 ∷ 1 ∷ []);
+      result = gives (on (pos 0) (pos 100) ∷ on (pos 100) (pos 0) ∷ on (pos 0) (pos 0) ∷ []) 0;
+    }
+    -- (0, 0) on, (100, 0) on, (50, 100) off: the closing curve is lost
+    ∷ record {
+      case = contour (pos 0 ∷ pos 100 ∷ pos 50 ∷ []) (pos 0 ∷ pos 0 ∷ pos 100 ∷ []) (1 ∷ 1 ∷ 0 ∷ []);
+      result = gives (on (pos 100) (pos 0) ∷ on (pos 0) (pos 0) ∷ []) 0;
+    }
+    -- tangents
+    ∷ record { case = tangents (whole (pos 100) (pos 0)) (whole (pos 100) (pos 2)); result = byAngle false }
+    ∷ record { case = tangents (whole (pos 100) (pos 0)) (whole (pos 99) (pos 2)); result = byAngle true }
+    ∷ record { case = tangents (whole (pos 100) (pos 0)) (whole (negsuc 99) (pos 0)); result = byAngle false }
+    -- on (-1, 0) between off (32767, 0) twice: dropped
+    ∷ record {
+      case = points (off (pos 32767) (pos 0) ∷ on (negsuc 0) (pos 0) ∷ off (pos 32767) (pos 0) ∷ []);
+      result = left (off (pos 32767) (pos 0) ∷ off (pos 32767) (pos 0) ∷ []);
+    }
+    -- break coordinates for 0.25, 0.24, -0.25
+    ∷ record { case = coordinate (Ieee.round binary64 false 25 100); result = breakAt (Ieee.round binary64 false 1 2) }
+    ∷ record { case = coordinate (Ieee.round binary64 false 24 100); result = breakAt (Ieee.round binary64 false 0 1) }
+    ∷ record { case = coordinate (Ieee.round binary64 true 25 100); result = breakAt (Ieee.round binary64 true 1 2) }
+    -- pairs tried, n = 4: by a last score of 2; of exactly 3.0, no splits; of 3.5; of exactly 4.0, no search; of 5
+    ∷ record { case = run 4 (number 1); result = tried 1 }
+    ∷ record { case = run 4 (number 2); result = tried 1 }
+    ∷ record { case = run 4 (Ieee.round binary64 false 5 2); result = tried 7 }
+    ∷ record { case = run 4 (number 3); result = tried 7 }
+    ∷ record { case = run 4 (number 4); result = tried 17 }
+    -- n = 1: by a last score of exactly 3.0, and of 5
+    ∷ record { case = run 1 (number 2); result = tried 1 }
+    ∷ record { case = run 1 (number 4); result = tried 2 }
+    ∷ []
+
+pub rows-hold : map (λ (r : Row). evaluate (r .case)) rows ≡ map (λ (r : Row). r .result) rows
+unfolding Corners.marked Corners.stateAt Corners.cornersOf crunchOf judged offNeighbours crunchRuns crunchFrom afterRun countOf endOf placeAfter segFrom firstMark piecesPoints dropFrom look impliedAt isImplied cutOf optimizeOf tryAll tryLineQuad bent tryQuad combined splitsFrom falling searchFrom absOf tiny closeTo wholeBy rootOf rootUnits rootNear rootDown Ieee.toSigned Ieee.ofInt Ieee.ofBits Ieee.round Ieee.size Ieee.add Ieee.sub Ieee.mul Ieee.div Ieee.lt
+rows-hold = refl
+
+-- each row by itself
+pub worked : (r : Row) → List·Memᴰ r rows → evaluate (r .case) ≡ r .result
+worked = each (λ (r : Row). evaluate (r .case)) (λ (r : Row). r .result) rows rows-hold

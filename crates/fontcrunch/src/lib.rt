@@ -1,0 +1,214 @@
+// The entries for C and Rust programs. A row goes by pointer and length; what each row, room and number
+// means stands in include/fontcrunch.h.
+use chains::Chained;
+use checks::Verdict;
+use crunch::Crunched;
+ghost use mathlib.Core.Path.{_≡_};
+ghost use Rattle.rows.specs.Rows.{work};
+ghost use Rattle.contour.specs.Output.{outputs};
+ghost use Rattle.edition.specs.Scratch.{inputs};
+ghost use Rattle.pieces.specs.Slots.{chain};
+ghost use Rattle.crunch.specs.Entry as Crunch;
+ghost use Rattle.chains.specs.Entry as Chains;
+ghost use Rattle.checks.specs.Entry as Checks;
+ghost use Rattle.fontcrunch.specs.Exports.{crunchReport, chainLeft, checkLeft};
+ghost use Rattle.fontcrunch.specs.Exports as Exports;
+
+// The number of a refusal, or 0; points written; pairs tried.
+#[repr(C)]
+pub struct CrunchReport {
+    pub number: u32,
+    pub points: usize,
+    pub pairs: usize,
+}
+
+// The number of a refusal, or 0; pieces written; pairs tried; the score's bits.
+#[repr(C)]
+pub struct ChainReport {
+    pub number: u32,
+    pub pieces: usize,
+    pub pairs: usize,
+    pub score_bits: u64,
+}
+
+// The number of a refusal, or 0; 1 where the chain is accepted.
+#[repr(C)]
+pub struct CheckReport {
+    pub number: u32,
+    pub accepted: u32,
+}
+
+fn crunch_report(c: Crunched) -> CrunchReport
+    ensures { λ r. ⌜ crunchReport r ≡ Crunch.report c ⌝ }
+{
+    match c {
+        Crunched::Refused(k) => CrunchReport {
+            number: k as u32,
+            points: 0,
+            pairs: 0,
+        },
+        Crunched::Points(points, pairs) => CrunchReport {
+            number: 0,
+            points,
+            pairs,
+        },
+    }
+}
+
+fn chain_report(c: Chained) -> ChainReport
+    ensures { λ r. ⌜ r ≡ Exports.chainReport (Chains.report c) ⌝ }
+{
+    match c {
+        Chained::Refused(k) => ChainReport {
+            number: k as u32,
+            pieces: 0,
+            pairs: 0,
+            score_bits: 0,
+        },
+        Chained::Unchanged(pairs) => ChainReport {
+            number: 0,
+            pieces: 0,
+            pairs,
+            score_bits: 0,
+        },
+        Chained::Pieces(pieces, score, pairs) => ChainReport {
+            number: 0,
+            pieces,
+            pairs,
+            score_bits: float::bits(score),
+        },
+    }
+}
+
+fn check_report(v: Verdict) -> CheckReport
+    ensures { λ r. ⌜ r ≡ Exports.checkReport (Checks.report v) ⌝ }
+{
+    match v {
+        Verdict::Refused(k) => CheckReport {
+            number: k as u32,
+            accepted: 0,
+        },
+        Verdict::Yes => CheckReport {
+            number: 0,
+            accepted: 1,
+        },
+        Verdict::No => CheckReport {
+            number: 0,
+            accepted: 0,
+        },
+    }
+}
+
+#[no_mangle]
+pub extern "C" fn fontcrunch_crunch(
+    xs: &[i16],
+    ys: &[i16],
+    flags: &[u8],
+    ox: &mut [i16],
+    oy: &mut [i16],
+    of: &mut [u8],
+    samples: &mut [[f64; 4]],
+    breaks: &mut [[f64; 5]],
+    answers: &mut [[f64; 3]],
+    links: &mut [u32],
+    points: &mut [[i16; 3]],
+) -> CrunchReport
+    ensures { λ r. ⌜ Crunch.left (crunchReport r) (outputs (now (ox .exit)) (now (oy .exit)) (now (of .exit)))
+        (Crunch.scratch (work (now (samples .exit)) (now (breaks .exit)) (now (answers .exit)) (now (links .exit))) (now (points .exit)))
+        ≡ Crunch.leaving (Crunch.wholeOf (inputs (now (xs .entry)) (now (ys .entry)) (now (flags .entry)))
+        (outputs (now (ox .entry)) (now (oy .entry)) (now (of .entry)))
+        (Crunch.scratch (work (now (samples .entry)) (now (breaks .entry)) (now (answers .entry)) (now (links .entry))) (now (points .entry))))
+        (outputs (now (ox .entry)) (now (oy .entry)) (now (of .entry)))
+        (Crunch.scratch (work (now (samples .entry)) (now (breaks .entry)) (now (answers .entry)) (now (links .entry))) (now (points .entry))) ⌝ }
+{
+    crunch_report(crunch::crunch_contour(
+        xs,
+        ys,
+        flags,
+        ox,
+        oy,
+        of,
+        samples,
+        breaks,
+        answers,
+        links,
+        points,
+    ))
+}
+
+#[no_mangle]
+pub extern "C" fn fontcrunch_chain(
+    xs: &[i16],
+    ys: &[i16],
+    flags: &[u8],
+    k: usize,
+    starts: &mut [u32],
+    ends: &mut [u32],
+    cxs: &mut [f64],
+    cys: &mut [f64],
+    samples: &mut [[f64; 4]],
+    breaks: &mut [[f64; 5]],
+    answers: &mut [[f64; 3]],
+    links: &mut [u32],
+) -> ChainReport
+    ensures { λ r. ⌜ Exports.leftChain r (chain (now (starts .exit)) (now (ends .exit)) (now (cxs .exit)) (now (cys .exit)))
+        (work (now (samples .exit)) (now (breaks .exit)) (now (answers .exit)) (now (links .exit)))
+        ≡ chainLeft (Chains.leaving (Chains.wholeOf (inputs (now (xs .entry)) (now (ys .entry)) (now (flags .entry))) k (chain (now (starts .entry)) (now (ends .entry)) (now (cxs .entry)) (now (cys .entry)))
+        (work (now (samples .entry)) (now (breaks .entry)) (now (answers .entry)) (now (links .entry))))
+        (chain (now (starts .entry)) (now (ends .entry)) (now (cxs .entry)) (now (cys .entry)))
+        (work (now (samples .entry)) (now (breaks .entry)) (now (answers .entry)) (now (links .entry)))) ⌝ }
+{
+    chain_report(chains::chain_of_run(
+        xs,
+        ys,
+        flags,
+        k,
+        starts,
+        ends,
+        cxs,
+        cys,
+        samples,
+        breaks,
+        answers,
+        links,
+    ))
+}
+
+#[no_mangle]
+pub extern "C" fn fontcrunch_check(
+    xs: &[i16],
+    ys: &[i16],
+    flags: &[u8],
+    k: usize,
+    starts: &[u32],
+    ends: &[u32],
+    cxs: &[f64],
+    cys: &[f64],
+    score: f64,
+    samples: &mut [[f64; 4]],
+    breaks: &mut [[f64; 5]],
+    answers: &mut [[f64; 3]],
+    links: &mut [u32],
+) -> CheckReport
+    ensures { λ r. ⌜ Exports.leftCheck r (work (now (samples .exit)) (now (breaks .exit)) (now (answers .exit)) (now (links .exit)))
+        ≡ checkLeft (Checks.leaving (Checks.wholeOf (inputs (now (xs .entry)) (now (ys .entry)) (now (flags .entry))) k
+        (record { starts = now (starts .entry); ends = now (ends .entry); xs = now (cxs .entry); ys = now (cys .entry); score = score })
+        (work (now (samples .entry)) (now (breaks .entry)) (now (answers .entry)) (now (links .entry))))
+        (work (now (samples .entry)) (now (breaks .entry)) (now (answers .entry)) (now (links .entry)))) ⌝ }
+{
+    check_report(checks::check_chain(
+        xs,
+        ys,
+        flags,
+        k,
+        starts,
+        ends,
+        cxs,
+        cys,
+        score,
+        samples,
+        breaks,
+        answers,
+        links,
+    ))
+}
