@@ -1,0 +1,209 @@
+/*
+ * fontcrunch.h: crunch TrueType contours from C and C++.
+ *
+ * A contour comes in, and goes out with fewer quadratic pieces between its corners. The three functions
+ * below are proved to do what their definitions in crates/fontcrunch say, on every input that the rules
+ * on this page allow. They are in libfontcrunch.a, for x86-64 Linux:
+ *
+ *     rt staticlib fontcrunch                      writes target/staticlib/libfontcrunch.a
+ *     cc -Iinclude program.c -Ltarget/staticlib -lfontcrunch
+ *
+ * examples/c has a program that calls all three.
+ *
+ *
+ * ROWS
+ *
+ * A row is an array that you lend for the time of a call: a pointer, and then how many places it has.
+ * A place of some rows is a small array, as in `double (*samples)[4]`: four doubles a place, and the length
+ * still counts places. The functions keep no pointer and allocate nothing.
+ *
+ *   - A pointer is never null and is aligned for its type, also where the length is 0.
+ *   - Rows that are written may not overlap each other or any row that is read.
+ *   - Two calls may run at once if no row that either writes is lent to both.
+ *
+ * Nothing else is asked of a row: whatever is in it, and however long or short it is, the answer is one of
+ * those below.
+ *
+ *
+ * CONTOURS
+ *
+ * A contour is three rows of equal length, a place for each point: `xs`, `ys`, and `flags`, whose bit 0 is
+ * set for an on-curve point. The other bits of a flag are not looked at. Flags that are written are 1 or 0.
+ *
+ * The first point is on-curve, and an implied point between two off-curve ones is written out. The contour
+ * is closed: its last point leads back to its first, by a line if it is on-curve, by a curve if not.
+ *
+ *
+ * RUNS, BREAKS, CHAINS
+ *
+ * Corners cut a contour into runs, numbered from 0: run k lies between corners k and k + 1. What lies before
+ * the first corner and after the last is in no run and is not written. A run that is a single line is copied.
+ * Any other is worked: places along it, rounded to half units, are its breaks, numbered from 0, and pieces
+ * are sought that lead from the first break to the last.
+ *
+ * A chain is the pieces of one run, in order: each piece's start and end break numbers and its control point.
+ * Its score says how far the pieces are from the run, with a penalty for each. Scores and controls are
+ * compared as values: -0.0 equals 0.0, and a NaN equals a NaN.
+ *
+ *
+ * SCRATCH
+ *
+ * Five rows are lent to work in. What they hold on entry does not matter, and they are zero throughout on
+ * every return. Shorter rows than the full rooms are allowed: contours that need more are then refused.
+ *
+ *   row      a place holds                              full room
+ *   samples  x, y, direction x, direction y             FONTCRUNCH_SAMPLES
+ *   breaks   length, x, y, direction x, direction y     FONTCRUNCH_BREAKS
+ *   answers  score, control x, control y                FONTCRUNCH_ANSWERS
+ *   links    what a stored answer was built on          FONTCRUNCH_ANSWERS
+ *   points   x, y, flag                                 as many as the output rows
+ *
+ * The sample room is the least of FONTCRUNCH_SAMPLES and the length of `samples`. The break room is the
+ * least of FONTCRUNCH_BREAKS, the length of `breaks`, and half the shorter of `answers` and `links`.
+ */
+#ifndef FONTCRUNCH_H
+#define FONTCRUNCH_H
+
+#include <stddef.h>
+#include <stdint.h>
+#include <string.h>
+
+#ifdef __cplusplus
+extern "C" {
+#endif
+
+/* Full rooms. Longer rows are never needed, and are not used further. */
+#define FONTCRUNCH_POINTS_IN 1024
+#define FONTCRUNCH_SAMPLES 16384
+#define FONTCRUNCH_BREAKS 2048
+#define FONTCRUNCH_ANSWERS 4096
+
+/* Break numbers rise along a chain, so no chain has more pieces than this. */
+#define FONTCRUNCH_PIECES 2047
+
+/* No fixed number of points suffices for every result. This many is what the program fontcrunch lends; a
+   result of more points than were lent is refused by 9. */
+#define FONTCRUNCH_POINTS_OUT 16384
+
+/* The number in every report: 0, or why nothing was done. Where several hold, 1 to 5 are tested first, in
+   this order; then 10; then runs are worked in order and the first 6, 7 or 8 met is given; 9 comes last. */
+enum {
+    FONTCRUNCH_OK = 0,
+    /* xs, ys and flags differ in length */
+    FONTCRUNCH_UNEVEN_ROWS = 1,
+    /* the contour has no point */
+    FONTCRUNCH_NO_POINT = 2,
+    /* it has more than FONTCRUNCH_POINTS_IN points */
+    FONTCRUNCH_TOO_MANY_POINTS = 3,
+    /* its first point is off-curve */
+    FONTCRUNCH_STARTS_OFF_CURVE = 4,
+    /* two neighbours in the rows are both off-curve (the last point and the first are no neighbours) */
+    FONTCRUNCH_OFF_CURVE_NEIGHBOURS = 5,
+    /* a run needs more samples than the sample room */
+    FONTCRUNCH_TOO_MANY_SAMPLES = 6,
+    /* a run has more breaks than the break room */
+    FONTCRUNCH_TOO_MANY_BREAKS = 7,
+    /* a sample is asked for at the last stored place, where the Rust that this follows would stop */
+    FONTCRUNCH_PAST_LAST_SAMPLE = 8,
+    /* fontcrunch_crunch: the points, counted before implied ones are dropped, are more than the shortest of
+       ox, oy, of and points has places. fontcrunch_chain: the pieces are more than the shortest of starts,
+       ends, cxs and cys has places */
+    FONTCRUNCH_OUTPUT_TOO_SHORT = 9,
+    /* fontcrunch_chain and fontcrunch_check: there is no such run, or it is one copied line */
+    FONTCRUNCH_NO_SUCH_RUN = 10
+};
+
+typedef struct CrunchReport {
+    uint32_t number; /* of the refusal, or 0 */
+    size_t points;   /* points written; 0 where refused */
+    size_t pairs;    /* pairs of breaks tried, over all runs worked; 0 where refused */
+} CrunchReport;
+
+typedef struct ChainReport {
+    uint32_t number;     /* of the refusal, or 0 */
+    size_t pieces;       /* pieces written; 0 where refused, and where the run leaves the contour unchanged */
+    size_t pairs;        /* pairs of breaks tried; 0 where refused */
+    uint64_t score_bits; /* the score's bits, see fontcrunch_score; 0 (which is 0.0) where there is no piece */
+} ChainReport;
+
+typedef struct CheckReport {
+    uint32_t number;   /* of the refusal, or 0 */
+    uint32_t accepted; /* 1: the chain is accepted; 0: it is not, or nothing was checked */
+} CheckReport;
+
+/*
+ * Crunches a contour. Its points are written to the first places of ox, oy and of, and no other place of
+ * these rows is touched. The points come out in reverse order, with implied points dropped. A refusal writes
+ * no point.
+ *
+ * A run for which no chain is found leaves the whole contour unchanged: then its own points come out,
+ * reversed, with the start at both ends. That is no refusal.
+ */
+CrunchReport fontcrunch_crunch(
+    const int16_t *xs, size_t xs_len,
+    const int16_t *ys, size_t ys_len,
+    const uint8_t *flags, size_t flags_len,
+    int16_t *ox, size_t ox_len,
+    int16_t *oy, size_t oy_len,
+    uint8_t *of, size_t of_len,
+    double (*samples)[4], size_t samples_len,
+    double (*breaks)[5], size_t breaks_len,
+    double (*answers)[3], size_t answers_len,
+    uint32_t *links, size_t links_len,
+    int16_t (*points)[3], size_t points_len);
+
+/*
+ * The chain that was found for run k of a contour. Piece i leads from break starts[i] to break ends[i], with
+ * the control (cxs[i], cys[i]). The first places of these four rows are written, and no other place is
+ * touched. A refusal writes none; so does a run that leaves the contour unchanged, with number 0, no piece
+ * and the score 0.0. Other runs are not worked, so their refusals do not count.
+ */
+ChainReport fontcrunch_chain(
+    const int16_t *xs, size_t xs_len,
+    const int16_t *ys, size_t ys_len,
+    const uint8_t *flags, size_t flags_len,
+    size_t k,
+    uint32_t *starts, size_t starts_len,
+    uint32_t *ends, size_t ends_len,
+    double *cxs, size_t cxs_len,
+    double *cys, size_t cys_len,
+    double (*samples)[4], size_t samples_len,
+    double (*breaks)[5], size_t breaks_len,
+    double (*answers)[3], size_t answers_len,
+    uint32_t *links, size_t links_len);
+
+/*
+ * Checks a chain for run k of a contour, whoever made it: it is measured anew, and nothing is sought. It is
+ * accepted exactly when its pieces lead from the run's first break to its last, each straight or bent as the
+ * rules allow, and its score is the sum that they give. Chain rows of unequal length, or with no piece, are
+ * not accepted, which is no refusal. Answers and links are lent for their lengths alone: the checker refuses
+ * by 7 where fontcrunch_chain would.
+ */
+CheckReport fontcrunch_check(
+    const int16_t *xs, size_t xs_len,
+    const int16_t *ys, size_t ys_len,
+    const uint8_t *flags, size_t flags_len,
+    size_t k,
+    const uint32_t *starts, size_t starts_len,
+    const uint32_t *ends, size_t ends_len,
+    const double *cxs, size_t cxs_len,
+    const double *cys, size_t cys_len,
+    double score,
+    double (*samples)[4], size_t samples_len,
+    double (*breaks)[5], size_t breaks_len,
+    double (*answers)[3], size_t answers_len,
+    uint32_t *links, size_t links_len);
+
+/* The score of a chain. All NaNs have one bit pattern in a report. */
+static inline double fontcrunch_score(ChainReport report)
+{
+    double score;
+    memcpy(&score, &report.score_bits, sizeof score);
+    return score;
+}
+
+#ifdef __cplusplus
+}
+#endif
+
+#endif
