@@ -1,0 +1,180 @@
+//! Contours crunched, chains asked for and checked, in rows that are allocated once.
+
+use std::fmt;
+
+use crate::entries;
+use crate::refusal::Refusal;
+use crate::rows::{ChainRows, Contour, Output, Scratch};
+use crate::rows::{MOST_PIECES, MOST_POINTS_IN, USUAL_POINT_ROOM};
+
+/// A point of a contour.
+#[derive(Clone, Copy, Debug, Default, PartialEq, Eq, Hash)]
+pub struct Point {
+    /// To the right.
+    pub x: i16,
+    /// Upward.
+    pub y: i16,
+    /// Whether the outline goes through the point; if not, it is a curve's control.
+    pub on_curve: bool,
+}
+
+impl Point {
+    /// An on-curve point.
+    pub const fn on(x: i16, y: i16) -> Point {
+        Point { x, y, on_curve: true }
+    }
+
+    /// An off-curve point.
+    pub const fn off(x: i16, y: i16) -> Point {
+        Point { x, y, on_curve: false }
+    }
+}
+
+/// A crunched contour.
+#[derive(Clone, Debug, PartialEq, Eq)]
+pub struct Crunched {
+    /// Its points, in reverse order, with implied points dropped.
+    pub points: Vec<Point>,
+    /// How many pairs of breaks were tried, over all runs.
+    pub pairs: usize,
+}
+
+/// A piece of a chain: a quadratic curve between two breaks.
+#[derive(Clone, Copy, Debug, PartialEq)]
+pub struct Piece {
+    /// The number of the break where it starts.
+    pub start: u32,
+    /// The number of the break where it ends.
+    pub end: u32,
+    /// Its control point, x and y. A straight piece has it midway.
+    pub control: (f64, f64),
+}
+
+/// The pieces of one run.
+#[derive(Clone, Debug, PartialEq)]
+pub struct Chain {
+    /// The pieces in order. There is none where the run leaves the contour unchanged.
+    pub pieces: Vec<Piece>,
+    /// How far the pieces are from the run, with a penalty for each; 0.0 where there is no piece.
+    pub score: f64,
+    /// How many pairs of breaks were tried. The checker does not look at it.
+    pub pairs: usize,
+}
+
+/// Crunches contours, one after another, in rows that it holds: about a megabyte, allocated once.
+pub struct Cruncher {
+    contour: Contour,
+    chain: ChainRows,
+    output: Output,
+    scratch: Scratch,
+}
+
+impl Cruncher {
+    /// A cruncher with the full rooms, and room for [`USUAL_POINT_ROOM`] points of a result.
+    pub fn new() -> Cruncher {
+        Cruncher::with_point_room(USUAL_POINT_ROOM)
+    }
+
+    /// A cruncher with room for that many points of a result. No fixed number suffices for every contour;
+    /// a result that has more, implied points counted, is refused by 9.
+    pub fn with_point_room(room: usize) -> Cruncher {
+        Cruncher {
+            contour: Contour::default(),
+            chain: ChainRows::default(),
+            output: Output::of_room(room),
+            scratch: Scratch::full(),
+        }
+    }
+
+    /// Crunches a contour.
+    ///
+    /// A run for which no chain is found leaves the whole contour unchanged: then its own points come out,
+    /// reversed, with the start at both ends.
+    pub fn crunch(&mut self, points: &[Point]) -> Result<Crunched, Refusal> {
+        self.take_contour(points);
+        let report = entries::crunch(&self.contour, &mut self.output, &mut self.scratch);
+        unless_refused(report.number)?;
+        Ok(Crunched { points: self.points_out(report.points), pairs: report.pairs })
+    }
+
+    /// The chain that is found for one run of a contour, the only run that is worked.
+    ///
+    /// Refused by 10 where there is no run of that number, and where it is one copied line.
+    pub fn chain(&mut self, points: &[Point], run: usize) -> Result<Chain, Refusal> {
+        self.take_contour(points);
+        self.chain.resize(MOST_PIECES);
+        let report = entries::chain(&self.contour, run, &mut self.chain, &mut self.scratch);
+        unless_refused(report.number)?;
+        Ok(Chain {
+            pieces: self.pieces_out(report.pieces),
+            score: f64::from_bits(report.score_bits),
+            pairs: report.pairs,
+        })
+    }
+
+    /// Whether a chain, whoever made it, is valid for one run of a contour and has the score that it says.
+    ///
+    /// Controls and score are compared as values: -0.0 equals 0.0, and a NaN equals a NaN. A chain with no
+    /// piece is never accepted.
+    pub fn check(&mut self, points: &[Point], run: usize, chain: &Chain) -> Result<bool, Refusal> {
+        self.take_contour(points);
+        self.take_chain(&chain.pieces);
+        let report = entries::check(&self.contour, run, &self.chain, chain.score, &mut self.scratch);
+        unless_refused(report.number)?;
+        Ok(report.accepted != 0)
+    }
+
+    /// One point more than may be is enough to have a contour refused by 3, which looks at no point.
+    fn take_contour(&mut self, points: &[Point]) {
+        let rows = &mut self.contour;
+        rows.clear();
+        for point in points.iter().take(MOST_POINTS_IN + 1) {
+            rows.xs.push(point.x);
+            rows.ys.push(point.y);
+            rows.flags.push(u8::from(point.on_curve));
+        }
+    }
+
+    fn take_chain(&mut self, pieces: &[Piece]) {
+        let rows = &mut self.chain;
+        rows.clear();
+        for piece in pieces {
+            rows.starts.push(piece.start);
+            rows.ends.push(piece.end);
+            rows.xs.push(piece.control.0);
+            rows.ys.push(piece.control.1);
+        }
+    }
+
+    fn points_out(&self, count: usize) -> Vec<Point> {
+        let rows = &self.output;
+        (0..count).map(|i| Point { x: rows.xs[i], y: rows.ys[i], on_curve: rows.flags[i] & 1 == 1 }).collect()
+    }
+
+    fn pieces_out(&self, count: usize) -> Vec<Piece> {
+        let rows = &self.chain;
+        (0..count)
+            .map(|i| Piece { start: rows.starts[i], end: rows.ends[i], control: (rows.xs[i], rows.ys[i]) })
+            .collect()
+    }
+}
+
+impl Default for Cruncher {
+    fn default() -> Cruncher {
+        Cruncher::new()
+    }
+}
+
+impl fmt::Debug for Cruncher {
+    // the rows hold nothing between calls that a reader could use
+    fn fmt(&self, f: &mut fmt::Formatter<'_>) -> fmt::Result {
+        f.debug_struct("Cruncher").field("point_room", &self.output.points.len()).finish_non_exhaustive()
+    }
+}
+
+fn unless_refused(number: u32) -> Result<(), Refusal> {
+    match Refusal::from_number(number) {
+        None => Ok(()),
+        Some(refusal) => Err(refusal),
+    }
+}

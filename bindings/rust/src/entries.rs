@@ -1,0 +1,219 @@
+//! The library's three entries, each called in one place.
+//!
+//! The entries ask only that a row that is written overlaps no other, and that pointers are aligned and not
+//! null. Rust's slices are so, empty ones too, and those lent by `&mut` are apart from all others. So these
+//! functions are safe for every row: of what is in it, and how long it is, nothing is asked.
+
+use crate::rows::{ChainRows, Contour, Output, Scratch};
+
+/// What `fontcrunch_crunch` says; the names are those of include/fontcrunch.h.
+#[repr(C)]
+#[derive(Clone, Copy, Debug, PartialEq, Eq)]
+pub(crate) struct CrunchReport {
+    pub number: u32,
+    pub points: usize,
+    pub pairs: usize,
+}
+
+#[repr(C)]
+#[derive(Clone, Copy, Debug, PartialEq, Eq)]
+pub(crate) struct ChainReport {
+    pub number: u32,
+    pub pieces: usize,
+    pub pairs: usize,
+    pub score_bits: u64,
+}
+
+#[repr(C)]
+#[derive(Clone, Copy, Debug, PartialEq, Eq)]
+pub(crate) struct CheckReport {
+    pub number: u32,
+    pub accepted: u32,
+}
+
+extern "C" {
+    fn fontcrunch_crunch(
+        xs: *const i16,
+        xs_len: usize,
+        ys: *const i16,
+        ys_len: usize,
+        flags: *const u8,
+        flags_len: usize,
+        ox: *mut i16,
+        ox_len: usize,
+        oy: *mut i16,
+        oy_len: usize,
+        of: *mut u8,
+        of_len: usize,
+        samples: *mut [f64; 4],
+        samples_len: usize,
+        breaks: *mut [f64; 5],
+        breaks_len: usize,
+        answers: *mut [f64; 3],
+        answers_len: usize,
+        links: *mut u32,
+        links_len: usize,
+        points: *mut [i16; 3],
+        points_len: usize,
+    ) -> CrunchReport;
+
+    fn fontcrunch_chain(
+        xs: *const i16,
+        xs_len: usize,
+        ys: *const i16,
+        ys_len: usize,
+        flags: *const u8,
+        flags_len: usize,
+        k: usize,
+        starts: *mut u32,
+        starts_len: usize,
+        ends: *mut u32,
+        ends_len: usize,
+        cxs: *mut f64,
+        cxs_len: usize,
+        cys: *mut f64,
+        cys_len: usize,
+        samples: *mut [f64; 4],
+        samples_len: usize,
+        breaks: *mut [f64; 5],
+        breaks_len: usize,
+        answers: *mut [f64; 3],
+        answers_len: usize,
+        links: *mut u32,
+        links_len: usize,
+    ) -> ChainReport;
+
+    fn fontcrunch_check(
+        xs: *const i16,
+        xs_len: usize,
+        ys: *const i16,
+        ys_len: usize,
+        flags: *const u8,
+        flags_len: usize,
+        k: usize,
+        starts: *const u32,
+        starts_len: usize,
+        ends: *const u32,
+        ends_len: usize,
+        cxs: *const f64,
+        cxs_len: usize,
+        cys: *const f64,
+        cys_len: usize,
+        score: f64,
+        samples: *mut [f64; 4],
+        samples_len: usize,
+        breaks: *mut [f64; 5],
+        breaks_len: usize,
+        answers: *mut [f64; 3],
+        answers_len: usize,
+        links: *mut u32,
+        links_len: usize,
+    ) -> CheckReport;
+}
+
+pub(crate) fn crunch(contour: &Contour, out: &mut Output, scratch: &mut Scratch) -> CrunchReport {
+    // SAFETY: each pointer is a slice's own, with its length; see the head of this file.
+    unsafe {
+        fontcrunch_crunch(
+            contour.xs.as_ptr(),
+            contour.xs.len(),
+            contour.ys.as_ptr(),
+            contour.ys.len(),
+            contour.flags.as_ptr(),
+            contour.flags.len(),
+            out.xs.as_mut_ptr(),
+            out.xs.len(),
+            out.ys.as_mut_ptr(),
+            out.ys.len(),
+            out.flags.as_mut_ptr(),
+            out.flags.len(),
+            scratch.samples.as_mut_ptr(),
+            scratch.samples.len(),
+            scratch.breaks.as_mut_ptr(),
+            scratch.breaks.len(),
+            scratch.answers.as_mut_ptr(),
+            scratch.answers.len(),
+            scratch.links.as_mut_ptr(),
+            scratch.links.len(),
+            out.points.as_mut_ptr(),
+            out.points.len(),
+        )
+    }
+}
+
+pub(crate) fn chain(
+    contour: &Contour,
+    run: usize,
+    chain: &mut ChainRows,
+    scratch: &mut Scratch,
+) -> ChainReport {
+    // SAFETY: each pointer is a slice's own, with its length; see the head of this file.
+    unsafe {
+        fontcrunch_chain(
+            contour.xs.as_ptr(),
+            contour.xs.len(),
+            contour.ys.as_ptr(),
+            contour.ys.len(),
+            contour.flags.as_ptr(),
+            contour.flags.len(),
+            run,
+            chain.starts.as_mut_ptr(),
+            chain.starts.len(),
+            chain.ends.as_mut_ptr(),
+            chain.ends.len(),
+            chain.xs.as_mut_ptr(),
+            chain.xs.len(),
+            chain.ys.as_mut_ptr(),
+            chain.ys.len(),
+            scratch.samples.as_mut_ptr(),
+            scratch.samples.len(),
+            scratch.breaks.as_mut_ptr(),
+            scratch.breaks.len(),
+            scratch.answers.as_mut_ptr(),
+            scratch.answers.len(),
+            scratch.links.as_mut_ptr(),
+            scratch.links.len(),
+        )
+    }
+}
+
+pub(crate) fn check(
+    contour: &Contour,
+    run: usize,
+    chain: &ChainRows,
+    score: f64,
+    scratch: &mut Scratch,
+) -> CheckReport {
+    // SAFETY: each pointer is a slice's own, with its length; see the head of this file.
+    unsafe {
+        fontcrunch_check(
+            contour.xs.as_ptr(),
+            contour.xs.len(),
+            contour.ys.as_ptr(),
+            contour.ys.len(),
+            contour.flags.as_ptr(),
+            contour.flags.len(),
+            run,
+            chain.starts.as_ptr(),
+            chain.starts.len(),
+            chain.ends.as_ptr(),
+            chain.ends.len(),
+            chain.xs.as_ptr(),
+            chain.xs.len(),
+            chain.ys.as_ptr(),
+            chain.ys.len(),
+            score,
+            scratch.samples.as_mut_ptr(),
+            scratch.samples.len(),
+            scratch.breaks.as_mut_ptr(),
+            scratch.breaks.len(),
+            scratch.answers.as_mut_ptr(),
+            scratch.answers.len(),
+            scratch.links.as_mut_ptr(),
+            scratch.links.len(),
+        )
+    }
+}
+
+#[cfg(test)]
+mod tests;

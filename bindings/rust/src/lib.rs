@@ -1,0 +1,46 @@
+//! Crunches TrueType contours: finds a contour's corners, and puts fewer quadratic pieces between them.
+//!
+//! The work is done by a proved library, `libfontcrunch.a`; this crate has safe functions over it. Equal
+//! contours give equal points on every host, always.
+//!
+//! ```
+//! use fontcrunch::{Cruncher, Point};
+//!
+//! let mut cruncher = Cruncher::new();
+//! let triangle = [Point::on(0, 0), Point::on(100, 0), Point::on(0, 100)];
+//! let crunched = cruncher.crunch(&triangle)?;
+//! // points come out in reverse order
+//! assert_eq!(crunched.points, [Point::on(0, 100), Point::on(100, 0), Point::on(0, 0)]);
+//! # Ok::<(), fontcrunch::Refusal>(())
+//! ```
+//!
+//! # Contours
+//!
+//! A contour is a slice of [`Point`]s. The first is on-curve, and an implied point between two off-curve
+//! ones is written out. It is closed: the last point leads back to the first, by a line if it is on-curve,
+//! by a curve if not.
+//!
+//! # Runs and chains
+//!
+//! Corners cut a contour into runs, numbered from 0: run k lies between corners k and k + 1. What lies
+//! before the first corner and after the last is in no run, and is not written. A run that is a single line
+//! is copied; any other is worked. Places along it, rounded to half units, are its breaks, and the
+//! [`Chain`] of a run leads over pieces from its first break to its last. Anyone can have a chain checked
+//! with [`Cruncher::check`], which measures it anew and seeks nothing.
+//!
+//! # Linking
+//!
+//! `rt staticlib fontcrunch`, run at the repository's top, writes the library where this crate looks for
+//! it. The environment variable `FONTCRUNCH_LIB_DIR` names another folder.
+
+#![deny(missing_docs)]
+#![deny(unsafe_op_in_unsafe_fn)]
+
+mod cruncher;
+mod entries;
+mod refusal;
+mod rows;
+
+pub use cruncher::{Chain, Crunched, Cruncher, Piece, Point};
+pub use refusal::Refusal;
+pub use rows::{ANSWER_ROOM, BREAK_ROOM, MOST_PIECES, MOST_POINTS_IN, SAMPLE_ROOM, USUAL_POINT_ROOM};

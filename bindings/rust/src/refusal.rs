@@ -1,0 +1,132 @@
+//! Why nothing was done.
+
+use std::error::Error;
+use std::fmt;
+
+/// Why a contour, or a run of it, is refused.
+///
+/// Where several reasons hold, 1 to 5 are tested first, in that order; then 10; then runs are worked in
+/// order, and the first 6, 7 or 8 met is given; 9 comes last.
+#[derive(Clone, Copy, Debug, PartialEq, Eq, Hash)]
+#[non_exhaustive]
+pub enum Refusal {
+    /// 1: the rows of a contour differ in length. This crate's functions never lend such rows.
+    UnevenRows,
+    /// 2: the contour has no point.
+    NoPoint,
+    /// 3: the contour has more than [`MOST_POINTS_IN`](crate::MOST_POINTS_IN) points.
+    TooManyPoints,
+    /// 4: the first point is off-curve.
+    StartsOffCurve,
+    /// 5: two neighbours are both off-curve. The last point and the first are no neighbours.
+    OffCurveNeighbours,
+    /// 6: a run needs more than [`SAMPLE_ROOM`](crate::SAMPLE_ROOM) samples.
+    TooManySamples,
+    /// 7: a run has more than [`BREAK_ROOM`](crate::BREAK_ROOM) breaks.
+    TooManyBreaks,
+    /// 8: a sample is asked for at the last stored place, where the Rust that this follows would stop.
+    PastLastSample,
+    /// 9: the result, counted before implied points are dropped, has more points than the cruncher has room
+    /// for. [`Cruncher::with_point_room`](crate::Cruncher::with_point_room) gives more.
+    OutputTooShort,
+    /// 10: there is no such run, or it is one copied line.
+    NoSuchRun,
+    /// A number that this crate has no name for: the library is newer than the crate.
+    Other(u32),
+}
+
+impl Refusal {
+    /// The refusal's number, the same in every program over the library.
+    pub const fn number(self) -> u32 {
+        match self {
+            Refusal::UnevenRows => 1,
+            Refusal::NoPoint => 2,
+            Refusal::TooManyPoints => 3,
+            Refusal::StartsOffCurve => 4,
+            Refusal::OffCurveNeighbours => 5,
+            Refusal::TooManySamples => 6,
+            Refusal::TooManyBreaks => 7,
+            Refusal::PastLastSample => 8,
+            Refusal::OutputTooShort => 9,
+            Refusal::NoSuchRun => 10,
+            Refusal::Other(number) => number,
+        }
+    }
+
+    /// The refusal of that number. None for 0, by which the library says that nothing is refused.
+    pub const fn from_number(number: u32) -> Option<Refusal> {
+        Some(match number {
+            0 => return None,
+            1 => Refusal::UnevenRows,
+            2 => Refusal::NoPoint,
+            3 => Refusal::TooManyPoints,
+            4 => Refusal::StartsOffCurve,
+            5 => Refusal::OffCurveNeighbours,
+            6 => Refusal::TooManySamples,
+            7 => Refusal::TooManyBreaks,
+            8 => Refusal::PastLastSample,
+            9 => Refusal::OutputTooShort,
+            10 => Refusal::NoSuchRun,
+            other => Refusal::Other(other),
+        })
+    }
+
+    const fn explanation(self) -> &'static str {
+        match self {
+            Refusal::UnevenRows => "the rows of the contour differ in length",
+            Refusal::NoPoint => "the contour has no point",
+            Refusal::TooManyPoints => "the contour has more than 1,024 points",
+            Refusal::StartsOffCurve => "the first point is off-curve; start with an on-curve one",
+            Refusal::OffCurveNeighbours => {
+                "two neighbouring points are off-curve; write out the implied point between them"
+            }
+            Refusal::TooManySamples => {
+                "a run between two corners is too long: it needs more than 16,384 samples, one a unit"
+            }
+            Refusal::TooManyBreaks => {
+                "a run between two corners is too long: it has more than 2,048 breaks, half a unit apart"
+            }
+            Refusal::PastLastSample => {
+                "a piece was to be measured past the last sample of its run, where no answer is defined"
+            }
+            Refusal::OutputTooShort => "the result has more points than there is room for",
+            Refusal::NoSuchRun => "there is no such run, or it is one line, which is copied",
+            Refusal::Other(_) => "the library gives a reason that this version has no words for",
+        }
+    }
+}
+
+impl fmt::Display for Refusal {
+    fn fmt(&self, f: &mut fmt::Formatter<'_>) -> fmt::Result {
+        write!(f, "refused {}: {}", self.number(), self.explanation())
+    }
+}
+
+impl Error for Refusal {}
+
+#[cfg(test)]
+mod tests {
+    use super::*;
+
+    #[test]
+    fn numbers_and_names_belong_together() {
+        for number in 1..=12 {
+            let refusal = Refusal::from_number(number).unwrap();
+            assert_eq!(refusal.number(), number);
+        }
+        assert_eq!(Refusal::from_number(0), None);
+        assert_eq!(Refusal::from_number(3), Some(Refusal::TooManyPoints));
+        assert_eq!(Refusal::from_number(10), Some(Refusal::NoSuchRun));
+        assert_eq!(Refusal::from_number(11), Some(Refusal::Other(11)));
+    }
+
+    #[test]
+    fn each_says_its_number_and_a_reason_of_its_own() {
+        let said: Vec<String> = (1..=11).map(|n| Refusal::from_number(n).unwrap().to_string()).collect();
+        for (i, text) in said.iter().enumerate() {
+            assert!(text.starts_with(&format!("refused {}: ", i + 1)), "{text}");
+            let reason = |t: &str| t.split_once(": ").unwrap().1.to_owned();
+            assert!(said.iter().filter(|t| reason(t) == reason(text)).count() == 1, "{text}");
+        }
+    }
+}

@@ -1,0 +1,96 @@
+//! The rows that are lent to the library. Rows of one kind stand together and have one length, so that a
+//! row too many or too short is no case for callers.
+
+/// A contour of more points is refused by 3.
+pub const MOST_POINTS_IN: usize = 1024;
+
+/// Samples that a run may need; one that needs more is refused by 6.
+pub const SAMPLE_ROOM: usize = 16_384;
+
+/// Breaks that a run may have; one with more is refused by 7.
+pub const BREAK_ROOM: usize = 2048;
+
+/// Stored answers, two for each break.
+pub const ANSWER_ROOM: usize = 2 * BREAK_ROOM;
+
+/// Break numbers rise along a chain, so that no chain has more pieces.
+pub const MOST_PIECES: usize = BREAK_ROOM - 1;
+
+/// Points that a result may have in a [`Cruncher::new`](crate::Cruncher::new), implied ones counted.
+pub const USUAL_POINT_ROOM: usize = 16_384;
+
+/// A contour: a place for each point. Bit 0 of a flag is set for an on-curve point.
+#[derive(Default)]
+pub(crate) struct Contour {
+    pub xs: Vec<i16>,
+    pub ys: Vec<i16>,
+    pub flags: Vec<u8>,
+}
+
+impl Contour {
+    pub fn clear(&mut self) {
+        self.xs.clear();
+        self.ys.clear();
+        self.flags.clear();
+    }
+}
+
+/// What the library works in; zero throughout after every call.
+pub(crate) struct Scratch {
+    pub samples: Box<[[f64; 4]]>,
+    pub breaks: Box<[[f64; 5]]>,
+    pub answers: Box<[[f64; 3]]>,
+    pub links: Box<[u32]>,
+}
+
+impl Scratch {
+    pub fn full() -> Scratch {
+        Scratch {
+            samples: vec![[0.0; 4]; SAMPLE_ROOM].into(),
+            breaks: vec![[0.0; 5]; BREAK_ROOM].into(),
+            answers: vec![[0.0; 3]; ANSWER_ROOM].into(),
+            links: vec![0; ANSWER_ROOM].into(),
+        }
+    }
+}
+
+/// The points that come out, and the row that the library puts them together in.
+pub(crate) struct Output {
+    pub xs: Box<[i16]>,
+    pub ys: Box<[i16]>,
+    pub flags: Box<[u8]>,
+    pub points: Box<[[i16; 3]]>,
+}
+
+impl Output {
+    pub fn of_room(room: usize) -> Output {
+        Output {
+            xs: vec![0; room].into(),
+            ys: vec![0; room].into(),
+            flags: vec![0; room].into(),
+            points: vec![[0; 3]; room].into(),
+        }
+    }
+}
+
+/// A chain: each piece's start and end break, and its control.
+#[derive(Default)]
+pub(crate) struct ChainRows {
+    pub starts: Vec<u32>,
+    pub ends: Vec<u32>,
+    pub xs: Vec<f64>,
+    pub ys: Vec<f64>,
+}
+
+impl ChainRows {
+    pub fn clear(&mut self) {
+        self.resize(0);
+    }
+
+    pub fn resize(&mut self, pieces: usize) {
+        self.starts.resize(pieces, 0);
+        self.ends.resize(pieces, 0);
+        self.xs.resize(pieces, 0.0);
+        self.ys.resize(pieces, 0.0);
+    }
+}
