@@ -1,0 +1,128 @@
+//! What the command line asks for.
+
+use std::ffi::{OsStr, OsString};
+use std::path::PathBuf;
+
+use fontcrunch::Refusal;
+
+#[derive(Debug, PartialEq, Eq)]
+pub enum Request {
+    Help,
+    Version,
+    Crunch(Job),
+}
+
+/// Contours to crunch.
+#[derive(Debug, Default, PartialEq, Eq)]
+pub struct Job {
+    pub inputs: Vec<Input>,
+}
+
+#[derive(Debug, PartialEq, Eq)]
+pub enum Input {
+    Standard,
+    File(PathBuf),
+}
+
+/// A request, or what is wrong with the words.
+pub fn read(words: impl IntoIterator<Item = OsString>) -> Result<Request, String> {
+    let mut words = words.into_iter();
+    let mut job = Job::default();
+    while let Some(word) = words.next() {
+        match word.to_str() {
+            Some("--help" | "-h") => return Ok(Request::Help),
+            Some("--version" | "-V") => return Ok(Request::Version),
+            Some("--") => {
+                job.inputs.extend(words.by_ref().map(|name| Input::File(name.into())));
+            }
+            Some("-") => job.inputs.push(Input::Standard),
+            _ if is_option(&word) => return Err(format!("there is no option {}", word.to_string_lossy())),
+            _ => job.inputs.push(Input::File(word.into())),
+        }
+    }
+    if job.inputs.is_empty() {
+        job.inputs.push(Input::Standard);
+    }
+    Ok(Request::Crunch(job))
+}
+
+fn is_option(word: &OsStr) -> bool {
+    word.as_encoded_bytes().starts_with(b"-")
+}
+
+pub fn version() -> String {
+    format!("fontcrunch {}\n", env!("CARGO_PKG_VERSION"))
+}
+
+pub fn help() -> String {
+    // 1 and 10 cannot be met by whole contours on lines
+    let refusals: String =
+        (2..=9).filter_map(Refusal::from_number).map(|refusal| format!("  {refusal}\n")).collect();
+    format!("{USAGE}\nRefusals:\n{refusals}\n{STATUS}")
+}
+
+const USAGE: &str = "\
+Crunches TrueType contours: puts fewer quadratic pieces between their corners.
+
+usage: fontcrunch [FILE...]
+
+FILE       contours, one a line; standard input where there is none, or for -
+--help     this text
+--version  the version
+
+A line in is x y f x y f ..., whole numbers with one blank between them: x and y
+from -32768 to 32767, and a flag f from 0 to 255, of which only bit 0 counts (1:
+on-curve). The first point is on-curve, and implied points are written out. An
+empty line is a contour of no point.
+
+A line out, for each line in:
+  ok PAIRS x y f ...  the points that came out, in reverse order; PAIRS of breaks
+                      were tried
+  refused K           nothing came out; the reason goes to standard error
+  malformed           the line is no such list, or has more than 65536 bytes; what
+                      is wrong goes to standard error
+";
+
+const STATUS: &str = "\
+Exit status: 0 every contour was crunched; 1 some were refused; 2 some lines were
+malformed, a file could not be read, or the command line was wrong.
+";
+
+#[cfg(test)]
+mod tests {
+    use super::*;
+
+    fn asked(words: &[&str]) -> Result<Request, String> {
+        read(words.iter().map(OsString::from))
+    }
+
+    fn job(inputs: Vec<Input>) -> Result<Request, String> {
+        Ok(Request::Crunch(Job { inputs }))
+    }
+
+    fn file(name: &str) -> Input {
+        Input::File(name.into())
+    }
+
+    #[test]
+    fn files_and_standard_input() {
+        assert_eq!(asked(&[]), job(vec![Input::Standard]));
+        assert_eq!(asked(&["a", "-", "b"]), job(vec![file("a"), Input::Standard, file("b")]));
+        assert_eq!(asked(&["--", "--help", "-"]), job(vec![file("--help"), file("-")]));
+    }
+
+    #[test]
+    fn wrong_words() {
+        assert!(asked(&["--runs"]).unwrap_err().contains("no option --runs"));
+        assert!(asked(&["-x"]).unwrap_err().contains("no option -x"));
+    }
+
+    #[test]
+    fn help_tells_every_refusal_that_can_be_met() {
+        assert_eq!(asked(&["a", "--help"]), Ok(Request::Help));
+        assert_eq!(asked(&["--version"]), Ok(Request::Version));
+        for number in 2..=9 {
+            assert!(help().contains(&format!("refused {number}: ")));
+        }
+    }
+}

@@ -1,0 +1,33 @@
+//! The command fontcrunch: contours in, one a line; a line out for each. `fontcrunch --help` tells all.
+
+mod arguments;
+mod contour_line;
+mod service;
+mod stream;
+
+use std::env;
+use std::io::{self, Write};
+use std::process::ExitCode;
+
+use arguments::Request;
+use service::Status;
+
+fn main() -> ExitCode {
+    let status = match arguments::read(env::args_os().skip(1)) {
+        Ok(Request::Help) => print(&arguments::help()),
+        Ok(Request::Version) => print(&arguments::version()),
+        Ok(Request::Crunch(job)) => service::run(&job),
+        Err(wrong) => {
+            service::complain(&format!("{wrong}; see fontcrunch --help"));
+            Status::Wrong
+        }
+    };
+    ExitCode::from(status as u8)
+}
+
+fn print(text: &str) -> Status {
+    match io::stdout().lock().write_all(text.as_bytes()) {
+        Ok(()) => Status::AllCrunched,
+        Err(_) => Status::Wrong,
+    }
+}

@@ -1,0 +1,133 @@
+//! Each contour of the inputs answered.
+
+use std::fs::File;
+use std::io::{self, BufWriter, ErrorKind, Read, Write};
+use std::path::Path;
+
+use fontcrunch::{Crunched, Cruncher, Point, Refusal};
+
+use crate::arguments::{Input, Job};
+use crate::contour_line;
+use crate::stream::{Lines, Stopped};
+
+/// The exit status: the worst that was met.
+#[derive(Clone, Copy, Debug, PartialEq, Eq, PartialOrd, Ord)]
+pub enum Status {
+    AllCrunched = 0,
+    SomeRefused = 1,
+    Wrong = 2,
+}
+
+pub fn run(job: &Job) -> Status {
+    let mut service = Service {
+        cruncher: Cruncher::new(),
+        answers: BufWriter::new(io::stdout().lock()),
+        status: Status::AllCrunched,
+    };
+    service.answer_all(&job.inputs);
+    service.status
+}
+
+/// One line on standard error. Where even that cannot be written, nothing is left to tell.
+pub fn complain(message: &str) {
+    let _ = writeln!(io::stderr(), "fontcrunch: {message}");
+}
+
+struct Service<W> {
+    cruncher: Cruncher,
+    answers: W,
+    status: Status,
+}
+
+/// Where a contour came from.
+struct Source<'a> {
+    name: &'a str,
+    line: u64,
+}
+
+impl<W: Write> Service<W> {
+    /// Ends where answers can no longer be written.
+    fn answer_all(&mut self, inputs: &[Input]) {
+        for input in inputs {
+            let answered = match input {
+                Input::Standard => self.answer_input("(standard input)", io::stdin().lock()),
+                Input::File(path) => self.answer_file(path),
+            };
+            if let Err(error) = answered {
+                return self.answers_fail(&error);
+            }
+        }
+    }
+
+    fn answer_file(&mut self, path: &Path) -> io::Result<()> {
+        let name = path.to_string_lossy();
+        match File::open(path) {
+            Ok(file) => self.answer_input(&name, file),
+            Err(error) => {
+                self.wrong(&format!("{name}: {error}"));
+                Ok(())
+            }
+        }
+    }
+
+    /// An input that cannot be read to its end is told, and what it held so far is answered.
+    fn answer_input(&mut self, name: &str, input: impl Read) -> io::Result<()> {
+        let mut lines = Lines::new(input);
+        let mut points = Vec::new();
+        let mut number = 0;
+        loop {
+            match lines.next(|| self.answers.flush()) {
+                Ok(Some(line)) => {
+                    number += 1;
+                    self.answer_line(&Source { name, line: number }, line, &mut points)?;
+                }
+                Ok(None) => return self.answers.flush(),
+                Err(Stopped::Writing(error)) => return Err(error),
+                Err(Stopped::Reading(error)) => {
+                    self.wrong(&format!("{name}: {error}"));
+                    return self.answers.flush();
+                }
+            }
+        }
+    }
+
+    fn answer_line(&mut self, source: &Source, line: &[u8], points: &mut Vec<Point>) -> io::Result<()> {
+        if let Err(fault) = contour_line::parse(line, points) {
+            self.wrong(&format!("{}:{}: malformed: {fault}", source.name, source.line));
+            return self.answers.write_all(b"malformed\n");
+        }
+        match self.cruncher.crunch(points) {
+            Ok(crunched) => write_crunched(&mut self.answers, &crunched),
+            Err(refusal) => {
+                self.refused(source, refusal);
+                writeln!(self.answers, "refused {}", refusal.number())
+            }
+        }
+    }
+
+    fn refused(&mut self, source: &Source, refusal: Refusal) {
+        self.status = self.status.max(Status::SomeRefused);
+        complain(&format!("{}:{}: {refusal}", source.name, source.line));
+    }
+
+    fn wrong(&mut self, message: &str) {
+        self.status = Status::Wrong;
+        complain(message);
+    }
+
+    /// A reader that has seen enough needs no message.
+    fn answers_fail(&mut self, error: &io::Error) {
+        self.status = Status::Wrong;
+        if error.kind() != ErrorKind::BrokenPipe {
+            complain(&format!("(standard output): {error}"));
+        }
+    }
+}
+
+fn write_crunched(out: &mut impl Write, crunched: &Crunched) -> io::Result<()> {
+    write!(out, "ok {}", crunched.pairs)?;
+    for point in &crunched.points {
+        write!(out, " {} {} {}", point.x, point.y, u8::from(point.on_curve))?;
+    }
+    writeln!(out)
+}

@@ -1,0 +1,217 @@
+//! The command: lines in and out, messages, exit status, files.
+
+use std::fs;
+use std::io::{BufRead, BufReader, Write};
+use std::path::PathBuf;
+use std::process::{Command, Output, Stdio};
+use std::thread;
+
+fn command() -> Command {
+    Command::new(env!("CARGO_BIN_EXE_fontcrunch"))
+}
+
+/// Runs the command on an input. What cannot be written to it was not read, which is not told here.
+fn run(words: &[&str], input: &[u8]) -> Output {
+    let mut child = command()
+        .args(words)
+        .stdin(Stdio::piped())
+        .stdout(Stdio::piped())
+        .stderr(Stdio::piped())
+        .spawn()
+        .unwrap();
+    let mut stdin = child.stdin.take().unwrap();
+    let bytes = input.to_vec();
+    let writer = thread::spawn(move || _ = stdin.write_all(&bytes));
+    let output = child.wait_with_output().unwrap();
+    writer.join().unwrap();
+    output
+}
+
+fn text(bytes: &[u8]) -> String {
+    String::from_utf8(bytes.to_vec()).unwrap()
+}
+
+/// Lines in, lines out.
+fn answers(input: &str) -> Vec<String> {
+    text(&run(&[], input.as_bytes()).stdout).lines().map(str::to_owned).collect()
+}
+
+fn status(words: &[&str], input: &str) -> i32 {
+    run(words, input.as_bytes()).status.code().unwrap()
+}
+
+/// A folder for one test, empty at first.
+fn folder(name: &str) -> PathBuf {
+    let folder = PathBuf::from(env!("CARGO_TARGET_TMPDIR")).join(name);
+    let _ = fs::remove_dir_all(&folder);
+    fs::create_dir_all(&folder).unwrap();
+    folder
+}
+
+fn path(folder: &std::path::Path, name: &str) -> String {
+    folder.join(name).to_str().unwrap().to_owned()
+}
+
+// ---- lines
+
+// the Rattle program and the oracle answer these so
+const CASES: [(&str, &str); 33] = [
+    ("7 9 1", "ok 0 7 9 1"),
+    ("0 0 1 100 0 1 0 100 1", "ok 0 0 100 1 100 0 1 0 0 1"),
+    ("0 0 1 100 0 1 50 100 0", "ok 0 100 0 1 0 0 1"),
+    ("5 5 1 5 5 0 5 5 1", "ok 1 5 5 1 5 5 1 5 5 0 5 5 1"),
+    ("", "refused 2"),
+    ("0 0 0", "refused 4"),
+    ("0 0 1 1 1 0 2 2 0", "refused 5"),
+    ("0 0 0 1 1 0 2 2 0", "refused 4"),
+    ("0 0 1 10 10 0", "ok 0 0 0 1"),
+    ("0 0 1 32767 0 0 32767 32767 1", "refused 6"),
+    ("0 0 1 700 0 0 700 700 1", "refused 7"),
+    ("0 0 1 432 433 0 410 410 1 -300 900 1", "refused 8"),
+    (
+        "20000 0 1 20000 10 0 20005 20 1 20020 30 0 20040 30 1",
+        "ok 2 20040 30 1 20020 30 0 20005 20 1 20000 10 0 20000 0 1",
+    ),
+    ("7 9 3", "ok 0 7 9 1"),
+    ("7 9 255", "ok 0 7 9 1"),
+    ("7 9 128", "refused 4"),
+    ("0 0 129 100 0 5 50 100 254", "ok 0 100 0 1 0 0 1"),
+    ("-32768 32767 1", "ok 0 -32768 32767 1"),
+    ("-0 007 01", "ok 0 0 7 1"),
+    ("1 2", "malformed"),
+    ("x", "malformed"),
+    ("0 0 1 5", "malformed"),
+    ("1.5 0 1", "malformed"),
+    ("+1 0 1", "malformed"),
+    ("32768 0 1", "malformed"),
+    ("0 -32769 1", "malformed"),
+    ("0 0 256", "malformed"),
+    ("0 0 -1", "malformed"),
+    ("0 0 1 ", "malformed"),
+    (" 0 0 1", "malformed"),
+    ("0  0 1", "malformed"),
+    ("0 0 1\r", "malformed"),
+    ("0\t0\t1", "malformed"),
+];
+
+#[test]
+fn each_line_has_its_answer() {
+    let input: String = CASES.iter().map(|(line, _)| format!("{line}\n")).collect();
+    let expected: Vec<&str> = CASES.iter().map(|(_, answer)| *answer).collect();
+    assert_eq!(answers(&input), expected);
+}
+
+#[test]
+fn the_last_line_needs_no_end() {
+    assert_eq!(answers(""), [""; 0]);
+    assert_eq!(answers("7 9 1"), ["ok 0 7 9 1"]);
+    assert_eq!(answers("7 9 1\n\n"), ["ok 0 7 9 1", "refused 2"]);
+}
+
+#[test]
+fn the_most_points_of_a_contour_and_of_a_line() {
+    let zigzag = |count: usize| -> String {
+        let words: Vec<String> = (0..count).map(|i| format!("{} {} 1", i % 512, 40 * (i % 2))).collect();
+        words.join(" ")
+    };
+    assert!(answers(&zigzag(1024))[0].starts_with("ok 0 511 40 1 "));
+    assert_eq!(answers(&zigzag(1025)), ["refused 3"]);
+    let longest = format!("{}0 0 000001", "0 0 1 ".repeat(10_921));
+    assert_eq!(longest.len(), 65_536);
+    assert_eq!(answers(&format!("{longest}\n0{longest}\n7 9 1\n")), ["refused 3", "malformed", "ok 0 7 9 1"]);
+}
+
+#[test]
+fn a_line_of_any_length_is_passed_over() {
+    let mut input = vec![b'1'; 8_000_000];
+    input.extend_from_slice(b"\n7 9 1\n");
+    let output = run(&[], &input);
+    assert_eq!(text(&output.stdout), "malformed\nok 0 7 9 1\n");
+    assert!(output.stderr.len() < 200);
+}
+
+#[test]
+fn answers_come_before_the_input_ends() {
+    let mut child = command().stdin(Stdio::piped()).stdout(Stdio::piped()).spawn().unwrap();
+    let mut stdin = child.stdin.take().unwrap();
+    let mut stdout = BufReader::new(child.stdout.take().unwrap());
+    for _ in 0..3 {
+        stdin.write_all(b"7 9 1\n").unwrap();
+        let mut answer = String::new();
+        stdout.read_line(&mut answer).unwrap();
+        assert_eq!(answer, "ok 0 7 9 1\n");
+    }
+    drop(stdin);
+    assert!(child.wait().unwrap().success());
+}
+
+#[test]
+fn a_reader_that_has_seen_enough_ends_it() {
+    let mut child =
+        command().stdin(Stdio::piped()).stdout(Stdio::piped()).stderr(Stdio::piped()).spawn().unwrap();
+    drop(child.stdout.take());
+    let mut stdin = child.stdin.take().unwrap();
+    let _ = stdin.write_all(b"7 9 1\n");
+    let output = child.wait_with_output().unwrap();
+    drop(stdin);
+    assert_eq!((output.status.code(), text(&output.stderr).as_str()), (Some(2), ""));
+}
+
+// ---- status and messages
+
+#[test]
+fn the_status_is_the_worst_that_was_met() {
+    assert_eq!(status(&[], ""), 0);
+    assert_eq!(status(&[], "7 9 1\n"), 0);
+    assert_eq!(status(&[], "5 5 1 5 5 0 5 5 1\n"), 0);
+    assert_eq!(status(&[], "7 9 1\n0 0 0\n7 9 1\n"), 1);
+    assert_eq!(status(&[], "x\n0 0 0\n7 9 1\n"), 2);
+    assert_eq!(status(&[], "0 0 0\nx\n"), 2);
+    assert_eq!(status(&["--nonsense"], ""), 2);
+}
+
+#[test]
+fn messages_name_the_input_the_line_and_the_reason() {
+    let output = run(&[], b"7 9 1\n0 0 0\n1 2 y\n");
+    assert_eq!(text(&output.stdout), "ok 0 7 9 1\nrefused 4\nmalformed\n");
+    assert_eq!(
+        text(&output.stderr),
+        "fontcrunch: (standard input):2: refused 4: the first point is off-curve; start with an on-curve one\n\
+         fontcrunch: (standard input):3: malformed: number 3, 'y', is not a whole number\n"
+    );
+}
+
+#[test]
+fn help_and_version() {
+    let help = run(&["--help"], b"");
+    assert!(help.status.success() && text(&help.stdout).contains("usage: fontcrunch"));
+    let version = run(&["--version"], b"");
+    assert_eq!(text(&version.stdout), format!("fontcrunch {}\n", env!("CARGO_PKG_VERSION")));
+    let wrong = run(&["--halp"], b"");
+    assert_eq!(text(&wrong.stderr), "fontcrunch: there is no option --halp; see fontcrunch --help\n");
+    assert!(wrong.stdout.is_empty());
+}
+
+// ---- files
+
+#[test]
+fn files_are_answered_in_order_and_a_missing_one_loses_nothing() {
+    let folder = folder("files");
+    let (first, second, missing) =
+        (path(&folder, "first"), path(&folder, "second"), path(&folder, "missing"));
+    // the first has no line end: its line is not joined with the next file's
+    fs::write(&first, "7 9 1").unwrap();
+    fs::write(&second, "0 0 1\n").unwrap();
+    let output = run(&[&first, &missing, "-", &second], b"1 1 1\n");
+    assert_eq!(text(&output.stdout), "ok 0 7 9 1\nok 0 1 1 1\nok 0 0 0 1\n");
+    assert!(text(&output.stderr).starts_with(&format!("fontcrunch: {missing}: ")));
+    assert_eq!(output.status.code(), Some(2));
+}
+
+#[test]
+fn a_folder_is_no_file() {
+    let folder = folder("folder");
+    let output = run(&[folder.to_str().unwrap()], b"");
+    assert_eq!(output.status.code(), Some(2));
+    assert!(text(&output.stderr).contains("folder: "));
+}
