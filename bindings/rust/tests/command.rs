@@ -1,4 +1,4 @@
-//! The command: lines in and out, messages, exit status, files.
+//! The command: lines in and out, messages, exit status, files, pictures.
 
 use std::fs;
 use std::io::{BufRead, BufReader, Write};
@@ -51,6 +51,9 @@ fn folder(name: &str) -> PathBuf {
 fn path(folder: &std::path::Path, name: &str) -> String {
     folder.join(name).to_str().unwrap().to_owned()
 }
+
+/// The letter that comes with the repository.
+const LETTER: &str = concat!(env!("CARGO_MANIFEST_DIR"), "/../../examples/letter.txt");
 
 // ---- lines
 
@@ -168,6 +171,7 @@ fn the_status_is_the_worst_that_was_met() {
     assert_eq!(status(&[], "x\n0 0 0\n7 9 1\n"), 2);
     assert_eq!(status(&[], "0 0 0\nx\n"), 2);
     assert_eq!(status(&["--nonsense"], ""), 2);
+    assert_eq!(status(&["--svg"], ""), 2);
 }
 
 #[test]
@@ -214,4 +218,107 @@ fn a_folder_is_no_file() {
     let output = run(&[folder.to_str().unwrap()], b"");
     assert_eq!(output.status.code(), Some(2));
     assert!(text(&output.stderr).contains("folder: "));
+}
+
+// ---- pictures
+
+/// The elements open and close in turn; text and attributes are quoted as they must be.
+fn assert_well_formed(svg: &str) {
+    let mut open = Vec::new();
+    for part in svg.split('<').skip(1) {
+        let (tag, words) = part.split_once('>').expect("a tag ends");
+        assert!(!words.contains('>'), "{words}");
+        for reference in words.split('&').skip(1) {
+            assert!(["lt;", "gt;", "amp;"].iter().any(|name| reference.starts_with(name)), "{words}");
+        }
+        assert_eq!(tag.matches('"').count() % 2, 0, "{tag}");
+        if let Some(name) = tag.strip_prefix('/') {
+            assert_eq!(open.pop(), Some(name));
+        } else if !tag.ends_with('/') {
+            open.push(tag.split(' ').next().unwrap());
+        }
+    }
+    assert!(open.is_empty(), "{open:?}");
+    assert!(!svg.contains("NaN") && !svg.contains("inf"));
+}
+
+fn drawn(name: &str, input: &str) -> String {
+    let picture = path(&folder(name), "picture.svg");
+    run(&["--svg", &picture], input.as_bytes());
+    let svg = fs::read_to_string(picture).unwrap();
+    assert_well_formed(&svg);
+    svg
+}
+
+fn height(svg: &str) -> f64 {
+    svg.split_once("height=\"").unwrap().1.split_once('"').unwrap().0.parse().unwrap()
+}
+
+#[test]
+fn a_letter_is_drawn() {
+    let picture = path(&folder("letter"), "letter.svg");
+    let output = run(&["--svg", &picture, LETTER], b"");
+    assert!(output.status.success());
+    // the answers are those without a picture
+    assert_eq!(output.stdout, run(&[LETTER], b"").stdout);
+    let svg = fs::read_to_string(picture).unwrap();
+    assert_well_formed(&svg);
+    for words in [
+        "before: 54 points, 29 on and 25 off the curve",
+        "after: 43 points",
+        "letter.txt, line 3",
+        "1,855 pairs tried",
+    ] {
+        assert!(svg.contains(words), "{words}");
+    }
+}
+
+#[test]
+fn every_kind_of_contour_is_drawn() {
+    let input: String = CASES.iter().map(|(line, _)| format!("{line}\n")).collect();
+    let svg = drawn("kinds", &input);
+    for words in ["refused 2", "refused 4", "refused 5", "refused 6", "refused 7", "refused 8", "unchanged"] {
+        assert!(svg.contains(words), "{words}");
+    }
+    assert!(svg.contains("it is run 0, marked on the left"));
+    assert!(!svg.contains("malformed"));
+}
+
+#[test]
+fn the_height_grows_with_the_contours() {
+    let one = "0 0 1 100 0 1 0 100 1\n";
+    let heights: Vec<f64> =
+        (0..3).map(|count| height(&drawn(&format!("height{count}"), &one.repeat(count)))).collect();
+    assert!(heights[0] > 0.0);
+    assert!((heights[2] - heights[1] - (heights[1] - heights[0])).abs() < 0.2);
+}
+
+#[test]
+fn names_are_escaped() {
+    let folder = folder("names");
+    let (input, picture) = (path(&folder, "a<b&c>.txt"), path(&folder, "picture.svg"));
+    fs::write(&input, "7 9 1\n").unwrap();
+    run(&["--svg", &picture, &input], b"");
+    let svg = fs::read_to_string(picture).unwrap();
+    assert_well_formed(&svg);
+    assert!(svg.contains("a&lt;b&amp;c&gt;.txt, line 1"));
+}
+
+#[test]
+fn a_picture_that_cannot_be_written_loses_no_answer() {
+    let output = run(&["--svg", "/nonexistent/picture.svg"], b"7 9 1\n");
+    assert_eq!(text(&output.stdout), "ok 0 7 9 1\n");
+    assert_eq!(output.status.code(), Some(2));
+    assert!(text(&output.stderr).starts_with("fontcrunch: /nonexistent/picture.svg: "));
+}
+
+#[test]
+fn an_input_is_not_drawn_over() {
+    let folder = folder("over");
+    let input = path(&folder, "input");
+    fs::write(&input, "7 9 1\n").unwrap();
+    let same = path(&folder, "../over/input");
+    let output = run(&["--svg", &same, &input], b"");
+    assert_eq!(output.status.code(), Some(2));
+    assert_eq!(fs::read_to_string(&input).unwrap(), "7 9 1\n");
 }

@@ -12,10 +12,11 @@ pub enum Request {
     Crunch(Job),
 }
 
-/// Contours to crunch.
+/// Contours to crunch, and where to draw them.
 #[derive(Debug, Default, PartialEq, Eq)]
 pub struct Job {
     pub inputs: Vec<Input>,
+    pub picture: Option<PathBuf>,
 }
 
 #[derive(Debug, PartialEq, Eq)]
@@ -32,10 +33,14 @@ pub fn read(words: impl IntoIterator<Item = OsString>) -> Result<Request, String
         match word.to_str() {
             Some("--help" | "-h") => return Ok(Request::Help),
             Some("--version" | "-V") => return Ok(Request::Version),
+            Some("--svg") => job.draw_to(words.next())?,
             Some("--") => {
                 job.inputs.extend(words.by_ref().map(|name| Input::File(name.into())));
             }
             Some("-") => job.inputs.push(Input::Standard),
+            Some(text) if text.starts_with("--svg=") => {
+                job.draw_to(Some(OsString::from(&text["--svg=".len()..])))?;
+            }
             _ if is_option(&word) => return Err(format!("there is no option {}", word.to_string_lossy())),
             _ => job.inputs.push(Input::File(word.into())),
         }
@@ -44,6 +49,16 @@ pub fn read(words: impl IntoIterator<Item = OsString>) -> Result<Request, String
         job.inputs.push(Input::Standard);
     }
     Ok(Request::Crunch(job))
+}
+
+impl Job {
+    fn draw_to(&mut self, name: Option<OsString>) -> Result<(), String> {
+        let name = name.filter(|name| !name.is_empty()).ok_or("--svg needs a file to write")?;
+        if self.picture.replace(name.into()).is_some() {
+            return Err("--svg is given twice".to_owned());
+        }
+        Ok(())
+    }
 }
 
 fn is_option(word: &OsStr) -> bool {
@@ -64,11 +79,12 @@ pub fn help() -> String {
 const USAGE: &str = "\
 Crunches TrueType contours: puts fewer quadratic pieces between their corners.
 
-usage: fontcrunch [FILE...]
+usage: fontcrunch [--svg PICTURE] [FILE...]
 
-FILE       contours, one a line; standard input where there is none, or for -
---help     this text
---version  the version
+FILE           contours, one a line; standard input where there is none, or for -
+--svg PICTURE  draws each contour before and after, to a file
+--help         this text
+--version      the version
 
 A line in is x y f x y f ..., whole numbers with one blank between them: x and y
 from -32768 to 32767, and a flag f from 0 to 255, of which only bit 0 counts (1:
@@ -85,7 +101,7 @@ A line out, for each line in:
 
 const STATUS: &str = "\
 Exit status: 0 every contour was crunched; 1 some were refused; 2 some lines were
-malformed, a file could not be read, or the command line was wrong.
+malformed, a file could not be read or written, or the command line was wrong.
 ";
 
 #[cfg(test)]
@@ -96,8 +112,8 @@ mod tests {
         read(words.iter().map(OsString::from))
     }
 
-    fn job(inputs: Vec<Input>) -> Result<Request, String> {
-        Ok(Request::Crunch(Job { inputs }))
+    fn job(inputs: Vec<Input>, picture: Option<&str>) -> Result<Request, String> {
+        Ok(Request::Crunch(Job { inputs, picture: picture.map(PathBuf::from) }))
     }
 
     fn file(name: &str) -> Input {
@@ -106,13 +122,22 @@ mod tests {
 
     #[test]
     fn files_and_standard_input() {
-        assert_eq!(asked(&[]), job(vec![Input::Standard]));
-        assert_eq!(asked(&["a", "-", "b"]), job(vec![file("a"), Input::Standard, file("b")]));
-        assert_eq!(asked(&["--", "--help", "-"]), job(vec![file("--help"), file("-")]));
+        assert_eq!(asked(&[]), job(vec![Input::Standard], None));
+        assert_eq!(asked(&["a", "-", "b"]), job(vec![file("a"), Input::Standard, file("b")], None));
+        assert_eq!(asked(&["--", "--svg", "-"]), job(vec![file("--svg"), file("-")], None));
+    }
+
+    #[test]
+    fn a_picture() {
+        assert_eq!(asked(&["--svg", "p", "a"]), job(vec![file("a")], Some("p")));
+        assert_eq!(asked(&["a", "--svg=p"]), job(vec![file("a")], Some("p")));
     }
 
     #[test]
     fn wrong_words() {
+        assert!(asked(&["--svg"]).unwrap_err().contains("needs a file"));
+        assert!(asked(&["--svg="]).unwrap_err().contains("needs a file"));
+        assert!(asked(&["--svg", "a", "--svg", "b"]).unwrap_err().contains("twice"));
         assert!(asked(&["--runs"]).unwrap_err().contains("no option --runs"));
         assert!(asked(&["-x"]).unwrap_err().contains("no option -x"));
     }

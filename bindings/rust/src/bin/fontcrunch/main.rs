@@ -2,6 +2,7 @@
 
 mod arguments;
 mod contour_line;
+mod picture;
 mod service;
 mod stream;
 

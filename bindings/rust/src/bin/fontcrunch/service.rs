@@ -1,6 +1,6 @@
-//! Each contour of the inputs answered.
+//! Each contour of the inputs answered, and drawn where that is asked.
 
-use std::fs::File;
+use std::fs::{self, File};
 use std::io::{self, BufWriter, ErrorKind, Read, Write};
 use std::path::Path;
 
@@ -8,6 +8,7 @@ use fontcrunch::{Crunched, Cruncher, Point, Refusal};
 
 use crate::arguments::{Input, Job};
 use crate::contour_line;
+use crate::picture::Picture;
 use crate::stream::{Lines, Stopped};
 
 /// The exit status: the worst that was met.
@@ -22,9 +23,18 @@ pub fn run(job: &Job) -> Status {
     let mut service = Service {
         cruncher: Cruncher::new(),
         answers: BufWriter::new(io::stdout().lock()),
+        drawing: None,
         status: Status::AllCrunched,
     };
+    if let Some(path) = &job.picture {
+        if job.inputs.iter().any(|input| is_same_file(input, path)) {
+            service.wrong(&format!("{}: is to be read and drawn to", path.to_string_lossy()));
+            return service.status;
+        }
+        service.start_drawing(path);
+    }
     service.answer_all(&job.inputs);
+    service.finish_drawing();
     service.status
 }
 
@@ -36,7 +46,13 @@ pub fn complain(message: &str) {
 struct Service<W> {
     cruncher: Cruncher,
     answers: W,
+    drawing: Option<Drawing>,
     status: Status,
+}
+
+struct Drawing {
+    name: String,
+    picture: Picture,
 }
 
 /// Where a contour came from.
@@ -96,7 +112,9 @@ impl<W: Write> Service<W> {
             self.wrong(&format!("{}:{}: malformed: {fault}", source.name, source.line));
             return self.answers.write_all(b"malformed\n");
         }
-        match self.cruncher.crunch(points) {
+        let result = self.cruncher.crunch(points);
+        self.draw(source, points, &result);
+        match result {
             Ok(crunched) => write_crunched(&mut self.answers, &crunched),
             Err(refusal) => {
                 self.refused(source, refusal);
@@ -121,6 +139,46 @@ impl<W: Write> Service<W> {
         if error.kind() != ErrorKind::BrokenPipe {
             complain(&format!("(standard output): {error}"));
         }
+    }
+
+    fn start_drawing(&mut self, path: &Path) {
+        let name = path.to_string_lossy().into_owned();
+        match Picture::create(path) {
+            Ok(picture) => self.drawing = Some(Drawing { name, picture }),
+            Err(error) => self.wrong(&format!("{name}: {error}")),
+        }
+    }
+
+    /// A picture that fails is given up; the answers go on.
+    fn draw(&mut self, source: &Source, before: &[Point], result: &Result<Crunched, Refusal>) {
+        let Some(drawing) = &mut self.drawing else {
+            return;
+        };
+        let title = format!("{}, line {}", source.name, source.line);
+        if let Err(error) = drawing.picture.add(&mut self.cruncher, &title, before, result) {
+            let message = format!("{}: {error}", drawing.name);
+            self.drawing = None;
+            self.wrong(&message);
+        }
+    }
+
+    fn finish_drawing(&mut self) {
+        if let Some(drawing) = self.drawing.take() {
+            if let Err(error) = drawing.picture.finish() {
+                self.wrong(&format!("{}: {error}", drawing.name));
+            }
+        }
+    }
+}
+
+/// A picture would empty the file before it is read.
+fn is_same_file(input: &Input, path: &Path) -> bool {
+    let Input::File(read) = input else {
+        return false;
+    };
+    match (fs::canonicalize(read), fs::canonicalize(path)) {
+        (Ok(read), Ok(drawn)) => read == drawn,
+        _ => false,
     }
 }
 

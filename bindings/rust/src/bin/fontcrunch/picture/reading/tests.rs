@@ -1,0 +1,93 @@
+use super::super::tests::{contours, points};
+use super::*;
+
+fn read(contour: &[Point]) -> (Reading, Result<Crunched, Refusal>) {
+    let mut cruncher = Cruncher::new();
+    let result = cruncher.crunch(contour);
+    (Reading::of(&mut cruncher, contour, &result), result)
+}
+
+fn reading(numbers: &[i16]) -> Reading {
+    read(&points(numbers)).0
+}
+
+const HILL: [i16; 18] = [0, 0, 1, 0, 60, 0, 40, 90, 1, 80, 120, 0, 130, 120, 1, 200, -40, 1];
+
+#[test]
+fn corners_and_breaks_are_told_apart() {
+    let hill = reading(&HILL);
+    assert_eq!(hill.corners, [0, 2, 3]);
+    assert_eq!(
+        hill.runs,
+        [Run { segments: 0..2, came: Came::Pieces(2) }, Run { segments: 2..3, came: Came::Pieces(1) },]
+    );
+    // in the order of the result: the last corner first, the implied joint third
+    assert_eq!(hill.joins, [Join::Corner, Join::Corner, Join::Break, Join::Corner]);
+    assert_eq!(hill.lost, [0; 0]);
+}
+
+fn assert_a_join_for_each_node(contour: &[Point]) {
+    let (reading, result) = read(contour);
+    let Ok(crunched) = result else {
+        return;
+    };
+    assert_eq!(reading.joins.len(), Outline::of(&crunched.points).nodes.len(), "{contour:?}");
+    if !reading.is_unchanged() {
+        let corners = reading.joins.iter().filter(|&&join| join == Join::Corner).count();
+        let unwritten = usize::from(reading.corners.first().is_some_and(|&first| first > 0));
+        assert_eq!(corners + unwritten, reading.corners.len(), "{contour:?}");
+    }
+}
+
+#[test]
+fn there_is_a_join_for_each_node() {
+    for contour in contours(2, 300) {
+        assert_a_join_for_each_node(&contour);
+    }
+}
+
+#[test]
+fn there_is_a_join_for_each_node_of_a_letter() {
+    let letter = include_str!("../../../../../../../examples/letter.txt");
+    // the two counters: the outer contour takes its time
+    for line in letter.lines().skip(1) {
+        let numbers: Vec<i16> = line.split(' ').map(|word| word.parse().unwrap()).collect();
+        assert_a_join_for_each_node(&points(&numbers));
+    }
+}
+
+#[test]
+fn what_lies_outside_the_corners_is_lost() {
+    // the closing curve
+    assert_eq!(reading(&[0, 0, 1, 100, 0, 1, 50, 100, 0]).lost, [1]);
+    // no corner at all
+    assert_eq!(reading(&[0, 0, 1, 10, 10, 0]).lost, [0]);
+    // a closing line is drawn by closing
+    assert_eq!(reading(&[0, 0, 1, 100, 0, 1, 0, 100, 1]).lost, [0; 0]);
+}
+
+#[test]
+fn a_start_that_is_no_corner() {
+    // the start lies within a straight edge
+    let square = reading(&[50, 0, 1, 100, 0, 1, 100, 100, 1, 0, 100, 1, 0, 0, 1]);
+    assert_eq!(square.corners, [1, 2, 3, 4]);
+    assert_eq!(square.joins, [Join::Corner, Join::Corner, Join::Corner, Join::Plain]);
+    assert_eq!(square.lost, [0, 4]);
+}
+
+#[test]
+fn an_unchanged_contour_has_plain_nodes() {
+    let still = reading(&[5, 5, 1, 5, 5, 0, 5, 5, 1]);
+    assert!(still.is_unchanged());
+    assert!(still.joins.iter().all(|&join| join == Join::Plain));
+    assert_eq!(still.lost, [0; 0]);
+}
+
+#[test]
+fn the_run_that_is_refused() {
+    let long = reading(&[0, 0, 1, 100, 0, 1, 800, 0, 0, 800, 700, 1, 0, 700, 1]);
+    assert_eq!(long.refused_run(), Some(0));
+    assert_eq!(long.runs[0].came, Came::Refused(Refusal::TooManyBreaks));
+    assert!(long.joins.is_empty());
+    assert_eq!(reading(&[0, 0, 0]), Reading::default());
+}
