@@ -2,3 +2,4 @@ pub mod Crunch
 pub mod Entry
 pub mod Stands
 pub mod Determine
+pub mod Laws
