@@ -30,7 +30,7 @@ lift-same a d p h =
     sym (div-eq-of-lt-le {k = n} d (omega (arith, div-mul-le-self a d)) (omega (arith, add-mul n 1 d)))
 
 -- ---- a whole number n as a float z, against m * 2 ^ e. p * 2 ^ g is n, so times what `lt` multiplies by
-scaled : (p : ℕ) (g : ℤ) (n : ℕ) (e : ℤ) → p * up g * 1 ≡ n * down g → p * up g * down e ≡ n * down e * down g
+pub scaled : (p : ℕ) (g : ℤ) (n : ℕ) (e : ℤ) → p * up g * 1 ≡ n * down g → p * up g * down e ≡ n * down e * down g
 scaled p g n e h = ap (λ (a : ℕ). a * down e) (sym (mul-one (p * up g)) ∙ h) ∙ mul-right-comm n (down g) (down e)
 
 below-whole : (z : Float) (n m : ℕ) (e : ℤ) → HasValue z true n 1 → lt (fin true m e) z ≡ true → n * down e < m * up e
@@ -45,7 +45,7 @@ not-below (fin false p g) n m e v h = absurd (false≢true (v .0))
 not-below (fin true p g) n m e v h =
     le-of-mul-le-mul-right (subst (λ (a : ℕ). m * up e * down g ≤ a) (scaled p g n e (v .1)) (ltb-false (p * up g * down e) (m * up e * down g) h)) (down-pos g)
 
-positive-below : (z : Float) (n m : ℕ) (e : ℤ) → HasValue z false n 1 → lt (fin false m e) z ≡ true → m * up e < n * down e
+pub positive-below : (z : Float) (n m : ℕ) (e : ℤ) → HasValue z false n 1 → lt (fin false m e) z ≡ true → m * up e < n * down e
 unfolding lt
 positive-below (fin true p g) n m e v h = absurd (true≢false (v .0))
 positive-below (fin false p g) n m e v h =

@@ -13,6 +13,6 @@ mod Read
 pub mod Table
 pub mod Decimals
 mod Exact
-mod Downward
+pub mod Downward
 mod Nearest
 mod Values

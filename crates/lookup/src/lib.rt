@@ -1,5 +1,6 @@
 // The lookup of module 5: a place and a direction in a row of samples [x, y, direction x, y], at a length.
 ghost use mathlib.Core.Path.{_≡_};
+ghost use Prim.Native.Nat.{_^_, _<_};
 ghost use lib.Ieee.{toUnsigned};
 ghost use Rattle.float.specs.Float.{fractOf};
 ghost use Rattle.lookup.specs.Lookup.{pointFrom, spotBetween, spotAt};
@@ -69,4 +70,34 @@ pub fn lookup(row: &[[f64; 4]], s: f64) -> Looked
         return Looked::Last;
     }
     Looked::At(between(row[b], row[b + 1], part(s, b)))
+}
+
+// The place of s, most often: 2^52 and s less half a unit is rounded to 2^52 and s cut, whose last digits
+// are the place. Its contract needs no more, since the guess is tested.
+fn likely(s: f64) -> usize
+    ensures { λ r. ⌜ r < 2 ^ 32 ⌝ }
+{
+    let half_below = 4503599627370495.5;
+    let z = s + half_below;
+    if z > half_below {
+        return (f64::to_bits(z) & 0xffff_ffff) as usize;
+    }
+    0
+}
+
+// The same, quick for what is most often asked for, an s with a fraction between two stored places. It is
+// a function of its own, so that the one loop that asks so often has it in place.
+pub fn quick_lookup(row: &[[f64; 4]], s: f64) -> Looked
+    ensures { λ r. ⌜ r ≡ spotAt (now (row .entry)) s ⌝ }
+{
+    let b = likely(s);
+    let f = b as f64;
+    if f < s {
+        if s < ((b + 1) as f64) {
+            if b + 1 < row.len() {
+                return Looked::At(between(row[b], row[b + 1], s - f));
+            }
+        }
+    }
+    lookup(row, s)
 }

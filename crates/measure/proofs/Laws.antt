@@ -112,7 +112,7 @@ module _ (row : List (List Float)) (m : MeasureFunctor) where
   step-flat i e = rw is-longer (two-values (applyOf row m) speed term rates-are tenth (timeAt tenth i) (lengthAt (m .af) i) e)
 
 -- the error after one more step
-pub sums-next : (g : List Float) (e : Float) (i : ℕ) → e ≡ sumsOf g i →
-    grownBy tenth e (getD g (4 * i) nan) (getD g (4 * i + 1) nan) (getD g (4 * i + 2) nan) (getD g (4 * i + 3) nan) ≡ sumsOf g (i + 1)
+pub sums-next : (g : ℕ → Float) (e a b c d : Float) (i : ℕ) → e ≡ sumsOf g i → a ≡ g (4 * i) → b ≡ g (4 * i + 1) → c ≡ g (4 * i + 2) → d ≡ g (4 * i + 3) →
+    grownBy tenth e a b c d ≡ sumsOf g (i + 1)
 unfolding sumsOf
-sums-next g e i p = rw (add-one i, p)
+sums-next g e a b c d i p at-a at-b at-c at-d = rw (add-one i, p, at-a, at-b, at-c, at-d)

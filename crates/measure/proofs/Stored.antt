@@ -1,37 +1,43 @@
--- The 40 terms against the ten steps: where all are there their sum is the error, and the first refused one ends the steps. Assumes nothing.
+-- The 40 stages against the ten steps: where something is seen at all the sum of the terms is the error, and the first refused one ends the
+-- steps. Assumes nothing.
 use Prim.Native.Nat.{ℕ, zero, suc, _+_, _*_, _/_, _%_, _≤_, _<_}
 use mathlib.Core.Path.{_≡_, sym, _∙_}
 use mathlib.Core.List.{List, [], _∷_}
+use native.Mathlib.Numerals.{add-one}
 use native.Mathlib.Omega.{arith}
 use borrow.Author.Count.{below-more}
 use lib.ListN.{length, set, getD}
 use lib.Seq.{getD-set-same, getD-set-other}
-use lib.Ieee.{Float, nan}
-use Rattle.arclen.specs.Rk4.{at, rk4}
+use lib.Ieee.{Float, nan, binary64, add}
+use Rattle.arclen.specs.Rk4.{halfOf, at, rk4}
 use Rattle.arclen.specs.Arclen.{tenth}
-use Rattle.arclen.specs.Stages.{timeAt, lengthAt, Written}
+use Rattle.arclen.specs.declared.ArclenFunctor.{ArclenFunctor}
+use Rattle.arclen.specs.Stages.{timeAt, lengthAt, stageOf, Written}
 use Rattle.arclen.proofs.Laws.{ends, reach, all-steps, stage-first, stage-next}
-use Rattle.measure.specs.Measure.{applyOf, walkedBy}
-use Rattle.measure.specs.Terms.{measured, sumsOf}
+use Rattle.lookup.specs.Lookup.{spotAt}
+use Rattle.lookup.specs.declared.Looked.the-variants as Looking
+use Rattle.measure.specs.Measure.{alongSamples, applyOf, walkedBy}
+use Rattle.measure.specs.Terms.{measured, spotIn, termIn, sumsOf, Seen}
 use Rattle.measure.specs.declared.MeasureFunctor.{MeasureFunctor}
 use Rattle.measure.specs.declared.Measured.{Measured}
 use Rattle.measure.specs.declared.Measured.the-variants.{Last}
-use Rattle.measure.proofs.Laws.{summed, rateOf, part, step-flat}
+use Rattle.measure.proofs.Laws.{term-at, term-last, summed, rateOf, part, step-flat}
 
--- the terms below k are stored
-pub record Stored (r : ℕ → Measured) (g : List Float) (k : ℕ) : Type 0 where
-  pub is : (j : ℕ) → j < k → r j ≡ measured (getD g j nan)
-
-pub none : {r : ℕ → Measured} {g : List Float} → Stored r g 0
+pub none : {row : List (List Float)} {m : MeasureFunctor} {stages seen : List (List Float)} → Seen row m stages seen 0
 none = record { is = λ j less. absurd (omega arith) }
 
-pub one-more : {r : ℕ → Measured} {g : List Float} {k : ℕ} {z : Float} → Stored r g k → k < length g → r k ≡ measured z → Stored r (set g k z) (k + 1)
-one-more {r} {g} {k} {z} all h e =
+pub one-more : {row : List (List Float)} {m : MeasureFunctor} {stages seen : List (List Float)} {k : ℕ} (a : List Float) → Seen row m stages seen k →
+    k < length seen → spotAt row (alongSamples m (getD (getD stages k []) 2 nan)) ≡ Looking.At (spotIn a) → Seen row m stages (set seen k a) (k + 1)
+one-more {row} {m} {stages} {seen} {k} a all h e =
     record {
-      is = below-more _ k (λ j less. rw (getD-set-other g k j z nan (λ same. omega arith)) (all .is j less)) (rw (getD-set-same g k z nan h) e);
+      is = below-more _ k (λ j less. rw (getD-set-other seen k j a [] (λ same. omega arith)) (all .is j less)) (rw (getD-set-same seen k a [] h) e);
     }
 
-module _ (row : List (List Float)) (m : MeasureFunctor) (stages : List (List Float)) (w : Written (m .af) stages) (g : List Float) where
+module _ (row : List (List Float)) (m : MeasureFunctor) (stages : List (List Float)) (w : Written (m .af) stages) (seen : List (List Float)) where
+  -- the terms of what is seen
+  abbrev g : ℕ → Float
+  g = termIn (m .af) (m .q) stages seen
+
   abbrev rate : ℕ → Measured
   rate k = rateOf row m (getD stages k [])
 
@@ -45,12 +51,15 @@ module _ (row : List (List Float)) (m : MeasureFunctor) (stages : List (List Flo
   abbrev after : ℕ → List Float
   after i = lengthAt (m .af) i ∷ sumsOf g i ∷ []
 
-  module _ (k : ℕ) (within : k ≤ 40) (all : Stored rate g k) where
-    got-first : (i : ℕ) → 4 * i < k → part row m i 0 ≡ measured (getD g (4 * i) nan)
-    got-first i h = part-first i (omega arith) ∙ all .is (4 * i) h
+  module _ (k : ℕ) (within : k ≤ 40) (all : Seen row m stages seen k) where
+    got : (j : ℕ) → j < k → rate j ≡ measured (g j)
+    got j less = term-at row m _ _ _ _ (all .is j less)
 
-    got-next : (i j : ℕ) → j < 4 → 4 * i + j < k → part row m i j ≡ measured (getD g (4 * i + j) nan)
-    got-next i j less h = part-next i j (omega arith) less ∙ all .is (4 * i + j) h
+    got-first : (i : ℕ) → 4 * i < k → part row m i 0 ≡ measured (g (4 * i))
+    got-first i h = part-first i (omega arith) ∙ got (4 * i) h
+
+    got-next : (i j : ℕ) → j < 4 → 4 * i + j < k → part row m i j ≡ measured (g (4 * i + j))
+    got-next i j less h = part-next i j (omega arith) less ∙ got (4 * i + j) h
 
     step-done : (i : ℕ) → 4 * i + 3 < k → rk4 (applyOf row m) tenth (timeAt tenth i) (after i) ≡ at (after (suc i))
     unfolding sumsOf summed
@@ -86,14 +95,32 @@ module _ (row : List (List Float)) (m : MeasureFunctor) (stages : List (List Flo
         )
     step-refused i (suc (suc (suc (suc j)))) h p less e = absurd (omega arith)
 
-    pub broken : k < 40 → rate k ≡ Last → Last ≡ walkedBy row m
+    -- the lookup k is refused
+    pub broken : k < 40 → spotAt row (alongSamples m (getD (getD stages k []) 2 nan)) ≡ Looking.Last → Last ≡ walkedBy row m
     unfolding walkedBy lengthAt sumsOf
     broken less e =
         sym (rw (reach (applyOf row m) tenth 10 after (k / 4) (omega arith) (λ n h. step-done n (omega arith))
         ∙ ends (applyOf row m) tenth (timeAt tenth (k / 4)) (after (k / 4)) 10 (k / 4) (omega arith)
-        (step-flat row m (k / 4) (sumsOf g (k / 4)) ∙ rw (step-refused (k / 4) (k % 4) (omega arith) (omega arith) (omega arith) e))))
+        (step-flat row m (k / 4) (sumsOf g (k / 4)) ∙ rw (step-refused (k / 4) (k % 4) (omega arith) (omega arith) (omega arith) (term-last row m _ _ _ e)))))
 
-  -- all terms are there
-  pub whole : Stored rate g 40 → measured (sumsOf g 10) ≡ walkedBy row m
+  -- all is seen
+  pub whole : Seen row m stages seen 40 → measured (sumsOf g 10) ≡ walkedBy row m
   unfolding walkedBy lengthAt sumsOf
   whole all = sym (rw (all-steps (applyOf row m) tenth 10 after (λ n h. step-done 40 (omega arith) all n (omega arith))))
+
+-- the times of the stages of the step i: the middle ones have one, and the last is the time of the next step
+module _ (f : ArclenFunctor) (stages : List (List Float)) (w : Written f stages) (i : ℕ) (less : i < 10) where
+  abbrev time : ℕ → Float
+  time k = getD (getD stages k []) 0 nan
+
+  pub starts : timeAt tenth i ≡ time (4 * i)
+  unfolding stageOf
+  starts = sym (rw (w .is (4 * i) (omega arith), stage-first f i))
+
+  pub middles : time (4 * i + 1) ≡ time (4 * i + 2)
+  unfolding stageOf
+  middles = rw (w .is (4 * i + 1) (omega arith), w .is (4 * i + 2) (omega arith), stage-next f i 1 (omega arith), stage-next f i 2 (omega arith))
+
+  pub follows : time (4 * i + 3) ≡ timeAt tenth (i + 1)
+  unfolding stageOf timeAt
+  follows = rw (w .is (4 * i + 3) (omega arith), stage-next f i 3 (omega arith), add-one i)

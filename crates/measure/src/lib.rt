@@ -2,9 +2,10 @@
 // flat form. The rate of the length looks at the time alone, so that the 40 stages are known before the
 // first lookup, no root is taken twice, and no lookup waits for a term.
 ghost use mathlib.Core.Path.{_≡_};
+ghost use lib.ListN.{length};
 ghost use Rattle.arclen.specs.Stages.{Written};
 ghost use Rattle.measure.specs.Measure.{errorOf, stretchOf, walkedBy, measureOf};
-ghost use Rattle.measure.specs.Terms.{termOf, sumsOf};
+ghost use Rattle.measure.specs.Terms.{nodeOf, rateAt, termIn, sumsOf, Looks};
 use arclen::ArclenFunctor;
 use geometry::Point;
 use geometry::Quad;
@@ -50,42 +51,83 @@ fn stretch(s0: f64, s1: f64, length: f64) -> f64
     }
 }
 
-// The error from the 40 terms.
-fn total(terms: &[f64; 40]) -> f64
-    ensures { λ r. ⌜ r ≡ sumsOf (now (terms .entry)) 10 ⌝ }
+// Where a quad is at a time, and its derivative there.
+struct Node {
+    p: Point,
+    d: Point,
+}
+
+fn node_at(af: ArclenFunctor, q: Quad, t: f64) -> Node
+    ensures { λ r. ⌜ r ≡ nodeOf af q t ⌝ }
+{
+    let p = q.point_at_t(t);
+    let d = af.deriv(t);
+    Node { p, d }
+}
+
+// The rate of the error at a node with the speed v, where the samples have the place and the direction
+// seen.
+fn term(n: Node, v: f64, seen: [f64; 4]) -> f64
+    ensures { λ r. ⌜ r ≡ rateAt n v seen ⌝ }
+{
+    let xy = Point {
+        x: seen[0],
+        y: seen[1],
+    };
+    let dir = Point {
+        x: seen[2],
+        y: seen[3],
+    };
+    error(v, n.d, n.p, xy, dir)
+}
+
+// The error from the 40 stages and what is seen there. The two middle stages of a step have one node, and
+// a step's last node is the next one's first: 21 nodes serve ten steps.
+fn total(af: ArclenFunctor, q: Quad, stages: &[[f64; 3]; 40], seen: &[[f64; 4]; 40]) -> f64
+    requires { ⌜ Written af (now stages) ⌝ }
+    ensures { λ r. ⌜ r ≡ sumsOf (termIn af q (now (stages .entry)) (now (seen .entry))) 10 ⌝ }
 {
     let h = 1.0 / 10.0;
     let mut e = 0.0;
+    let mut n = node_at(af, q, 0.0);
     let mut i = 0usize;
     while i < 10 {
-        e = arclen::grown(
-            h,
-            e,
-            terms[4 * i],
-            terms[4 * i + 1],
-            terms[4 * i + 2],
-            terms[4 * i + 3],
-        );
+        let first = stages[4 * i];
+        let second = stages[4 * i + 1];
+        let third = stages[4 * i + 2];
+        let last = stages[4 * i + 3];
+        let middle = node_at(af, q, second[0]);
+        let end = node_at(af, q, last[0]);
+        let a = term(n, first[1], seen[4 * i]);
+        let b = term(middle, second[1], seen[4 * i + 1]);
+        let c = term(middle, third[1], seen[4 * i + 2]);
+        let d = term(end, last[1], seen[4 * i + 3]);
+        e = arclen::grown(h, e, a, b, c, d);
+        n = end;
         i += 1;
     }
     e
 }
 
 impl MeasureFunctor {
-    // The rate of the error at the time t, with the speed v there and the length y.
-    fn apply(self, row: &[[f64; 4]], t: f64, v: f64, y: f64) -> Measured
-        ensures { λ r. ⌜ r ≡ termOf (now (row .entry)) self t v y ⌝ }
+    // Writes what the samples have at the 40 stages, [x, y, direction x, y], before any term is taken. The
+    // first refused lookup ends it.
+    fn look(self, row: &[[f64; 4]], stages: &[[f64; 3]; 40], seen: &mut [[f64; 4]; 40]) -> bool
+        requires { ⌜ Written (self .af) (now stages) × (length (now seen) ≡ 40) ⌝ }
+        ensures { λ r. ⌜ Looks (now (row .entry)) self (now (stages .entry)) (now (seen .exit)) r ⌝ }
     {
-        let Looked::At(spot) = lookup::lookup(row, self.s0 + y * self.ss) else {
-            return Measured::Last;
-        };
-        let af = self.af;
-        let q = self.q;
-        let xy = spot.xy;
-        let dir = spot.dir;
-        Measured::At(Measure {
-            error: error(v, af.deriv(t), q.point_at_t(t), xy, dir),
-        })
+        let mut k = 0usize;
+        while k < 40 {
+            let stage = stages[k];
+            let Looked::At(spot) = lookup::quick_lookup(row, self.s0 + stage[2] * self.ss) else {
+                return false;
+            };
+            let xy = spot.xy;
+            let dir = spot.dir;
+            seen[k] = [xy.x, xy.y, dir.x, dir.y];
+            k += 1;
+        }
+        true
     }
 
     // The error from the 40 stages, of which the first refused one ends the work.
@@ -93,19 +135,15 @@ impl MeasureFunctor {
         requires { ⌜ Written (self .af) (now stages) ⌝ }
         ensures { λ r. ⌜ r ≡ walkedBy (now (row .entry)) self ⌝ }
     {
-        let mut terms = [0.0; 40];
-        let mut k = 0usize;
-        while k < 40 {
-            let stage = stages[k];
-            let Measured::At(term) = self.apply(row, stage[0], stage[1], stage[2]) else {
-                return Measured::Last;
-            };
-            terms[k] = term.error;
-            k += 1;
+        let af = self.af;
+        let q = self.q;
+        let mut seen = [[0.0; 4]; 40];
+        if self.look(row, stages, &mut seen) {
+            return Measured::At(Measure {
+                error: total(af, q, stages, &seen),
+            });
         }
-        Measured::At(Measure {
-            error: total(&terms),
-        })
+        Measured::Last
     }
 }
 
