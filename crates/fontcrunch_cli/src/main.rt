@@ -5,6 +5,10 @@ mod out;
 
 use libc::STDIN_FILENO;
 use lines::Fed;
+ghost use mathlib.Core.Path.{_≡_};
+ghost use Prim.Native.Nat.{_≤_};
+ghost use lib.ListN.{length, take};
+ghost use Rattle.fontcrunch_cli.specs.Answer.{placeOf, Answered};
 
 // What the buffers hold between chunks: bytes of the line under way, and of the output.
 pub struct Held {
@@ -13,7 +17,11 @@ pub struct Held {
 }
 
 // A line that is whole.
-fn take_line(text: &mut [u8], line: &[u8], held: Held, n: usize) -> Held {
+fn take_line(text: &mut [u8], line: &[u8], held: Held, n: usize) -> Held
+    ensures kept { λ r. ⌜ r .used ≡ 0 ⌝ }
+    ensures answered { λ r. ⌜ (n ≤ length (now (line .entry)) →
+        Answered (now (text .entry)) (placeOf (length (now (text .entry))) (held .at)) (take n (now (line .entry))) (now (text .exit)) (r .at)) ⌝ }
+{
     let at = held.at;
     if n <= line.len() {
         let end = answer::put_answer(text, at, &line[..n]);

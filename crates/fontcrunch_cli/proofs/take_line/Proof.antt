@@ -1,6 +1,7 @@
 -- `fontcrunch_cli::take_line` meets its contract. Assumes nothing.
-use mathlib.Core.Path.{sym}
+use mathlib.Core.Path.{refl, sym}
 use borrow.Author.Needs.{needs}
+use native.Mathlib.Omega.{arith}
 use lib.Seq.{length-take-le}
 use Rattle.fontcrunch_cli.proofs.take_line.Statement.{statement}
 use Rattle.fontcrunch_cli.proofs.take_line.Tie as tie
@@ -15,10 +16,10 @@ same-length : tie.Need-same-length
 same-length c = search needs
 
 returns : tie.Need-returns
-returns c = tt
+returns c = (refl, λ h. c .before .before .put-answer .ensures)
 
 returns-2 : tie.Need-returns-2
-returns-2 c = tt
+returns-2 c = (refl, λ h. absurd (omega arith))
 
 pub take-line-spec : {M : Type 1} → statement M
 take-line-spec =

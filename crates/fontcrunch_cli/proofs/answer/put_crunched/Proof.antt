@@ -1,7 +1,7 @@
 -- `fontcrunch_cli::answer::put_crunched` meets its contract. Assumes nothing.
 use borrow.Author.Needs.{needs}
 use mathlib.Core.Path.{refl, sym}
-use Rattle.fontcrunch_cli.proofs.Answers.{fits}
+use Rattle.fontcrunch_cli.proofs.Answers.{fits, says-refused, says-ok}
 use Rattle.fontcrunch_cli.proofs.answer.put_crunched.Statement.{statement}
 use Rattle.fontcrunch_cli.proofs.answer.put_crunched.Tie as tie
 
@@ -61,13 +61,20 @@ same-length : tie.Need-same-length
 same-length c = c .before .before .put-refused .kept .0
 
 returns : tie.Need-returns
-returns c = tt
+returns c =
+    let called = c .before .before .before .before .before .before .before .before .before .before .before .before .before .before .before in
+    let args = called .before .before .before .before .before .before .before .before .before .before .before .args in
+    says-refused (args .xs .now) (args .ys .now) (args .flags .now) (called .crunch-contour .ensures .1) (c .before .before .before .before .before .k .given .1) (c .before .before .put-refused .ensures)
 
 same-length-2 : tie.Need-same-length-2
 same-length-2 c = c .before .before .put-ok .kept .0
 
 returns-2 : tie.Need-returns-2
-returns-2 c = tt
+returns-2 c =
+    let called = c .before .before .before .before .before .before .before .before .before .before .before .before .before .before .before .before .before .before in
+    let args = called .before .before .before .before .before .before .before .before .before .before .before .args in
+    let rows = called .crunch-contour .last .1 .1 .1 in
+    says-ok (args .xs .now) (args .ys .now) (args .flags .now) (called .crunch-contour .ensures .1) (rows .0) (rows .1 .0) (rows .1 .1 .0) (called .crunch-contour .ensures .0) (c .before .before .before .before .before .before .before .before .n .given .1) (c .before .before .put-ok .ensures)
 
 pub put-crunched-spec : {M : Type 1} → statement M
 put-crunched-spec =

@@ -1,17 +1,9 @@
--- `fontcrunch_cli::answer::put_read` meets its contract: the part of each row that is lent lies in it. Assumes nothing.
-use Prim.Native.Nat.{ℕ, _≤_, min}
+-- `fontcrunch_cli::answer::put_read` meets its contract. Assumes nothing.
 use borrow.Author.Needs.{needs}
-use mathlib.Core.Path.{_≡_, sym, refl, _∙_}
-use native.Mathlib.Omega.{arith}
-use lib.ListN.{length, take}
-use lib.Seq.{length-take-le}
-use mathlib.Core.List.{List}
+use mathlib.Core.Path.{refl}
+use Rattle.fontcrunch_cli.proofs.Lines.{part, says-malformed, says-points}
 use Rattle.fontcrunch_cli.proofs.answer.put_read.Statement.{statement}
 use Rattle.fontcrunch_cli.proofs.answer.put_read.Tie as tie
-
--- so many places of a row of 1,025
-part : {A : Type 0} (n : ℕ) {m : ℕ} (row : List A) → m ≡ min n 1025 → length row ≡ 1025 → m ≡ length (take m row)
-part n {m} row least long = sym (length-take-le m row (omega arith))
 
 slice-aggregate-parse : tie.Need-slice-aggregate-parse
 slice-aggregate-parse c = refl
@@ -65,13 +57,20 @@ same-length : tie.Need-same-length
 same-length c = search needs
 
 returns : tie.Need-returns
-returns c = tt
+returns c =
+    let called = c .before .before .before .before .before .before .before .before .before .before in
+    let rows = called .parse .last .1 in
+    says-malformed (called .before .before .before .before .before .before .args .line .now) (rows .0) (rows .1 .0) (rows .1 .1 .0) (called .parse .ensures) (c .before .before .before .before .before .enum-told .given .1) (c .before .before .put-all .ensures)
 
 same-length-2 : tie.Need-same-length-2
 same-length-2 c = search needs
 
 returns-2 : tie.Need-returns-2
-returns-2 c = tt
+returns-2 c =
+    let called = c .before .before .before .before .before .before .before .before .before .before .before .before .before .before in
+    let rows = called .parse .last .1 in
+    let kept = called .parse .kept .1 in
+    says-points (called .before .before .before .before .before .before .args .line .now) (rows .0) (rows .1 .0) (rows .1 .1 .0) (called .parse .ensures) _ (kept .0) (kept .1 .0) (kept .1 .1 .0) (c .before .before .before .before .before .before .before .before .before .n .given .1) (c .before .before .before .before .before .before .before .least .ensures) (c .before .before .put-crunched .ensures)
 
 pub put-read-spec : {M : Type 1} → statement M
 put-read-spec =

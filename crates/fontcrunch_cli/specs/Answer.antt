@@ -1,0 +1,57 @@
+-- The answer to a line, and where it is put. Definitions only.
+use Prim.Native.Nat.{ℕ, _+_}
+use mathlib.Core.Bool.{Bool, true, false}
+use mathlib.Core.List.{List, [], _∷_, map}
+use mathlib.Core.Option.{Option, none, some}
+use lib.Dec.{leb}
+use lib.IntN.{ℤ}
+use lib.ListN.{length}
+use Rattle.float.specs.Numbers.{one}
+use Rattle.breaks.specs.Breaks.{halfGrid}
+use Rattle.contour.specs.Output.{column, flags}
+use Rattle.edition.specs.Edition.{Rooms}
+use Rattle.crunch.specs.Crunch.{Outcome, refused, crunched, crunchOf}
+use Rattle.lines.specs.Text.{Put}
+use Rattle.lines.specs.Line.{Point, parsedOf}
+use Rattle.lines.specs.Answer.{okText, refusedText}
+
+-- document 01's full rooms
+abbrev pub fullRooms : Rooms
+fullRooms = record { samples = 16384; breaks = 2048; answers = 4096; links = 4096 }
+
+abbrev pub outcomeText : Outcome → List ℕ
+outcomeText (refused k) = refusedText k
+outcomeText (crunched ps pairs) = okText (column 0 ps) (column 1 ps) (flags ps) pairs (length ps)
+
+-- of a contour
+unfoldable pub answerText : List ℤ → List ℤ → List ℕ → List ℕ
+answerText xs ys fs = outcomeText (crunchOf fullRooms 16384 halfGrid one xs ys fs)
+
+-- `malformed`
+abbrev pub malformedWord : List ℕ
+malformedWord = 109 ∷ 97 ∷ 108 ∷ 102 ∷ 111 ∷ 114 ∷ 109 ∷ 101 ∷ 100 ∷ []
+
+abbrev pub parsedText : Option (List Point) → List ℕ
+parsedText (some ps) = answerText (map (λ (p : Point). p .x) ps) (map (λ (p : Point). p .y) ps) (map (λ (p : Point). p .flag) ps)
+parsedText none = malformedWord
+
+-- of a line, without its end
+unfoldable pub lineText : List ℕ → List ℕ
+lineText line = parsedText (parsedOf line)
+
+-- ---- where it is put
+
+-- at a place with room for the longest answer, 16,384 points of at most 18 bytes; else at the start
+abbrev pub placeIf : Bool → ℕ → ℕ
+placeIf true at = at
+placeIf false at = 0
+
+abbrev pub placeOf : ℕ → ℕ → ℕ
+placeOf n at = placeIf (leb (at + 300000) n) at
+
+-- the answer, and byte 10 after it
+pub record Answered (out : List ℕ) (at : ℕ) (line out' : List ℕ) (r : ℕ) : Type 0 where
+  pub middle : List ℕ
+  pub end : ℕ
+  pub answer : Put out at (lineText line) middle end
+  pub ended : Put middle end (10 ∷ []) out' r
