@@ -12,7 +12,7 @@ use lib.Ieee.{Float, nan, inf, fin, binary64, lt, eq, ofBits, up, down}
 use Rattle.float.specs.Float.{rootOf, rootUnits}
 use Rattle.geometry.specs.Geometry.{squareNormOf}
 use Rattle.arclen.specs.Arclen.{derivOf, speedOf}
-use Rattle.arclen.specs.Stages.{Paced, paceOf}
+use Rattle.arclen.specs.Stages.{Paced, paceWith, paceOf}
 use Rattle.arclen.specs.declared.ArclenFunctor.{ArclenFunctor}
 use Rattle.arclen.specs.declared.Pace.{Pace}
 
@@ -67,12 +67,11 @@ pub paced : (f : ArclenFunctor) (t : Float) (p : Pace) → p ≡ paceOf f t → 
 unfolding speedOf
 paced f t p e = rw e
 
--- the two ways to a pace, of the square s
-module _ (f : ArclenFunctor) (t s : Float) (is : s ≡ squareNormOf (derivOf f t)) where
-  pub taken : (v : Float) → v ≡ rootOf s → record { square = s; speed = v } ≡ paceOf f t
-  unfolding speedOf
-  taken v e = rw (e, is)
+-- the last pace's speed serves a square that compares as equal to the last one
+pub kept : (last : Pace) (s : Float) → Paced last → lt (ofBits binary64 0) s ≡ true → eq s (last .square) ≡ true → record { square = s; speed = last .speed } ≡ paceWith s
+kept last s w above same = rw (w ∙ sym (same-root s (last .square) above same))
 
-  pub kept : (last : Pace) → Paced last → lt (ofBits binary64 0) s ≡ true → eq s (last .square) ≡ true →
-      record { square = s; speed = last .speed } ≡ paceOf f t
-  kept last w above same = taken (last .speed) (w ∙ sym (same-root s (last .square) above same))
+-- the pace of the square at t
+pub of-square : (f : ArclenFunctor) (t s : Float) → s ≡ squareNormOf (derivOf f t) → paceWith s ≡ paceOf f t
+unfolding speedOf
+of-square f t s is = rw is

@@ -2,4 +2,5 @@
 pub mod Laws
 pub mod Again
 mod Walking
+mod Filling
 mod Values

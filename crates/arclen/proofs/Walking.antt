@@ -10,10 +10,9 @@ use lib.Seq.{getD-set-same, getD-set-other}
 use lib.Ieee.{Float, binary64, add, mul}
 use Rattle.float.specs.Numbers.{nil}
 use Rattle.arclen.specs.Rk4.{halfOf, grownBy}
-use Rattle.arclen.specs.Arclen.{tenth}
-use Rattle.arclen.specs.Stages.{paceOf, timeAt, lengthAt, stageOf, stageAt, Walked}
+use Rattle.arclen.specs.Arclen.{tenth, speedOf}
+use Rattle.arclen.specs.Stages.{timeAt, lengthAt, stageOf, stageAt, Walked}
 use Rattle.arclen.specs.declared.ArclenFunctor.{ArclenFunctor}
-use Rattle.arclen.specs.declared.Pace.{Pace}
 use Rattle.arclen.proofs.Laws.{is-longer, stage-first, stage-next}
 
 -- a row that holds g k at each place k below i holds one more after a store
@@ -39,13 +38,12 @@ stored4 g l i x0 x1 x2 x3 forty less e0 e1 e2 e3 all k h =
     (λ k3 b3. stored [] g l2 (4 * i + 2) x2 h2 e2
     (λ k2 b2. stored [] g l1 (4 * i + 1) x1 h1 e1 (stored [] g l (4 * i) x0 h0 e0 all) k2 (omega arith)) k3 (omega arith)) k (omega arith)
 
--- i steps are gone, and t, y and p are the time, the length and the pace there
-pub record Walking (f : ArclenFunctor) (stages : List (List Float)) (t y : Float) (p : Pace) (i : ℕ) : Type 0 where
+-- i steps are gone, and t and y are the time and the length there
+pub record Walking (f : ArclenFunctor) (stages : List (List Float)) (t y : Float) (i : ℕ) : Type 0 where
   pub forty : length stages ≡ 40
   pub within : i ≤ 10
   pub time : t ≡ timeAt tenth i
   pub long : y ≡ lengthAt f i
-  pub pace : p ≡ paceOf f t
   pub done : (k : ℕ) → k < 4 * i → getD stages k [] ≡ stageAt f k
 
 -- the four stages of a step, with the speeds a, b and d
@@ -61,37 +59,34 @@ four stages i t y a b d =
     (add binary64 t tenth ∷ d ∷ add binary64 y (mul binary64 tenth b) ∷ [])
 
 module _ {f : ArclenFunctor} {stages : List (List Float)} where
-  pub none : {p : Pace} → length stages ≡ 40 → p ≡ paceOf f nil → Walking f stages nil nil p 0
+  pub none : length stages ≡ 40 → Walking f stages nil nil 0
   unfolding timeAt lengthAt
-  none e q =
+  none e =
       record {
         forty = e;
         within = omega arith;
         time = refl;
         long = refl;
-        pace = q;
         done = λ k less. absurd (omega arith);
       }
 
-  pub more : {t y z : Float} {p m e : Pace} {i : ℕ} → Walking f stages t y p i → i < 10 →
-      m ≡ paceOf f (add binary64 t (halfOf tenth)) → e ≡ paceOf f (add binary64 t tenth) →
-      z ≡ grownBy tenth y (p .speed) (m .speed) (m .speed) (e .speed) →
-      Walking f (four stages i t y (p .speed) (m .speed) (e .speed)) (add binary64 t tenth) z e (i + 1)
+  pub more : {t y z a b d : Float} {i : ℕ} → Walking f stages t y i → i < 10 →
+      a ≡ speedOf f t → b ≡ speedOf f (add binary64 t (halfOf tenth)) → d ≡ speedOf f (add binary64 t tenth) → z ≡ grownBy tenth y a b b d →
+      Walking f (four stages i t y a b d) (add binary64 t tenth) z (i + 1)
   unfolding timeAt lengthAt stageOf
-  more {t} {y} {z} {p} {m} {e} {i} w less middle end grows =
+  more {t} {y} {z} {a} {b} {d} {i} w less first middle end grows =
       record {
         forty = simp length-set (w .forty);
         within = omega arith;
         time = rw (add-one, w .time);
-        long = rw (grows, w .pace, middle, end, w .long, w .time, add-one i, is-longer);
-        pace = end;
+        long = rw (grows, first, middle, end, w .long, w .time, add-one i, is-longer);
         done =
-            stored4 (stageAt f) stages i _ _ _ _ (w .forty) less (rw (stage-first f i, w .pace, w .long, w .time))
-            (rw (stage-next f i 1 (omega arith), w .pace, middle, w .long, w .time)) (rw (stage-next f i 2 (omega arith), middle, w .long, w .time))
+            stored4 (stageAt f) stages i _ _ _ _ (w .forty) less (rw (stage-first f i, first, w .long, w .time))
+            (rw (stage-next f i 1 (omega arith), first, middle, w .long, w .time)) (rw (stage-next f i 2 (omega arith), middle, w .long, w .time))
             (rw (stage-next f i 3 (omega arith), middle, end, w .long, w .time)) (w .done);
       }
 
-  pub all : {t y : Float} {p : Pace} {i : ℕ} → Walking f stages t y p i → 10 ≤ i → Walked f stages y
-  all {t} {y} {p} {i} w h =
+  pub all : {t y : Float} {i : ℕ} → Walking f stages t y i → 10 ≤ i → Walked f stages y
+  all {t} {y} {i} w h =
       let end : i ≡ 10 = omega arith in
       record { written = record { is = λ k less. w .done k (omega arith) }; whole = w .long ∙ rw end }

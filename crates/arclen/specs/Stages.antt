@@ -3,8 +3,8 @@
 use Prim.Native.Nat.{ℕ, zero, suc, _/_, _%_, _<_}
 use mathlib.Core.Path.{_≡_}
 use mathlib.Core.List.{List, [], _∷_}
-use lib.ListN.{getD}
-use lib.Ieee.{Float, binary64, add, mul}
+use lib.ListN.{length, getD}
+use lib.Ieee.{Float, nan, binary64, add, mul}
 use Rattle.float.specs.Numbers.{nil}
 use Rattle.float.specs.Float.{rootOf}
 use Rattle.geometry.specs.Geometry.{squareNormOf}
@@ -17,6 +17,9 @@ use Rattle.arclen.specs.declared.Reached.{Reached}
 -- a speed with its square
 abbrev pub Paced : Pace → Type 0
 Paced p = p .speed ≡ rootOf (p .square)
+
+abbrev pub paceWith : Float → Pace
+paceWith square = record { square = square; speed = rootOf square }
 
 abbrev pub paceOf : ArclenFunctor → Float → Pace
 paceOf f t = record { square = squareNormOf (derivOf f t); speed = speedOf f t }
@@ -33,6 +36,23 @@ timeAt h (suc i) = add binary64 (timeAt h i) h
 unfoldable pub lengthAt : ArclenFunctor → ℕ → Float
 lengthAt f zero = nil
 lengthAt f (suc i) = rk4One f tenth (timeAt tenth i) (lengthAt f i)
+
+-- the time at the place k of 21: where the step k / 2 starts, or in its middle
+abbrev pub within : Float → ℕ → Float
+within t zero = t
+within t (suc j) = add binary64 t (halfOf tenth)
+
+unfoldable pub placeAt : ℕ → Float
+placeAt k = within (timeAt tenth (k / 2)) (k % 2)
+
+-- below k of 21 places the squares of the speeds are written
+pub record Squares (f : ArclenFunctor) (v : List Float) (k : ℕ) : Type 0 where
+  pub long : length v ≡ 21
+  pub is : (j : ℕ) → j < k → getD v j nan ≡ squareNormOf (derivOf f (placeAt j))
+
+-- below k the roots of what w holds are written
+pub record Roots (w v : List Float) (k : ℕ) : Type 0 where
+  pub is : (j : ℕ) → j < k → getD v j nan ≡ rootOf (getD w j nan)
 
 -- a stage: its time, the speed there, and the length that RK4 takes to be reached there
 abbrev pub stage : ArclenFunctor → Float → Float → List Float

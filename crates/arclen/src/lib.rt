@@ -1,11 +1,12 @@
 // Module 4: the derivative of a quad, and its length by RK4. The rate of the length does not look at the
 // length, so that the two middle rates of a step are one, and a step's last rate is the next one's first:
-// 21 speeds serve ten steps.
+// 21 speeds serve ten steps. Their roots are taken in a loop of their own, where they overlap.
 ghost use mathlib.Core.Path.{_≡_};
 ghost use lib.ListN.{length};
 ghost use Rattle.arclen.specs.Rk4.{grownBy};
 ghost use Rattle.arclen.specs.Arclen.{arclenFunctorOf, derivOf, arclenOf};
-ghost use Rattle.arclen.specs.Stages.{Paced, paceOf, reachedBy, Walked};
+ghost use Rattle.arclen.specs.Stages.{Paced, paceWith, paceOf, reachedBy, Squares, Roots, Walked};
+ghost use Rattle.geometry.specs.Geometry.{squareNormOf};
 use geometry::Point;
 use geometry::Quad;
 
@@ -39,6 +40,26 @@ impl Pace {
             speed: 0.0,
         }
     }
+
+    // The pace of a square. Where it is that of the last pace, as all along a line, the root is not taken
+    // again.
+    fn next(self, square: f64) -> Self
+        requires { ⌜ Paced self ⌝ }
+        ensures { λ r. ⌜ r ≡ paceWith square ⌝ }
+    {
+        if square > 0.0 {
+            if square == self.square {
+                return Pace {
+                    square,
+                    speed: self.speed,
+                };
+            }
+        }
+        Pace {
+            square,
+            speed: quickroot::root(square),
+        }
+    }
 }
 
 impl ArclenFunctor {
@@ -62,25 +83,19 @@ impl ArclenFunctor {
         }
     }
 
-    // The pace at t. Where its square is that of the last pace, as all along a line, the root is not
-    // taken again.
+    // The square of the speed at t.
+    fn square(self, t: f64) -> f64
+        ensures { λ r. ⌜ r ≡ squareNormOf (derivOf self t) ⌝ }
+    {
+        self.deriv(t).square_norm()
+    }
+
+    // The pace at t, with the root of the last one where it serves.
     pub fn pace(self, t: f64, last: Pace) -> Pace
         requires { ⌜ Paced last ⌝ }
         ensures { λ r. ⌜ r ≡ paceOf self t ⌝ }
     {
-        let square = self.deriv(t).square_norm();
-        if square > 0.0 {
-            if square == last.square {
-                return Pace {
-                    square,
-                    speed: last.speed,
-                };
-            }
-        }
-        Pace {
-            square,
-            speed: quickroot::root(square),
-        }
+        last.next(self.square(t))
     }
 }
 
@@ -104,6 +119,40 @@ pub fn rk4(f: ArclenFunctor, h: f64, t: f64, from: Reached) -> Reached
     Reached { length, pace }
 }
 
+// Writes the squares of the 21 speeds: those where a step starts at the even places, and those in its
+// middle at the odd ones.
+fn fill_squares(f: ArclenFunctor, v: &mut [f64; 21])
+    requires { ⌜ length (now v) ≡ 21 ⌝ }
+    ensures { λ r. ⌜ Squares f (now (v .exit)) 21 ⌝ }
+{
+    let h = 1.0 / 10.0;
+    let mut time = 0.0;
+    let mut i = 0usize;
+    while i < 10 {
+        let first = f.square(time);
+        let middle = f.square(time + h * 0.5);
+        v[2 * i] = first;
+        v[2 * i + 1] = middle;
+        time = time + h;
+        i += 1;
+    }
+    v[20] = f.square(time);
+}
+
+// Writes the roots of 21 squares over them.
+fn fill_speeds(v: &mut [f64; 21])
+    requires { ⌜ length (now v) ≡ 21 ⌝ }
+    ensures { λ r. ⌜ Roots (now (v .entry)) (now (v .exit)) 21 ⌝ }
+{
+    let mut last = Pace::still();
+    let mut k = 0usize;
+    while k < 21 {
+        last = last.next(v[k]);
+        v[k] = last.speed;
+        k += 1;
+    }
+}
+
 // Ten steps along a quad: writes the 40 stages, each with its time, the speed there and the length that
 // RK4 takes to be reached there, and gives the length.
 pub fn walk(f: ArclenFunctor, stages: &mut [[f64; 3]; 40]) -> f64
@@ -111,22 +160,21 @@ pub fn walk(f: ArclenFunctor, stages: &mut [[f64; 3]; 40]) -> f64
     ensures { λ r. ⌜ Walked f (now (stages .exit)) r ⌝ }
 {
     let h = 1.0 / 10.0;
+    let mut v = [0.0; 21];
+    fill_squares(f, &mut v);
+    fill_speeds(&mut v);
     let mut t = 0.0;
     let mut y = 0.0;
-    let mut pace = f.pace(t, Pace::still());
     let mut i = 0usize;
     while i < 10 {
-        let middle = f.pace(t + h * 0.5, pace);
-        let end = f.pace(t + h, middle);
-        let a = pace.speed;
-        let b = middle.speed;
-        let d = end.speed;
+        let a = v[2 * i];
+        let b = v[2 * i + 1];
+        let d = v[2 * i + 2];
         stages[4 * i] = [t, a, y];
         stages[4 * i + 1] = [t + h * 0.5, b, y + h * 0.5 * a];
         stages[4 * i + 2] = [t + h * 0.5, b, y + h * 0.5 * b];
         stages[4 * i + 3] = [t + h, d, y + h * b];
         y = grown(h, y, a, b, b, d);
-        pace = end;
         t = t + h;
         i += 1;
     }

@@ -1,31 +1,61 @@
--- `arclen::walk` meets its contract. The invariant is `Walking`. Assumes nothing.
-use Prim.Native.Nat.{_-_}
+-- `arclen::walk` meets its contract. The invariant is `Walking`, for whichever quad has the speeds. Assumes nothing.
+use Prim.Native.Nat.{_≤_, _-_}
+use mathlib.Core.Path.{_≡_, refl}
 use native.Mathlib.Omega.{arith}
-use Rattle.arclen.proofs.Again.{paced}
+use lib.ListN.{length, length-set}
+use Rattle.arclen.specs.declared.ArclenFunctor.{ArclenFunctor}
+use Rattle.arclen.proofs.Filling.{Speeds, speeds, speed-first, speed-middle, speed-last}
 use Rattle.arclen.proofs.Walking.{Walking, none, more, all}
 use Rattle.arclen.proofs.walk.Statement.{statement}
 use Rattle.arclen.proofs.walk.Tie as tie
 
 abbrev Inv-loop : tie.InvT-loop
-Inv-loop f stages₀ h t₀ y₀ pace₀ i₀ stages t y pace i = Walking f stages t y pace i
+Inv-loop stages₀ h v t₀ y₀ i₀ stages t y i = (length stages ≡ 40) × (i ≤ 10) × ((f : ArclenFunctor) → Speeds f v → Walking f stages t y i)
 
 abbrev μ-loop : tie.MeasureT-loop
-μ-loop f stages₀ h t₀ y₀ pace₀ i₀ stages t y pace i = 10 - i
+μ-loop stages₀ h v t₀ y₀ i₀ stages t y i = 10 - i
 
-still-requires : tie.Need-still-requires Inv-loop μ-loop
-still-requires c κs = tt
+fill-squares-requires : tie.Need-fill-squares-requires Inv-loop μ-loop
+fill-squares-requires c κs = refl
 
-pace-requires : tie.Need-pace-requires Inv-loop μ-loop
-pace-requires c κs = c .still .ensures
+fill-speeds-requires : tie.Need-fill-speeds-requires Inv-loop μ-loop
+fill-speeds-requires c κs = c .before .fill-squares .ensures .long
 
 loop-holds : tie.Need-loop-holds Inv-loop μ-loop
-loop-holds c = none (c .before .before .pre) (c .pace .ensures)
+loop-holds c = (c .before .before .before .before .pre, omega arith, λ f s. none (c .before .before .before .before .pre))
 
-pace-requires-2 : tie.Need-pace-requires-2 Inv-loop μ-loop
-pace-requires-2 c κs = paced _ _ _ (c .before .loop .inv .pace)
+mul-a : tie.Need-mul-a Inv-loop μ-loop
+mul-a c = omega arith
 
-pace-requires-3 : tie.Need-pace-requires-3 Inv-loop μ-loop
-pace-requires-3 c κs = paced _ _ _ (c .pace2 .ensures)
+mul-a-2 : tie.Need-mul-a-2 Inv-loop μ-loop
+mul-a-2 c = omega arith
+
+array-read-a : tie.Need-array-read-a Inv-loop μ-loop
+array-read-a c = omega arith
+
+mul-b : tie.Need-mul-b Inv-loop μ-loop
+mul-b c = omega arith
+
+add-b : tie.Need-add-b Inv-loop μ-loop
+add-b c = omega arith
+
+mul-b-2 : tie.Need-mul-b-2 Inv-loop μ-loop
+mul-b-2 c = omega arith
+
+array-read-b : tie.Need-array-read-b Inv-loop μ-loop
+array-read-b c = omega arith
+
+mul-d : tie.Need-mul-d Inv-loop μ-loop
+mul-d c = omega arith
+
+add-d : tie.Need-add-d Inv-loop μ-loop
+add-d c = omega arith
+
+mul-d-2 : tie.Need-mul-d-2 Inv-loop μ-loop
+mul-d-2 c = omega arith
+
+array-read-d : tie.Need-array-read-d Inv-loop μ-loop
+array-read-d c = omega arith
 
 mul-stages : tie.Need-mul-stages Inv-loop μ-loop
 mul-stages c = omega arith
@@ -60,14 +90,14 @@ mul-stages-6 c = omega arith
 element-set-from-stages-3 : tie.Need-element-set-from-stages-3 Inv-loop μ-loop
 element-set-from-stages-3 c = omega arith
 
-mul-t18 : tie.Need-mul-t18 Inv-loop μ-loop
-mul-t18 c = omega arith
+mul-t15 : tie.Need-mul-t15 Inv-loop μ-loop
+mul-t15 c = omega arith
 
-add-t19 : tie.Need-add-t19 Inv-loop μ-loop
-add-t19 c = omega arith
+add-t16 : tie.Need-add-t16 Inv-loop μ-loop
+add-t16 c = omega arith
 
-mul-t25 : tie.Need-mul-t25 Inv-loop μ-loop
-mul-t25 c = omega arith
+mul-t20 : tie.Need-mul-t20 Inv-loop μ-loop
+mul-t20 c = omega arith
 
 element-set-from-stages-4 : tie.Need-element-set-from-stages-4 Inv-loop μ-loop
 element-set-from-stages-4 c = omega arith
@@ -83,11 +113,19 @@ loop-less c = omega arith
 
 loop-again : tie.Need-loop-again Inv-loop μ-loop
 loop-again c =
-    let middle = c .before .before in
-    more (middle .before .before .loop .inv) (middle .before .loop-test .taken) (middle .pace2 .ensures) (c .before .pace3 .ensures) (c .grown .ensures)
+    let turn = c .before in
+    let inv = turn .before .loop .inv in
+    let less = turn .loop-test .taken in (
+      simp length-set (inv .0),
+      omega arith,
+      λ f s. let w = inv .2 f s in
+          more w less (speed-first s _ _ less (w .time)) (speed-middle s _ _ less (w .time)) (speed-last s _ _ less (w .time)) (c .grown .ensures),
+    )
 
 returns : tie.Need-returns Inv-loop μ-loop
-returns c = all (c .before .loop .inv) (c .loop-test .left)
+returns c =
+    let filled = c .before .before in
+    all (c .before .loop .inv .2 _ (speeds (filled .before .before .fill-squares .ensures) (filled .fill-speeds .ensures))) (c .loop-test .left)
 
 pub walk-spec : {M : Type 1} → statement M
 walk-spec =
@@ -95,11 +133,20 @@ walk-spec =
     (tie.spec
     Inv-loop
     μ-loop
-    still-requires
-    pace-requires
+    fill-squares-requires
+    fill-speeds-requires
     loop-holds
-    pace-requires-2
-    pace-requires-3
+    mul-a
+    mul-a-2
+    array-read-a
+    mul-b
+    add-b
+    mul-b-2
+    array-read-b
+    mul-d
+    add-d
+    mul-d-2
+    array-read-d
     mul-stages
     mul-stages-2
     element-set-from-stages
@@ -111,9 +158,9 @@ walk-spec =
     add-stages-2
     mul-stages-6
     element-set-from-stages-3
-    mul-t18
-    add-t19
-    mul-t25
+    mul-t15
+    add-t16
+    mul-t20
     element-set-from-stages-4
     grown-requires
     add-i
