@@ -101,7 +101,7 @@ fn chain_run(
         (workOf (roomsOf (work (now (samples .entry)) (now (breaks .entry)) (now (answers .entry)) (now (links .entry)))) halfGrid one (now (xs .entry)) (now (ys .entry)) (now (flags .entry)) first count))
         (chain (now (starts .entry)) (now (ends .entry)) (now (cxs .entry)) (now (cys .entry))) ⌝ }
 {
-    let worked = edition::work(
+    let worked = edition::work_run(
         xs,
         ys,
         flags,

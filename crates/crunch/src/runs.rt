@@ -56,7 +56,7 @@ fn work_run(
         (workOf (roomsOf (work (now (samples .entry)) (now (breaks .entry)) (now (answers .entry)) (now (links .entry)))) halfGrid one (now (xs .entry)) (now (ys .entry)) (now (flags .entry)) first count)) r) ⌝ }
     ensures pairs { λ r. ⌜ pairsIn r ≤ p .pairs + mostPairs ⌝ }
 {
-    match edition::work(
+    match edition::work_run(
         xs,
         ys,
         flags,

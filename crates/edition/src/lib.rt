@@ -40,7 +40,7 @@ pub fn edition(
 }
 
 // The run of `count` segments from segment `first` on.
-pub fn work(
+pub fn work_run(
     xs: &[i16],
     ys: &[i16],
     flags: &[u8],

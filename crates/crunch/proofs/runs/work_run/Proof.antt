@@ -9,8 +9,8 @@ use Rattle.crunch.proofs.runs.work_run.Tie as tie
 half-requires : tie.Need-half-requires
 half-requires c κs = tt
 
-work-requires : tie.Need-work-requires
-work-requires c κs = tt
+work-run-requires : tie.Need-work-run-requires
+work-run-requires c κs = tt
 
 enum-known-k : tie.Need-enum-known-k
 enum-known-k c = c .match .keys1
@@ -27,7 +27,7 @@ add-t32 c =
     let half = working .before .before .before .before .before in
     let start = half .before .before .before in
     let args = start .args in
-    let few = unchanged-few _ (half .half .ensures) (args .xs .now) (args .ys .now) (args .flags .now) (args .first) (args .count) (working .work .ensures) (c .before .before .before .before .before .pairs .given .1) in
+    let few = unchanged-few _ (half .half .ensures) (args .xs .now) (args .ys .now) (args .flags .now) (args .first) (args .count) (working .work-run .ensures) (c .before .before .before .before .before .pairs .given .1) in
     omega (arith, few, start .pre)
 
 enum-known-n : tie.Need-enum-known-n
@@ -38,21 +38,21 @@ slice-reshare-prefix-push-chain c =
     let working = c .before .before .before .before .before .before .before .before in
     let half = working .before .before .before .before .before in
     let args = half .before .before .before .args in
-    work-done _ (half .half .ensures) (args .xs .now) (args .ys .now) (args .flags .now) (args .first) (args .count) (working .work .ensures) (c .before .n .given .1) .within
+    work-done _ (half .half .ensures) (args .xs .now) (args .ys .now) (args .flags .now) (args .first) (args .count) (working .work-run .ensures) (c .before .n .given .1) .within
 
 slice-aggregate-push-chain : tie.Need-slice-aggregate-push-chain
 slice-aggregate-push-chain c =
     let working = c .before .before .before .before .before .before .before .before .before in
     let half = working .before .before .before .before .before in
     let args = half .before .before .before .args in
-    sym (length-take-le _ _ (work-done _ (half .half .ensures) (args .xs .now) (args .ys .now) (args .flags .now) (args .first) (args .count) (working .work .ensures) (c .before .before .n .given .1) .within))
+    sym (length-take-le _ _ (work-done _ (half .half .ensures) (args .xs .now) (args .ys .now) (args .flags .now) (args .first) (args .count) (working .work-run .ensures) (c .before .before .n .given .1) .within))
 
 push-chain-requires : tie.Need-push-chain-requires
 push-chain-requires c κs =
     let working = c .before .before .before .before .before .before .before .before .before .before .before .before in
     let half = working .before .before .before .before .before in
     let args = half .before .before .before .args in
-    work-done _ (half .half .ensures) (args .xs .now) (args .ys .now) (args .flags .now) (args .first) (args .count) (working .work .ensures) (c .before .before .before .before .before .n .given .1) .stored
+    work-done _ (half .half .ensures) (args .xs .now) (args .ys .now) (args .flags .now) (args .first) (args .count) (working .work-run .ensures) (c .before .before .before .before .before .n .given .1) .stored
 
 add-t42 : tie.Need-add-t42
 add-t42 c =
@@ -60,39 +60,39 @@ add-t42 c =
     let half = working .before .before .before .before .before in
     let start = half .before .before .before in
     let args = start .args in
-    let few = done-few _ (half .half .ensures) (args .xs .now) (args .ys .now) (args .flags .now) (args .first) (args .count) (working .work .ensures) (c .before .before .before .before .before .before .before .before .n .given .1) in
+    let few = done-few _ (half .half .ensures) (args .xs .now) (args .ys .now) (args .flags .now) (args .first) (args .count) (working .work-run .ensures) (c .before .before .before .before .before .before .before .before .n .given .1) in
     omega (arith, few, start .pre)
 
 same-length : tie.Need-same-length
-same-length c = c .before .before .before .before .before .before .before .before .work .kept .1 .1 .1 .1 .1 .1 .1 .0
+same-length c = c .before .before .before .before .before .before .before .before .work-run .kept .1 .1 .1 .1 .1 .1 .1 .0
 
 same-length-2 : tie.Need-same-length-2
-same-length-2 c = c .before .before .before .before .before .before .before .before .work .kept .1 .1 .1 .1 .1 .1 .1 .1 .0
+same-length-2 c = c .before .before .before .before .before .before .before .before .work-run .kept .1 .1 .1 .1 .1 .1 .1 .1 .0
 
 same-length-3 : tie.Need-same-length-3
-same-length-3 c = c .before .before .before .before .before .before .before .before .work .kept .1 .1 .1 .1 .1 .1 .1 .1 .1 .0
+same-length-3 c = c .before .before .before .before .before .before .before .before .work-run .kept .1 .1 .1 .1 .1 .1 .1 .1 .1 .0
 
 same-length-4 : tie.Need-same-length-4
-same-length-4 c = c .before .before .before .before .before .before .before .before .work .kept .1 .1 .1 .1 .1 .1 .1 .1 .1 .1 .0
+same-length-4 c = c .before .before .before .before .before .before .before .before .work-run .kept .1 .1 .1 .1 .1 .1 .1 .1 .1 .1 .0
 
 returns : tie.Need-returns
 returns c =
     let working = c .before .before .before .before .before .before .before .before in
     let half = working .before .before .before .before .before in
     let args = half .before .before .before .args in
-    (λ ps wrote. refused-stands _ (half .half .ensures) (args .xs .now) (args .ys .now) (args .flags .now) (args .first) (args .count) (working .work .ensures) ps _ (c .before .k .given .1), omega arith)
+    (λ ps wrote. refused-stands _ (half .half .ensures) (args .xs .now) (args .ys .now) (args .flags .now) (args .first) (args .count) (working .work-run .ensures) ps _ (c .before .k .given .1), omega arith)
 
 same-length-5 : tie.Need-same-length-5
-same-length-5 c = c .before .before .before .before .before .before .before .before .before .before .before .before .work .kept .1 .1 .1 .1 .1 .1 .1 .0
+same-length-5 c = c .before .before .before .before .before .before .before .before .before .before .before .before .work-run .kept .1 .1 .1 .1 .1 .1 .1 .0
 
 same-length-6 : tie.Need-same-length-6
-same-length-6 c = c .before .before .before .before .before .before .before .before .before .before .before .before .work .kept .1 .1 .1 .1 .1 .1 .1 .1 .0
+same-length-6 c = c .before .before .before .before .before .before .before .before .before .before .before .before .work-run .kept .1 .1 .1 .1 .1 .1 .1 .1 .0
 
 same-length-7 : tie.Need-same-length-7
-same-length-7 c = c .before .before .before .before .before .before .before .before .before .before .before .before .work .kept .1 .1 .1 .1 .1 .1 .1 .1 .1 .0
+same-length-7 c = c .before .before .before .before .before .before .before .before .before .before .before .before .work-run .kept .1 .1 .1 .1 .1 .1 .1 .1 .1 .0
 
 same-length-8 : tie.Need-same-length-8
-same-length-8 c = c .before .before .before .before .before .before .before .before .before .before .before .before .work .kept .1 .1 .1 .1 .1 .1 .1 .1 .1 .1 .0
+same-length-8 c = c .before .before .before .before .before .before .before .before .before .before .before .before .work-run .kept .1 .1 .1 .1 .1 .1 .1 .1 .1 .1 .0
 
 same-length-9 : tie.Need-same-length-9
 same-length-9 c = c .before .before .unchanged .kept .1 .1 .1 .0
@@ -103,20 +103,20 @@ returns-2 c =
     let working = told .before .before .before .before .before .before .before in
     let half = working .before .before .before .before .before in
     let args = half .before .before .before .args in
-    let few = unchanged-few _ (half .half .ensures) (args .xs .now) (args .ys .now) (args .flags .now) (args .first) (args .count) (working .work .ensures) (told .pairs .given .1) in
-    (λ ps wrote. unchanged-stands _ (half .half .ensures) (args .xs .now) (args .ys .now) (args .flags .now) (args .first) (args .count) (working .work .ensures) ps _ (told .pairs .given .1) (c .before .before .unchanged .ensures), omega (arith, few))
+    let few = unchanged-few _ (half .half .ensures) (args .xs .now) (args .ys .now) (args .flags .now) (args .first) (args .count) (working .work-run .ensures) (told .pairs .given .1) in
+    (λ ps wrote. unchanged-stands _ (half .half .ensures) (args .xs .now) (args .ys .now) (args .flags .now) (args .first) (args .count) (working .work-run .ensures) ps _ (told .pairs .given .1) (c .before .before .unchanged .ensures), omega (arith, few))
 
 same-length-10 : tie.Need-same-length-10
-same-length-10 c = c .before .before .before .before .before .before .before .before .before .before .before .before .before .before .before .work .kept .1 .1 .1 .1 .1 .1 .1 .0
+same-length-10 c = c .before .before .before .before .before .before .before .before .before .before .before .before .before .before .before .work-run .kept .1 .1 .1 .1 .1 .1 .1 .0
 
 same-length-11 : tie.Need-same-length-11
-same-length-11 c = c .before .before .before .before .before .before .before .before .before .before .before .before .before .before .before .work .kept .1 .1 .1 .1 .1 .1 .1 .1 .0
+same-length-11 c = c .before .before .before .before .before .before .before .before .before .before .before .before .before .before .before .work-run .kept .1 .1 .1 .1 .1 .1 .1 .1 .0
 
 same-length-12 : tie.Need-same-length-12
-same-length-12 c = c .before .before .before .before .before .before .before .before .before .before .before .before .before .before .before .work .kept .1 .1 .1 .1 .1 .1 .1 .1 .1 .0
+same-length-12 c = c .before .before .before .before .before .before .before .before .before .before .before .before .before .before .before .work-run .kept .1 .1 .1 .1 .1 .1 .1 .1 .1 .0
 
 same-length-13 : tie.Need-same-length-13
-same-length-13 c = c .before .before .before .before .before .before .before .before .before .before .before .before .before .before .before .work .kept .1 .1 .1 .1 .1 .1 .1 .1 .1 .1 .0
+same-length-13 c = c .before .before .before .before .before .before .before .before .before .before .before .before .before .before .before .work-run .kept .1 .1 .1 .1 .1 .1 .1 .1 .1 .1 .0
 
 same-length-14 : tie.Need-same-length-14
 same-length-14 c = c .before .before .push-chain .kept .1 .1 .1 .1 .0
@@ -127,15 +127,15 @@ returns-3 c =
     let working = told .before .before .before .before .before .before .before in
     let half = working .before .before .before .before .before in
     let args = half .before .before .before .args in
-    let few = done-few _ (half .half .ensures) (args .xs .now) (args .ys .now) (args .flags .now) (args .first) (args .count) (working .work .ensures) (told .n .given .1) in
-    (λ ps wrote. done-stands _ (half .half .ensures) (args .xs .now) (args .ys .now) (args .flags .now) (args .first) (args .count) (working .work .ensures) ps _ (told .n .given .1) (c .before .before .push-chain .ensures) wrote, omega (arith, few))
+    let few = done-few _ (half .half .ensures) (args .xs .now) (args .ys .now) (args .flags .now) (args .first) (args .count) (working .work-run .ensures) (told .n .given .1) in
+    (λ ps wrote. done-stands _ (half .half .ensures) (args .xs .now) (args .ys .now) (args .flags .now) (args .first) (args .count) (working .work-run .ensures) ps _ (told .n .given .1) (c .before .before .push-chain .ensures) wrote, omega (arith, few))
 
 pub work-run-spec : {M : Type 1} → statement M
 work-run-spec =
     tie.close
     (tie.spec
     half-requires
-    work-requires
+    work-run-requires
     enum-known-k
     enum-known-pairs
     unchanged-requires

@@ -1,12 +1,12 @@
--- `edition::work` meets its contract. Assumes nothing.
+-- `edition::work_run` meets its contract. Assumes nothing.
 use mathlib.Core.Path.{refl, sym}
 use lib.Seq.{length-take-le}
 use Rattle.survey.specs.Survey.{samplesUsed, breaksUsed}
 use Rattle.edition.specs.Edition as E
 use Rattle.edition.proofs.Steps.{first-places, in-row, surveyed-works, found-rows}
 use borrow.Author.Needs.{needs}
-use Rattle.edition.proofs.work.Statement.{statement}
-use Rattle.edition.proofs.work.Tie as tie
+use Rattle.edition.proofs.work_run.Statement.{statement}
+use Rattle.edition.proofs.work_run.Tie as tie
 
 survey-requires : tie.Need-survey-requires
 survey-requires c κs = search needs
@@ -88,8 +88,8 @@ returns-3 c =
     let few = in-row breaksUsed (known .1) (surveyed .ensures .1 .1) (surveyed .kept .1 .1 .1 .1 .1 .1 .1 .0) in
     surveyed-works _ _ _ _ _ _ _ _ (surveyed .last .1 .1 .1 .1 .1 .1 .0) (surveyed .last .1 .1 .1 .1 .1 .1 .1 .0) (surveyed .ensures .0) (known .1) (first-places _ few (c .before .before .before .edition .ensures))
 
-pub work-spec : {M : Type 1} → statement M
-work-spec =
+pub work-run-spec : {M : Type 1} → statement M
+work-run-spec =
     tie.close
     (tie.spec
     survey-requires
