@@ -21,7 +21,7 @@ use Rattle.breaks.specs.Breaks as Breaks
 use Rattle.breaks.specs.Breaks.{halfGrid, onGrid}
 use Rattle.optimize.specs.Answers.{scoreOf, combined}
 use Rattle.optimize.specs.Optimize.{Measure, tryQuad, bent, tryLineQuad, tryAll, splitsFrom, falling, searchFrom, Optimised, refused8, unchanged, solved, optimizeOf}
-use Rattle.edition.specs.Edition.{Rooms}
+use Rattle.edition.specs.Scratch.{fullRooms}
 use Rattle.contour.specs.Points.{Points, pointsTo, piecesPoints}
 use Rattle.contour.specs.Implied.{isImplied, impliedAt, look, dropFrom, dropImplied, cutOf}
 use Rattle.crunch.specs.Crunch.{Outcome, afterRun, crunchFrom, crunchRuns, crunchOf}
@@ -57,9 +57,6 @@ pub record Row : Type 0 where
   pub result : Result
 
 -- ---- evaluation
-
-abbrev pub fullRooms : Rooms
-fullRooms = record { samples = 16384; breaks = 2048; answers = 4096; links = 4096 }
 
 abbrev pub outcome : Outcome → Result
 outcome (Crunch.refused k) = refused k

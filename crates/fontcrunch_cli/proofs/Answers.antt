@@ -11,7 +11,7 @@ use Rattle.rows.specs.Rows.{zeroWork, pointZero}
 use Rattle.contour.specs.Points.{Points}
 use Rattle.contour.specs.Implied.{number}
 use Rattle.contour.specs.Output.{Outputs, outputs, column, flagOf, flags, given}
-use Rattle.edition.specs.Scratch.{inputs}
+use Rattle.edition.specs.Scratch.{inputs, fullRooms}
 use Rattle.crunch.specs.Crunch.{Outcome, refused, crunched, crunchOf}
 use Rattle.crunch.specs.Entry.{report, answerOf, outputsOf, Scratch, scratch, wholeOf, Left, left, leaving}
 use Rattle.crunch.specs.Laws.{pointsIn, points-within}
@@ -19,7 +19,7 @@ use Rattle.crunch.specs.declared.Crunched as C
 use Rattle.crunch.specs.declared.Crunched.the-variants as Crunched
 use Rattle.lines.specs.Text.{Put, decimalOf}
 use Rattle.lines.specs.Answer.{okWord, pointText, pointsText, okText, refusedText}
-use Rattle.fontcrunch_cli.specs.Answer.{fullRooms, outcomeText, answerText}
+use Rattle.fontcrunch_cli.specs.Answer.{outcomeText, answerText}
 
 -- the rows as they are lent, with document 01's full rooms
 abbrev pub lentOut : Outputs

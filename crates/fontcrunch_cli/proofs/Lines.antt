@@ -19,7 +19,8 @@ use Rattle.lines.specs.Line.{Point, parsedOf, laid, Leaves}
 use Rattle.lines.specs.Answer.{refusedText}
 use Rattle.lines.specs.declared.line.Parsed.{Parsed}
 use Rattle.lines.specs.declared.line.Parsed.the-variants.{Points, Malformed}
-use Rattle.fontcrunch_cli.specs.Answer.{fullRooms, outcomeText, answerText, malformedWord, parsedText, lineText, Answered}
+use Rattle.edition.specs.Scratch.{fullRooms}
+use Rattle.fontcrunch_cli.specs.Answer.{outcomeText, answerText, malformedWord, parsedText, lineText, Answered}
 
 -- so many places of a row of 1,025
 pub part : {A : Type 0} (n : ℕ) {m : ℕ} (row : List A) → m ≡ min n 1025 → length row ≡ 1025 → m ≡ length (take m row)

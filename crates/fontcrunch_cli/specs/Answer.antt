@@ -9,15 +9,11 @@ use lib.ListN.{length}
 use Rattle.float.specs.Numbers.{one}
 use Rattle.breaks.specs.Breaks.{halfGrid}
 use Rattle.contour.specs.Output.{column, flags}
-use Rattle.edition.specs.Edition.{Rooms}
+use Rattle.edition.specs.Scratch.{fullRooms}
 use Rattle.crunch.specs.Crunch.{Outcome, refused, crunched, crunchOf}
 use Rattle.lines.specs.Text.{Put}
 use Rattle.lines.specs.Line.{Point, parsedOf}
 use Rattle.lines.specs.Answer.{okText, refusedText}
-
--- document 01's full rooms
-abbrev pub fullRooms : Rooms
-fullRooms = record { samples = 16384; breaks = 2048; answers = 4096; links = 4096 }
 
 abbrev pub outcomeText : Outcome → List ℕ
 outcomeText (refused k) = refusedText k

@@ -22,18 +22,18 @@ use Rattle.pieces.specs.Pieces.{asPiece, piecesOf}
 -- ---- one piece more, at the end
 
 -- what a piece adds to where a chain leads
-record Led (n at : ℕ) (p : C.Piece) (ps : List C.Piece) : Type 0 where
-  here : p .from ≡ at
-  rising : p .from < p .to
-  upto : p .to ≤ n
-  rest : T (leads n (p .to) ps)
+pub record Led (n at : ℕ) (p : C.Piece) (ps : List C.Piece) : Type 0 where
+  pub here : p .from ≡ at
+  pub rising : p .from < p .to
+  pub upto : p .to ≤ n
+  pub rest : T (leads n (p .to) ps)
 
 leads-by : (n at : ℕ) (p : C.Piece) (ps : List C.Piece) → Led n at p ps → T (leads n at (p ∷ ps))
 unfolding leads
 leads-by n at p ps l =
     and-i (eqb (p .from) at) _ (eq→eqb (l .here)) (and-i (ltb (p .from) (p .to)) _ (lt→ltb (p .from) (p .to) (l .rising)) (and-i (leb (p .to) n) _ (le→leb (p .to) n (l .upto)) (l .rest)))
 
-led-by : (n at : ℕ) (p : C.Piece) (ps : List C.Piece) → T (leads n at (p ∷ ps)) → Led n at p ps
+pub led-by : (n at : ℕ) (p : C.Piece) (ps : List C.Piece) → T (leads n at (p ∷ ps)) → Led n at p ps
 unfolding leads
 led-by n at p ps t =
     let ends : Bool = leb (p .to) n && leads n (p .to) ps in

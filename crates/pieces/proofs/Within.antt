@@ -1,10 +1,10 @@
 -- The pieces of the answer that the optimiser ends with start and end at breaks of the run: the checker says yes to them. Assumes nothing.
 use Prim.Native.Nat.{ℕ, zero, suc, _+_, _-_, _≤_, _<_}
 use native.Mathlib.Omega.{arith}
-use mathlib.Core.Bool.{Bool, true, false, _&&_}
+use mathlib.Core.Bool.{Bool, true, false}
 use mathlib.Core.List.{List, [], _∷_, _++_}
 use mathlib.Core.Path.{_≡_}
-use lib.Dec.{T, eqb, ltb, leb, eqb→eq, ltb→lt, leb→le}
+use lib.Dec.{T, eqb, eqb→eq}
 use lib.Ieee.{Float, binary64, fits}
 use lib.Ieee.Fits.{and-l, and-r}
 use lib.ListN.{length}
@@ -17,6 +17,7 @@ use Rattle.optimize.specs.Answers.{Answer, first, on, scoreOf}
 use Rattle.optimize.specs.Optimize.{measureBy, solved, optimizeOf}
 use Rattle.pieces.specs.Pieces.{asPiece, piecesOf}
 use Rattle.pieces.specs.Slots.{Within, Each, none, one}
+use Rattle.pieces.proofs.Chained.{led-by}
 use Rattle.pieces.proofs.Accepted.{accepted-any}
 
 -- it starts and ends at one of the breaks up to n
@@ -24,15 +25,12 @@ abbrev Inner : ℕ → C.Piece → Type 0
 Inner n p = (p .from ≤ n) × (p .to ≤ n)
 
 leads-inner : (n at : ℕ) (ps : List C.Piece) → T (leads n at ps) → Each (Inner n) ps
-unfolding leads
 leads-inner n at [] t = none
 leads-inner n at (p ∷ ps) t =
-    let ends : Bool = leb (p .to) n && leads n (p .to) ps in
-    let later = and-r (eqb (p .from) at) (ltb (p .from) (p .to) && ends) t in
-    let last = and-r (ltb (p .from) (p .to)) ends later in
-    let rising = ltb→lt (p .from) (p .to) (and-l (ltb (p .from) (p .to)) ends later) in
-    let upto = leb→le (p .to) n (and-l (leb (p .to) n) (leads n (p .to) ps) last) in
-    one {a = p} (omega arith, upto) (leads-inner n (p .to) ps (and-r (leb (p .to) n) (leads n (p .to) ps) last))
+    let l = led-by n at p ps t in
+    let rising = l .rising in
+    let upto = l .upto in
+    one {a = p} (omega arith, upto) (leads-inner n (p .to) ps (l .rest))
 
 stays-inner : (ps : List C.Piece) → T (stays ps) → Each (Inner 0) ps
 stays-inner [] t = absurd t
