@@ -1,12 +1,12 @@
--- Laws for callers, of a run's breaks: there is one, they are no more than there was room for, and their coordinates are doubles, whatever the grid.
--- Assumes nothing.
+-- Laws for callers, of a run's breaks: there is one, they are no more than there was room for, their coordinates are doubles, whatever the grid, and
+-- more room changes no answer but refusal 7. Assumes nothing.
 use Prim.Native.Nat.{ℕ, zero, suc, _+_, _-_, _≤_, _<_}
 use native.Mathlib.Omega.{arith}
 use native.Mathlib.Decide.{ℕ-discrete, decLt}
 use mathlib.Core.Bool.{Bool, true, false}
 use mathlib.Core.List.{List, [], _∷_, _++_}
 use mathlib.Core.Path.{_≡_, refl, subst}
-use borrow.Author.Tests.{leb-false}
+use borrow.Author.Tests.{leb-false, lt-leb}
 use lib.Dec.{T, leb}
 use lib.ListN.{length, set, length-append, length-set, List·getD-append}
 use lib.Seq.{getD-append-seam, getD-set-same, getD-set-other}
@@ -186,3 +186,47 @@ module _ (room : ℕ) (samples : List (List Float)) (g : Grid) (len : Float) whe
 
     pub found-fit : (i : ℕ) → i < length row → T (fits binary64 (breakAt row i .xy .x)) × T (fits binary64 (breakAt row i .xy .y))
     found-fit = made .fit
+
+-- ---- more room
+
+-- two searches, the second with more room: the first is full, or they are one
+data Alike : Finding → Finding → Type 0 where
+  was-full : {f : Finding} → Alike full f
+  same : {f : Finding} → Alike f f
+
+module _ (room more : ℕ) (h : room ≤ more) where
+  opened-alike : (t : Bool) (row : Row) (b : Break) (dist : Float) → leb room (length row) ≡ t → Alike (pushedIf t row b dist) (opened more row b dist)
+  unfolding opened
+  opened-alike true row b dist e = was-full
+  opened-alike false row b dist e =
+      let less : length row < room = leb-false room (length row) e in
+      rw (lt-leb more (length row) (omega arith)) same
+
+  joined-alike : (t : Bool) (row : Row) (d : Float) (b : Break) (dist : Float) → Alike (joinedIf t room row d b dist) (joinedIf t more row d b dist)
+  unfolding opened
+  joined-alike true row d b dist = opened-alike (leb room (length row)) row b dist refl
+  joined-alike false row d b dist = same
+
+  stepped-alike : (p : P.Placed) {f f' : Finding} → Alike f f' → Alike (stepped room f p) (stepped more f' p)
+  unfolding joinOf
+  stepped-alike p was-full = was-full
+  stepped-alike (Placed.At b dist) (same {f = so row d}) = joined-alike (opens row (b .xy)) row d b dist
+  stepped-alike Placed.Last (same {f = so row d}) = same
+  stepped-alike Placed.Past (same {f = so row d}) = same
+  stepped-alike p (same {f = full}) = same
+  stepped-alike p (same {f = last}) = same
+  stepped-alike p (same {f = past}) = same
+
+  walk-alike : (k : ℕ) (place : ℕ → P.Placed) (i : ℕ) {f f' : Finding} → Alike f f' → Alike (walk k room place i f) (walk k more place i f')
+  unfolding walk
+  walk-alike zero place i a = a
+  walk-alike (suc k) place i a = walk-alike k place (i + 1) (stepped-alike (place i) a)
+
+  result-same : {f f' : Finding} → Alike f f' → (resultOf f ≡ refused 7 → ⊥) → resultOf f' ≡ resultOf f
+  result-same was-full short = absurd (short refl)
+  result-same same short = refl
+
+  -- the breaks of a run
+  pub breaks-same : (samples : List (List Float)) (g : Grid) (len : Float) → (breaksOf room samples g len ≡ refused 7 → ⊥) → breaksOf more samples g len ≡ breaksOf room samples g len
+  unfolding breaksOf
+  breaks-same samples g len short = result-same (walk-alike (suc (placesOf len)) (placeOf samples g len) 0 {f = so [] nil} same) short

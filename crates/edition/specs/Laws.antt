@@ -1,10 +1,11 @@
--- Laws for callers: the work on a run that is solved is the optimiser's for the run's survey, and how many pairs it tries. Assumes nothing.
+-- Laws for callers: the work on a run that is solved is the optimiser's for the run's survey, and how many pairs it tries; longer rows change no result
+-- but one refused 6 or 7. Assumes nothing.
 use Prim.Native.Nat.{ℕ, _≤_}
 use native.Mathlib.Omega.{arith}
 use mathlib.Core.Bool.{Bool, true, false}
 use mathlib.Core.List.{List}
-use mathlib.Core.Path.{_≡_, refl, sym, ap, subst}
-use borrow.Author.Tests.{ltb-false}
+use mathlib.Core.Path.{_≡_, refl, sym, ap, subst, _∙_}
+use borrow.Author.Tests.{ltb-false, le-ltb}
 use lib.Dec.{ltb}
 use lib.Ieee.{Float}
 use lib.IntN.{ℤ}
@@ -16,7 +17,7 @@ use Rattle.optimize.specs.Answers.{Answer}
 use Rattle.optimize.specs.Laws.{mostPairs, pairs-few, pairs-few-unchanged}
 use Rattle.optimize.specs.Optimize.{Optimised, measureBy, optimizeOf}
 use Rattle.optimize.specs.Optimize as O
-use Rattle.survey.specs.Laws.{surveyed-some, surveyed-few, surveyed-fit}
+use Rattle.survey.specs.Laws.{surveyed-some, surveyed-few, surveyed-fit, survey-same}
 use Rattle.survey.specs.Survey.{Survey, surveyOf}
 use Rattle.survey.specs.Survey as Survey
 use Rattle.edition.specs.Edition.{Result, refused, unchanged, solved, answerRoom, resultOf, unlessShort, editionOf, afterSurvey, Rooms, workOf, Found, Works, no, stays, holds}
@@ -132,3 +133,40 @@ works-pairs (holds samples e few fine is held) = sym (ap pairsIn e)
 pub works-few : (rooms : Rooms) (g : Grid) (penalty : Float) (xs ys : List ℤ) (fs : List ℕ) (first count : ℕ) {breaks : Row} {answers : List (List Float)} {links : List ℕ} {r : W.Worked} →
     Works penalty breaks answers links (workOf rooms g penalty xs ys fs first count) r → pairsIn r ≤ mostPairs
 works-few rooms g penalty xs ys fs first count w = subst (λ (k : ℕ). k ≤ mostPairs) (works-pairs w) (work-pairs rooms g penalty xs ys fs first count)
+
+-- ---- longer rows
+
+-- each row is at most as long as the other's
+pub record Within (rooms rooms' : Rooms) : Type 0 where
+  pub samples : rooms .samples ≤ rooms' .samples
+  pub breaks : rooms .breaks ≤ rooms' .breaks
+  pub answers : rooms .answers ≤ rooms' .answers
+  pub links : rooms .links ≤ rooms' .links
+
+module _ (rooms rooms' : Rooms) (h : Within rooms rooms') (g : Grid) (penalty : Float) where
+  edition-same : (samples : List Sample) (breaks : Row) (short : Bool) → ltb (answerRoom (rooms .answers) (rooms .links)) (length breaks) ≡ short →
+      let r = resultOf (optimizeOf (measureBy samples breaks) breaks penalty) in
+      (unlessShort short r ≡ refused 7 → ⊥) → editionOf (rooms' .answers) (rooms' .links) samples breaks penalty ≡ unlessShort short r
+  unfolding editionOf
+  edition-same samples breaks true e seven = absurd (seven refl)
+  edition-same samples breaks false e seven =
+      let few : length breaks ≤ answerRoom (rooms .answers) (rooms .links) = ltb-false (answerRoom (rooms .answers) (rooms .links)) (length breaks) e in
+      rw (le-ltb (answerRoom (rooms' .answers) (rooms' .links)) (length breaks) (omega arith)) refl
+
+  after-same : (s : Survey) → (afterSurvey (rooms .answers) (rooms .links) penalty s ≡ refused 7 → ⊥) →
+      afterSurvey (rooms' .answers) (rooms' .links) penalty s ≡ afterSurvey (rooms .answers) (rooms .links) penalty s
+  unfolding editionOf
+  after-same (Survey.refused k) seven = refl
+  after-same Survey.past seven = refl
+  after-same (Survey.surveyed samples breaks) seven = edition-same samples breaks _ refl seven
+
+  -- the work on a run
+  pub work-same : (xs ys : List ℤ) (fs : List ℕ) (first count : ℕ) →
+      (workOf rooms g penalty xs ys fs first count ≡ refused 6 → ⊥) → (workOf rooms g penalty xs ys fs first count ≡ refused 7 → ⊥) →
+      workOf rooms' g penalty xs ys fs first count ≡ workOf rooms g penalty xs ys fs first count
+  unfolding workOf
+  work-same xs ys fs first count six seven =
+      let after = afterSurvey (rooms .answers) (rooms .links) penalty in
+      ap (afterSurvey (rooms' .answers) (rooms' .links) penalty)
+      (survey-same (rooms .samples) (rooms .breaks) (rooms' .samples) (rooms' .breaks) (h .samples) (h .breaks) xs ys fs first count g (λ e. six (ap after e)) (λ e. seven (ap after e)))
+      ∙ after-same (surveyOf (rooms .samples) (rooms .breaks) xs ys fs first count g) seven

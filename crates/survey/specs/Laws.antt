@@ -1,4 +1,5 @@
--- Laws for callers: a surveyed run has a break, at most 2,048 of them, and their coordinates are doubles. Assumes nothing.
+-- Laws for callers: a surveyed run has a break, at most 2,048 of them, and their coordinates are doubles; longer rows change no survey but one refused 6
+-- or 7. Assumes nothing.
 use Prim.Native.Nat.{ℕ, min, _<_, _≤_}
 use native.Mathlib.Omega.{arith}
 use mathlib.Core.List.{List}
@@ -9,10 +10,11 @@ use lib.IntN.{ℤ}
 use lib.ListN.{length}
 use Rattle.breaks.specs.Breaks.{Row, Result, breakAt, breaksOf}
 use Rattle.breaks.specs.Breaks as Breaks
-use Rattle.breaks.specs.Laws.{found-some, found-few, found-fit}
+use Rattle.breaks.specs.Laws.{found-some, found-few, found-fit, breaks-same}
 use Rattle.breaks.specs.declared.Grid.{Grid}
 use Rattle.samples.specs.Samples.{Sample, Run, thetasOf, quadsOf}
 use Rattle.samples.specs.Samples as Samples
+use Rattle.samples.specs.Laws.{samples-same}
 use Rattle.survey.specs.Survey.{Survey, refused, past, surveyed, sampleRoom, breakRoom, searched, afterSampling, surveyOf}
 
 -- the breaks of a surveyed run are some that were found
@@ -46,3 +48,20 @@ module _ (sampleRow breakRow : ℕ) (xs ys : List ℤ) (fs : List ℕ) (first co
 
   pub surveyed-fit : (i : ℕ) → i < length row → T (fits binary64 (breakAt row i .xy .x)) × T (fits binary64 (breakAt row i .xy .y))
   surveyed-fit = found-fit (breakRoom breakRow) (was .samples) g (was .len) row (was .found)
+
+-- ---- longer rows
+
+module _ (sampleRow breakRow sampleRow' breakRow' : ℕ) (hs : sampleRow ≤ sampleRow') (hb : breakRow ≤ breakRow') (xs ys : List ℤ) (fs : List ℕ) (first count : ℕ) (g : Grid) where
+  sampled-same : (x : Run) → thetasOf (sampleRoom sampleRow) (quadsOf xs ys fs first count) ≡ x →
+      (afterSampling (breakRoom breakRow) g x ≡ refused 6 → ⊥) → (afterSampling (breakRoom breakRow) g x ≡ refused 7 → ⊥) →
+      afterSampling (breakRoom breakRow') g (thetasOf (sampleRoom sampleRow') (quadsOf xs ys fs first count)) ≡ afterSampling (breakRoom breakRow) g x
+  sampled-same Samples.refused e six seven = absurd (six refl)
+  sampled-same (Samples.sampled samples len) e six seven =
+      rw (samples-same (sampleRoom sampleRow) (sampleRoom sampleRow') (omega arith) (quadsOf xs ys fs first count) samples len e)
+      (ap (searched samples) (breaks-same (breakRoom breakRow) (breakRoom breakRow') (omega arith) samples g len (λ e. seven (ap (searched samples) e))))
+
+  -- the survey of a run
+  pub survey-same : (surveyOf sampleRow breakRow xs ys fs first count g ≡ refused 6 → ⊥) → (surveyOf sampleRow breakRow xs ys fs first count g ≡ refused 7 → ⊥) →
+      surveyOf sampleRow' breakRow' xs ys fs first count g ≡ surveyOf sampleRow breakRow xs ys fs first count g
+  unfolding surveyOf
+  survey-same six seven = sampled-same _ refl six seven
