@@ -3,21 +3,31 @@ use Prim.Native.Nat.{ℕ, _+_}
 use mathlib.Core.Bool.{Bool, true, false}
 use mathlib.Core.List.{List, [], _∷_, map}
 use mathlib.Core.Option.{Option, none, some}
+use mathlib.Core.Path.{_≡_}
 use lib.Dec.{leb}
 use lib.IntN.{ℤ}
 use lib.ListN.{length}
 use Rattle.float.specs.Numbers.{one}
 use Rattle.breaks.specs.Breaks.{halfGrid}
-use Rattle.contour.specs.Output.{column, flags}
+use Rattle.contour.specs.Output.{Outputs, outputs, column, flags}
 use Rattle.edition.specs.Scratch.{fullRooms}
 use Rattle.crunch.specs.Crunch.{Outcome, refused, crunched, crunchOf}
+use Rattle.crunch.specs.declared.Crunched as C
+use Rattle.crunch.specs.declared.Crunched.the-variants as Crunched
 use Rattle.lines.specs.Text.{Put}
 use Rattle.lines.specs.Line.{Point, parsedOf}
 use Rattle.lines.specs.Answer.{okText, refusedText}
+use Rattle.fontcrunch_cli.specs.declared.answer.Tried as T
+use Rattle.fontcrunch_cli.specs.declared.answer.Tried.the-variants as Tried
 
 abbrev pub outcomeText : Outcome → List ℕ
 outcomeText (refused k) = refusedText k
 outcomeText (crunched ps pairs) = okText (column 0 ps) (column 1 ps) (flags ps) pairs (length ps)
+
+-- as the crunch entry hands it back, with the output rows
+abbrev pub entryText : C.Crunched → Outputs → List ℕ
+entryText (Crunched.Refused k) o = refusedText k
+entryText (Crunched.Points n pairs) (outputs ox oy of) = okText ox oy of pairs n
 
 -- of a contour
 unfoldable pub answerText : List ℤ → List ℤ → List ℕ → List ℕ
@@ -51,3 +61,8 @@ pub record Answered (out : List ℕ) (at : ℕ) (line out' : List ℕ) (r : ℕ)
   pub end : ℕ
   pub answer : Put out at (lineText line) middle end
   pub ended : Put middle end (10 ∷ []) out' r
+
+-- text put; or nothing, where the rows are too short
+abbrev pub Tries : List ℕ → ℕ → List ℕ → List ℕ → T.Tried → Type 0
+Tries out at text out' (Tried.Put r) = Put out at text out' r
+Tries out at text out' Tried.Short = out' ≡ out

@@ -2,13 +2,36 @@
 use crate::out;
 use crunch::Crunched;
 use lines::Parsed;
+ghost use mathlib.Core.Path.{_≡_};
 ghost use lib.ListN.{length};
+ghost use Rattle.contour.specs.Output.{outputs};
+ghost use Rattle.crunch.specs.Entry.{report};
+ghost use Rattle.crunch.specs.Laws.{forRoom};
+ghost use Rattle.crunch.specs.Stands.{Roomy};
 ghost use Rattle.lines.specs.Text.{Put};
-ghost use Rattle.fontcrunch_cli.specs.Answer.{answerText, lineText, placeOf, Answered};
+ghost use Rattle.fontcrunch_cli.specs.Answer.{entryText, answerText, lineText, placeOf, Answered, Tries};
 
-// What the crunch entry says, of a contour in rows with document 01's full rooms. The rows are this
-// function's own: it is called once a line.
-fn put_crunched(text: &mut [u8], at: usize, xs: &[i16], ys: &[i16], flags: &[u8]) -> usize
+// What becomes of a contour in rows that may be too short for it.
+pub enum Tried {
+    // the place after the answer
+    Put(usize),
+    // refused for want of room: nothing is put
+    Short,
+}
+
+// What the crunch entry says, with the points that it left in the output rows.
+fn put_outcome(text: &mut [u8], at: usize, c: Crunched, ox: &[i16], oy: &[i16], of: &[u8]) -> usize
+    requires { ⌜ Roomy (report c .points) (outputs (now ox) (now oy) (now of)) ⌝ }
+    ensures { λ r. ⌜ Put (now (text .entry)) at (entryText c (outputs (now (ox .entry)) (now (oy .entry)) (now (of .entry)))) (now (text .exit)) r ⌝ }
+{
+    match c {
+        Crunched::Refused(k) => lines::put_refused(text, at, k),
+        Crunched::Points(n, pairs) => lines::put_ok(text, at, pairs, ox, oy, of, n),
+    }
+}
+
+// In rows with document 01's full rooms. The rows are this function's own: it is called at most once a line.
+fn put_full(text: &mut [u8], at: usize, xs: &[i16], ys: &[i16], flags: &[u8]) -> usize
     ensures { λ r. ⌜ Put (now (text .entry)) at (answerText (now (xs .entry)) (now (ys .entry)) (now (flags .entry))) (now (text .exit)) r ⌝ }
 {
     let mut ox = [0i16; 16384];
@@ -19,7 +42,7 @@ fn put_crunched(text: &mut [u8], at: usize, xs: &[i16], ys: &[i16], flags: &[u8]
     let mut answers = [[0.0; 3]; 4096];
     let mut links = [0u32; 4096];
     let mut points = [[0i16; 3]; 16384];
-    match crunch::crunch_contour(
+    let c = crunch::crunch_contour(
         xs,
         ys,
         flags,
@@ -31,9 +54,87 @@ fn put_crunched(text: &mut [u8], at: usize, xs: &[i16], ys: &[i16], flags: &[u8]
         &mut answers,
         &mut links,
         &mut points,
-    ) {
-        Crunched::Refused(k) => lines::put_refused(text, at, k),
-        Crunched::Points(n, pairs) => lines::put_ok(text, at, pairs, &ox, &oy, &of, n),
+    );
+    put_outcome(text, at, c, &ox, &oy, &of)
+}
+
+// Whether a contour was refused for want of room.
+fn is_short(c: Crunched) -> bool
+    ensures { λ r. ⌜ r ≡ forRoom (report c .number) ⌝ }
+{
+    match c {
+        Crunched::Refused(k) => (k == 6) | (k == 7) | (k == 9),
+        Crunched::Points(_, _) => false,
+    }
+}
+
+// In short rows, which are cleared in a fraction of the time. A contour that they have room for gets the
+// answer of the full rooms, by `more-room`.
+fn put_small(text: &mut [u8], at: usize, xs: &[i16], ys: &[i16], flags: &[u8]) -> Tried
+    ensures { λ r. ⌜ Tries (now (text .entry)) at (answerText (now (xs .entry)) (now (ys .entry)) (now (flags .entry))) (now (text .exit)) r ⌝ }
+{
+    let mut ox = [0i16; 1024];
+    let mut oy = [0i16; 1024];
+    let mut of = [0u8; 1024];
+    let mut samples = [[0.0; 4]; 256];
+    let mut breaks = [[0.0; 5]; 512];
+    let mut answers = [[0.0; 3]; 1024];
+    let mut links = [0u32; 1024];
+    let mut points = [[0i16; 3]; 1024];
+    let c = crunch::crunch_contour(
+        xs,
+        ys,
+        flags,
+        &mut ox,
+        &mut oy,
+        &mut of,
+        &mut samples,
+        &mut breaks,
+        &mut answers,
+        &mut links,
+        &mut points,
+    );
+    if is_short(c) {
+        return Tried::Short;
+    }
+    Tried::Put(put_outcome(text, at, c, &ox, &oy, &of))
+}
+
+fn gap(a: i16, b: i16) -> f64 {
+    float::abs(a as f64 - b as f64)
+}
+
+// Whether the steps from point to point, and from the last to the first, sum to at most 250 in x and y: then
+// the short rows nearly always have room. Only the time hangs on it. In floats, where no sum overflows.
+fn is_small(xs: &[i16], ys: &[i16]) -> bool {
+    let n = rows::least(xs.len(), ys.len());
+    if n == 0 {
+        return true;
+    }
+    let mut sum = 0.0;
+    let mut j = n - 1;
+    let mut i = 0;
+    while i < n {
+        sum = sum + gap(xs[i], xs[j]) + gap(ys[i], ys[j]);
+        if 250.0 < sum {
+            return false;
+        }
+        j = i;
+        i += 1;
+    }
+    true
+}
+
+// The answer to a contour: a small one is tried in short rows first.
+fn put_crunched(text: &mut [u8], at: usize, xs: &[i16], ys: &[i16], flags: &[u8]) -> usize
+    ensures { λ r. ⌜ Put (now (text .entry)) at (answerText (now (xs .entry)) (now (ys .entry)) (now (flags .entry))) (now (text .exit)) r ⌝ }
+{
+    if !is_small(xs, ys) {
+        return put_full(text, at, xs, ys, flags);
+    }
+    match put_small(text, at, xs, ys, flags) {
+        Tried::Put(end) => end,
+        Tried::Short => put_full(text, at, xs, ys, flags),
     }
 }
 
