@@ -1,0 +1,21 @@
+-- What is not negative: a sum of such numbers is one, and so is each measure. Definitions only.
+use mathlib.Core.Bool.{Bool, true, not}
+use mathlib.Core.Path.{_≡_}
+use mathlib.Core.List.{List}
+use lib.Dec.{T}
+use lib.Ieee.{Float, nan, inf, fin}
+use Rattle.geometry.specs.declared.Quad.{Quad}
+use Rattle.measure.specs.Measure.{measureOf}
+use Rattle.measure.specs.declared.Measured.the-variants.{At}
+
+-- its sign is plus, or it is a NaN
+abbrev pub plus : Float → Bool
+plus nan = true
+plus (inf s) = not s
+plus (fin s m e) = not s
+
+-- every sample asked for is there, and the error is not negative
+pub record Measurable (row : List (List Float)) (s0 s1 : Float) (q : Quad) : Type 0 where
+  pub error : Float
+  pub is : measureOf row s0 s1 q ≡ At (record { error = error })
+  pub sign : T (plus error)
