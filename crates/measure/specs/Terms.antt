@@ -5,7 +5,7 @@ use mathlib.Core.Path.{_≡_}
 use mathlib.Core.Bool.{Bool, true, false}
 use mathlib.Core.List.{List, []}
 use lib.ListN.{getD}
-use lib.Ieee.{Float, nan}
+use lib.Ieee.{Float, nan, lt}
 use Rattle.float.specs.Numbers.{nil}
 use Rattle.geometry.specs.Geometry.{pointAtT}
 use Rattle.geometry.specs.declared.Point.{Point}
@@ -63,3 +63,7 @@ pub record Seen (row : List (List Float)) (m : MeasureFunctor) (stages seen : Li
 abbrev pub Looks : List (List Float) → MeasureFunctor → List (List Float) → List (List Float) → Bool → Type 0
 Looks row m stages seen true = Seen row m stages seen 40
 Looks row m stages seen false = Last ≡ walkedBy row m
+
+-- the stages below k lie before the length `end` along the samples
+pub record Before (m : MeasureFunctor) (stages : List (List Float)) (end : Float) (k : ℕ) : Type 0 where
+  pub is : (j : ℕ) → j < k → lt (alongSamples m (getD (getD stages j []) 2 nan)) end ≡ true

@@ -1,11 +1,13 @@
 // Module 6: how far a quad is from the samples, by RK4 over two values, the length and the error, in its
 // flat form. The rate of the length looks at the time alone, so that the 40 stages are known before the
 // first lookup, no root is taken twice, and no lookup waits for a term.
+ghost use mathlib.Core.Bool.{true};
 ghost use mathlib.Core.Path.{_≡_};
 ghost use lib.ListN.{length};
 ghost use Rattle.arclen.specs.Stages.{Written};
 ghost use Rattle.measure.specs.Measure.{errorOf, stretchOf, walkedBy, measureOf};
-ghost use Rattle.measure.specs.Terms.{nodeOf, rateAt, termIn, sumsOf, Looks};
+ghost use Rattle.measure.specs.Terms.{nodeOf, rateAt, termIn, sumsOf, Looks, Before};
+ghost use Rattle.measure.specs.Plus.{Measurable};
 use arclen::ArclenFunctor;
 use geometry::Point;
 use geometry::Quad;
@@ -156,4 +158,39 @@ pub fn measure_quad(row: &[[f64; 4]], s0: f64, s1: f64, q: Quad) -> Measured
     let ss = stretch(s0, s1, arclen::walk(af, &mut stages));
     let m = MeasureFunctor { s0, ss, af, q };
     m.walk(row, &stages)
+}
+
+// Whether the 40 stages all lie before the length `end` along the samples.
+fn all_before(m: MeasureFunctor, stages: &[[f64; 3]; 40], end: f64) -> bool
+    ensures { λ r. ⌜ (r ≡ true → Before m (now (stages .entry)) end 40) ⌝ }
+{
+    let mut k = 0usize;
+    while k < 40 {
+        let stage = stages[k];
+        if m.s0 + stage[2] * m.ss < end {
+            k += 1;
+        } else {
+            return false;
+        }
+    }
+    true
+}
+
+// Whether every sample that the measure of q asks for lies before the last stored place: then no lookup is
+// refused. No sample is read. A row of more than 2^53 samples, whose last place an f64 may not hold, gets no.
+pub fn sees_all(row: &[[f64; 4]], s0: f64, s1: f64, q: Quad) -> bool
+    ensures { λ r. ⌜ (r ≡ true → Measurable (now (row .entry)) s0 s1 q) ⌝ }
+{
+    let n = row.len();
+    if n < 2 {
+        return false;
+    }
+    if n > 0x20_0000_0000_0000 {
+        return false;
+    }
+    let af = ArclenFunctor::new(q);
+    let mut stages = [[0.0; 3]; 40];
+    let ss = stretch(s0, s1, arclen::walk(af, &mut stages));
+    let m = MeasureFunctor { s0, ss, af, q };
+    all_before(m, &stages, (n - 1) as f64)
 }
