@@ -5,7 +5,7 @@ ghost use mathlib.Core.Bool.{true};
 ghost use mathlib.Core.Path.{_≡_};
 ghost use lib.ListN.{length};
 ghost use Rattle.arclen.specs.Stages.{Written};
-ghost use Rattle.measure.specs.Measure.{errorOf, stretchOf, walkedBy, measureOf};
+ghost use Rattle.measure.specs.Measure.{errorOf, stretchOf, walkedBy, measureFunctorOf, measureOf};
 ghost use Rattle.measure.specs.Terms.{nodeOf, rateAt, termIn, sumsOf, Looks, Before};
 ghost use Rattle.measure.specs.Plus.{Measurable};
 use arclen::ArclenFunctor;
@@ -149,14 +149,22 @@ impl MeasureFunctor {
     }
 }
 
+// The work on q between the lengths s0 and s1, with its 40 stages written.
+fn set_out(s0: f64, s1: f64, q: Quad, stages: &mut [[f64; 3]; 40]) -> MeasureFunctor
+    requires { ⌜ length (now stages) ≡ 40 ⌝ }
+    ensures { λ r. ⌜ (r ≡ measureFunctorOf s0 s1 q) × Written (r .af) (now (stages .exit)) ⌝ }
+{
+    let af = ArclenFunctor::new(q);
+    let ss = stretch(s0, s1, arclen::walk(af, stages));
+    MeasureFunctor { s0, ss, af, q }
+}
+
 // How far q is from the samples between the lengths s0 and s1.
 pub fn measure_quad(row: &[[f64; 4]], s0: f64, s1: f64, q: Quad) -> Measured
     ensures { λ r. ⌜ r ≡ measureOf (now (row .entry)) s0 s1 q ⌝ }
 {
-    let af = ArclenFunctor::new(q);
     let mut stages = [[0.0; 3]; 40];
-    let ss = stretch(s0, s1, arclen::walk(af, &mut stages));
-    let m = MeasureFunctor { s0, ss, af, q };
+    let m = set_out(s0, s1, q, &mut stages);
     m.walk(row, &stages)
 }
 
@@ -188,9 +196,7 @@ pub fn sees_all(row: &[[f64; 4]], s0: f64, s1: f64, q: Quad) -> bool
     if n > 0x20_0000_0000_0000 {
         return false;
     }
-    let af = ArclenFunctor::new(q);
     let mut stages = [[0.0; 3]; 40];
-    let ss = stretch(s0, s1, arclen::walk(af, &mut stages));
-    let m = MeasureFunctor { s0, ss, af, q };
+    let m = set_out(s0, s1, q, &mut stages);
     all_before(m, &stages, (n - 1) as f64)
 }

@@ -5,7 +5,6 @@ use native.Mathlib.Nat.{le-trans, sub-le}
 use native.Mathlib.Omega.{arith}
 use lib.Dec.{le→leb}
 use lib.Ieee.{inFloat}
-use Rattle.arclen.proofs.Laws.{length-whole}
 use Rattle.measure.proofs.Sure.{measurable}
 use Rattle.measure.proofs.sees_all.Statement.{statement}
 use Rattle.measure.proofs.sees_all.Tie as tie
@@ -16,32 +15,23 @@ returns c h = absurd (false≢true h)
 returns-2 : tie.Need-returns-2
 returns-2 c h = absurd (false≢true h)
 
-new-requires : tie.Need-new-requires
-new-requires c κs = tt
-
-walk-requires : tie.Need-walk-requires
-walk-requires c κs = refl
-
-stretch-requires : tie.Need-stretch-requires
-stretch-requires c κs = tt
+set-out-requires : tie.Need-set-out-requires
+set-out-requires c κs = refl
 
 sub-all-before : tie.Need-sub-all-before
 sub-all-before c = omega arith
 
 int-to-float-all-before : tie.Need-int-to-float-all-before
 unfolding inFloat
-int-to-float-all-before c = le→leb _ _ (le-trans (sub-le _ _) (c .before .before .before .before .before .before .if2 .left))
+int-to-float-all-before c = le→leb _ _ (le-trans (sub-le _ _) (c .before .before .before .before .if2 .left))
 
 all-before-requires : tie.Need-all-before-requires
 all-before-requires c κs = tt
 
 returns-3 : tie.Need-returns-3
 returns-3 c h =
-    let walked = c .before .before .before .before in
-    let made = walked .before .before .new .ensures in
-    measurable _ _ (omega arith) (omega arith) (omega arith) _ _ _ _ _
-    (rw (c .before .before .before .stretch .ensures, length-whole _ _ _ made (walked .walk .ensures .whole), made))
-    (walked .walk .ensures .written) (c .all-before .ensures h)
+    let out = c .before .before .before .set-out .ensures in
+    measurable _ _ (omega arith) (omega arith) (omega arith) _ _ _ _ _ (out .0) (out .1) (c .all-before .ensures h)
 
 pub sees-all-spec : {M : Type 1} → statement M
 sees-all-spec =
@@ -49,9 +39,7 @@ sees-all-spec =
     (tie.spec
     returns
     returns-2
-    new-requires
-    walk-requires
-    stretch-requires
+    set-out-requires
     sub-all-before
     int-to-float-all-before
     all-before-requires
