@@ -21,12 +21,13 @@ use Rattle.measure.specs.Measure.{errorOf}
 use Rattle.measure.specs.Terms.{termIn, sumsOf}
 use Rattle.measure.specs.Plus.{plus}
 
--- the cases of `plus`
+-- `plus` by its cases
 pub data Plus : Float → Type 0 where
   no-number : Plus nan
   endless : Plus (inf false)
   number : (m : ℕ) (e : ℤ) → Plus (fin false m e)
 
+-- what the cases are of
 pub plus-is : {x : Float} → Plus x → T (plus x)
 plus-is no-number = tt
 plus-is endless = tt
@@ -50,7 +51,7 @@ units-plus q k = either (ltb (q * 2 ^ k) (2 ^ 2098)) (odd-plus 54 q k 1074) endl
 round-plus : (a c : ℕ) → Plus (round binary64 false a c)
 round-plus a c = rw round-is (units-plus _ _)
 
-pub add-plus : {x y : Float} → Plus x → Plus y → Plus (add binary64 x y)
+add-plus : {x y : Float} → Plus x → Plus y → Plus (add binary64 x y)
 unfolding add sum
 add-plus no-number q = no-number
 add-plus endless no-number = no-number
@@ -60,7 +61,7 @@ add-plus (number m e) no-number = no-number
 add-plus (number m e) endless = endless
 add-plus (number m e) (number n d) = round-plus (m * up e * down d + n * up d * down e) (down e * down d)
 
-pub mul-plus : {x y : Float} → Plus x → Plus y → Plus (mul binary64 x y)
+mul-plus : {x y : Float} → Plus x → Plus y → Plus (mul binary64 x y)
 unfolding mul
 mul-plus no-number q = no-number
 mul-plus endless no-number = no-number
@@ -70,7 +71,7 @@ mul-plus (number m e) no-number = no-number
 mul-plus (number m e) endless = either (eqb m 0) no-number endless
 mul-plus (number m e) (number n d) = round-plus (m * up e * (n * up d)) (down e * down d)
 
-pub div-plus : {x y : Float} → Plus x → Plus y → Plus (div binary64 x y)
+div-plus : {x y : Float} → Plus x → Plus y → Plus (div binary64 x y)
 unfolding div
 div-plus no-number q = no-number
 div-plus endless no-number = no-number
@@ -80,7 +81,7 @@ div-plus (number m e) no-number = no-number
 div-plus (number m e) endless = number _ _
 div-plus (number m e) (number n d) = either (eqb n 0) (either (eqb m 0) no-number endless) (round-plus (m * up e * down d) (n * up d * down e))
 
-pub root-plus : {x : Float} → Plus x → Plus (rootOf x)
+root-plus : {x : Float} → Plus x → Plus (rootOf x)
 unfolding rootOf rootUnits
 root-plus no-number = no-number
 root-plus endless = endless
@@ -88,7 +89,7 @@ root-plus (number zero e) = number _ _
 root-plus (number (suc m) e) = odd-plus _ _ _ _
 
 -- the signs of a square's factors are alike
-pub square-plus : (x : Float) → Plus (mul binary64 x x)
+square-plus : (x : Float) → Plus (mul binary64 x x)
 unfolding mul
 square-plus nan = no-number
 square-plus (inf true) = endless
@@ -101,11 +102,11 @@ squares-plus a b = add-plus (square-plus a) (square-plus b)
 
 -- ---- the measure
 
-pub speed-plus : (f : ArclenFunctor) (t : Float) → Plus (speedOf f t)
+speed-plus : (f : ArclenFunctor) (t : Float) → Plus (speedOf f t)
 unfolding speedOf
 speed-plus f t = root-plus (squares-plus _ _)
 
-pub error-plus : (v : Float) (d p xy dir : Point) → Plus v → Plus (errorOf v d p xy dir)
+error-plus : (v : Float) (d p xy dir : Point) → Plus v → Plus (errorOf v d p xy dir)
 unfolding errorOf ofBits
 error-plus v d p xy dir h = add-plus (mul-plus (number _ _) (mul-plus (squares-plus _ _) h)) (mul-plus (number _ _) (div-plus (square-plus _) h))
 
@@ -116,6 +117,7 @@ stage-plus f h t y (suc zero) = speed-plus _ _
 stage-plus f h t y (suc (suc zero)) = speed-plus _ _
 stage-plus f h t y (suc (suc (suc j))) = speed-plus _ _
 
+-- the term k of the 40
 pub term-plus : (f : ArclenFunctor) (q : Quad) (stages seen : List (List Float)) → Written f stages → (k : ℕ) → k < 40 → Plus (termIn f q stages seen k)
 unfolding stageAt
 term-plus f q stages seen w k less = error-plus _ _ _ _ _ (rw (w .is k less) (stage-plus f tenth _ _ (k % 4)))
