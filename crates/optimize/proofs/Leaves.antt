@@ -1,19 +1,22 @@
 -- What the functions over one stored answer rest on: the break behind a link, an answer against an attempt, and what stands at a break.
 -- Assumes nothing.
 use Prim.Native.Nat.{ℕ, zero, suc, _-_, _/_, _≤_, _<_}
-use mathlib.Core.Bool.{Bool}
+use mathlib.Core.Bool.{Bool, true, false}
 use mathlib.Core.Path.{_≡_, refl, sym, ap, _∙_}
 use mathlib.Core.List.{List}
 use native.Mathlib.Omega.{arith}
 use borrow.Author.Tests.{eq-eqb, ne-eqb}
+use lib.Dec.{T, eqb}
 use lib.Ieee.{Float, lt}
 use lib.ListN.{getD}
 use Rattle.float.specs.Numbers.{nil}
 use Rattle.geometry.specs.declared.Quad.{Quad}
+use Rattle.measure.specs.Plus.{plus}
 use Rattle.breaks.specs.Breaks.{Row}
 use Rattle.optimize.specs.declared.answer.Answer as A
 use Rattle.optimize.specs.Answers.{totalOf}
 use Rattle.optimize.specs.Stored.{bestOf, orElse, newAnswer, combineOf, fromBreak, slotAt, loaded, startName, nothingAt, standingAt}
+use Rattle.optimize.proofs.Order.{no-less}
 
 -- ---- the break behind a link
 
@@ -38,6 +41,23 @@ module _ (old previous : A.Answer) (measure : Float) (q : Quad) (penalty s : Flo
       orElse less (newAnswer old previous q s) old ≡ combineOf old previous measure q penalty
   unfolding combineOf
   compared less h k l = rw (ne-eqb (previous .name) 0 h, ← e, ne-eqb (old .link) 0 k, l)
+
+-- an answer stays where an attempt with no error would not replace it
+module _ (old previous : A.Answer) (q : Quad) (penalty least : Float) (e : least ≡ totalOf (bestOf previous) q nil penalty) (above : lt nil least ≡ true) (most : lt least (old .score) ≡ false) where
+  not-less : (measure : Float) → T (plus measure) → lt (totalOf (bestOf previous) q measure penalty) (old .score) ≡ false
+  not-less measure p = go (lt (totalOf (bestOf previous) q measure penalty) (old .score)) refl
+    where
+      go : (t : Bool) → lt (totalOf (bestOf previous) q measure penalty) (old .score) ≡ t → t ≡ false
+      go true k = sym (no-less _ measure (old .score) (rw e at above) p k) ∙ (rw e at most)
+      go false k = refl
+
+  pub remains : (old .link ≡ 0 → ⊥) → (measure : Float) → T (plus measure) → combineOf old previous measure q penalty ≡ old
+  unfolding combineOf
+  remains some measure p = rw (ne-eqb (old .link) 0 some, not-less measure p) (either (eqb (previous .name) 0))
+    where
+      either : (t : Bool) → orElse t old old ≡ old
+      either true = refl
+      either false = refl
 
 -- ---- what stands at break b, by the answer x that is loaded from its place k
 

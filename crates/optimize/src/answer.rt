@@ -1,6 +1,10 @@
 // The answer at a break, by value.
 use geometry::Quad;
 ghost use mathlib.Core.Path.{_≡_};
+ghost use mathlib.Core.Bool.{true};
+ghost use lib.Dec.{T};
+ghost use lib.Ieee.{Float};
+ghost use Rattle.measure.specs.Plus.{plus};
 ghost use Rattle.optimize.specs.Answers.{smoothAfter, okForHalf, jointOf, totalOf};
 ghost use Rattle.optimize.specs.Stored.{bestOf, combineOf, nothingAt};
 
@@ -94,5 +98,20 @@ impl Answer {
             return new;
         }
         if total < self.score { new } else { self }
+    }
+
+    // Whether this answer stays, whatever a piece that is built on the previous one measures: a measure
+    // is not negative, so the score of such a piece is at least the one with no error.
+    pub fn stays(self, previous: Answer, quad: Quad, penalty: f64) -> bool
+        ensures { λ r. ⌜ (r ≡ true → (measure : Float) → T (plus measure) → combineOf self previous measure quad penalty ≡ self) ⌝ }
+    {
+        if self.link == 0 {
+            return false;
+        }
+        let least = previous.total(quad, 0.0, penalty);
+        if least > 0.0 {
+            return !(least < self.score);
+        }
+        false
     }
 }
