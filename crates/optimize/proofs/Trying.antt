@@ -19,8 +19,8 @@ use Rattle.optimize.specs.declared.answer.Answer as A
 use Rattle.optimize.specs.declared.Tried.{Tried}
 use Rattle.optimize.specs.Answers.{Best, okForHalf, combined}
 use Rattle.optimize.specs.Optimize.{Measure, bestAt, States, refused, states, tryQuad, bentQuad, bent, thenBent, tryLineQuad}
-use Rattle.optimize.specs.Stored.{bestOf, slotAt, Inside, Phase, Room, Into, Rep, Ready, Becomes, stops, goes}
-use Rattle.optimize.proofs.Attempt.{readable}
+use Rattle.optimize.specs.Stored.{bestOf, combineOf, slotAt, loaded, standingAt, rowOf, Inside, Phase, Room, Into, Rep, Ready, Becomes, stops, goes}
+use Rattle.optimize.proofs.Attempt.{readable, attempted}
 
 -- ---- one attempt
 module _ (measure : Measure) (breaks : Row) (penalty : Float) (i j : ℕ) (q : Quad) (st : List Best) where
@@ -32,6 +32,14 @@ module _ (measure : Measure) (breaks : Row) (penalty : Float) (i j : ℕ) (q : Q
       tryQuad measure breaks penalty i j q st ≡ states (set st j (combined (bestAt st j) (bestAt st i) (record { from = i; to = j; quad = q }) (m .error) penalty))
   unfolding tryQuad
   quad-made m e = rw e refl
+
+-- one that is made, and its answer x written
+module _ {f : Phase} {n : ℕ} {bs : Row} {rs : List (List Float)} {ls : List ℕ} {st : List Best} {i j k : ℕ} (room : Room n bs rs ls) (into : Into f n i j k) (rep : Rep f n bs rs ls st) where
+  pub made : (measure : Measure) (q : Quad) (m : M.Measure) (penalty : Float) (x : A.Answer) → q .p0 ≡ breakAt bs i .xy → q .p2 ≡ breakAt bs j .xy → measure i j q ≡ Measured.At m →
+      x ≡ combineOf (loaded bs rs ls (slotAt ls j)) (standingAt bs rs ls i) (m .error) q penalty →
+      Becomes f n bs (set rs k (rowOf x)) (set ls k (x .link)) (tryQuad measure bs penalty i j q st) (record { ok = true })
+  made measure q m penalty x begins ends e is =
+      rw (quad-made measure bs penalty i j q st m e) (goes refl (attempted room into rep q begins ends (m .error) penalty x is))
 
 -- ---- the bent piece
 pub crossing-of : {a b c d : Break} → a ≡ c → b ≡ d → intersectOf (a .xy) (a .dir) (b .xy) (b .dir) ≡ intersectOf (c .xy) (c .dir) (d .xy) (d .dir)

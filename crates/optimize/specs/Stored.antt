@@ -50,6 +50,12 @@ combineOf old previous measure q penalty =
     let s = totalOf (bestOf previous) q measure penalty in
     orElse (eqb (previous .name) 0) old (orElse (isLess s (bestOf old)) (newAnswer old previous q s) old)
 
+-- a piece whose measure is not refused, and leaves the old answer
+pub record Idle (samples : List (List Float)) (s0 s1 : Float) (old previous : A.Answer) (q : Quad) (penalty : Float) : Type 0 where
+  pub error : Float
+  pub is : measureOf samples s0 s1 q ≡ Measured.At (record { error = error })
+  pub same : combineOf old previous error q penalty ≡ old
+
 -- ---- in rows
 
 abbrev pub fromIf : ℕ → ℕ

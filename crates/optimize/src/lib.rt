@@ -21,7 +21,7 @@ ghost use Rattle.optimize.specs.Answers.{Best};
 ghost use Rattle.optimize.specs.Optimize.{measureBy, states, tryQuad, bent, thenBent, tryLineQuad, tryAll, splits, falling, search, splitted, tried, optimizeOf};
 ghost use Rattle.geometry.specs.Geometry.{isWhole, lineQuad};
 ghost use Rattle.measure.specs.Measure.{measureOf};
-ghost use Rattle.optimize.specs.Stored.{Phase, early, late, Room, Into, Rep, Ready, Holding, Becomes, solvedAt, aboveAt, Solves, Rooms, inPlace, Spoilt, bendInPlace};
+ghost use Rattle.optimize.specs.Stored.{Idle, Phase, early, late, Room, Into, Rep, Ready, Holding, Becomes, solvedAt, aboveAt, Solves, Rooms, inPlace, Spoilt, bendInPlace};
 
 // Whether every sample asked for was there; where not, refusal 8.
 pub struct Tried {
@@ -37,7 +37,28 @@ pub enum Solved {
     Done(usize, usize),
 }
 
-// One attempt from break i to break j, written to stored answer k.
+// Whether a piece changes nothing, and so need not be measured: the old answer stays whatever its error is,
+// and no sample that it asks for is missing. A function of its own, since what is known of a lent row is
+// lost where two ways meet.
+fn changes_nothing(
+    samples: &[[f64; 4]],
+    s0: f64,
+    s1: f64,
+    old: Answer,
+    previous: Answer,
+    q: Quad,
+    penalty: f64,
+) -> bool
+    ensures { λ r. ⌜ (r ≡ true → Idle (now (samples .entry)) s0 s1 old previous q penalty) ⌝ }
+{
+    if old.stays(previous, q, penalty) {
+        return measure::sees_all(samples, s0, s1, q);
+    }
+    false
+}
+
+// One attempt from break i to break j, written to stored answer k. A piece that changes nothing is not
+// measured.
 fn try_quad(
     samples: &[[f64; 4]],
     breaks: &[[f64; 5]],
@@ -55,11 +76,17 @@ fn try_quad(
         Rep f n (now (breaks .entry)) (now (answers .entry)) (now (links .entry)) st →
         Becomes f n (now (breaks .entry)) (now (answers .exit)) (now (links .exit)) (tryQuad (measureBy (now (samples .entry)) (now (breaks .entry))) (now (breaks .entry)) penalty i j q st) r) ⌝ }
 {
-    let Measured::At(m) = measure::measure_quad(samples, breaks[i][0], breaks[j][0], q) else {
-        return Tried { ok: false };
-    };
+    let s0 = breaks[i][0];
+    let s1 = breaks[j][0];
     let previous = stored::standing(breaks, answers, links, i);
     let old = stored::load(breaks, answers, links, stored::slot_of(links, j));
+    if changes_nothing(samples, s0, s1, old, previous, q, penalty) {
+        stored::store(answers, links, k, old);
+        return Tried { ok: true };
+    }
+    let Measured::At(m) = measure::measure_quad(samples, s0, s1, q) else {
+        return Tried { ok: false };
+    };
     stored::store(
         answers,
         links,
