@@ -1,7 +1,7 @@
--- What the proofs share. `Still` is a theorem on the definitions, for the optimiser; `Values` has theorems for a reader.
+-- What the proofs share. `Signs` and `Still` have theorems for the optimiser; `Values` has theorems for a reader.
 mod Laws
 mod Stored
-mod Signs
 mod Sure
+pub mod Signs
 pub mod Still
 mod Values

@@ -1,13 +1,14 @@
 -- What is not negative stays so: each operation on such numbers gives one, a square is one whatever its number, and so are a speed, a term and
 -- a sum of terms. Assumes nothing.
 use Prim.Native.Nat.{ℕ, zero, suc, _+_, _*_, _%_, _^_, _<_}
-use mathlib.Core.Bool.{Bool, true, false, cond}
+use mathlib.Core.Bool.{Bool, true, false, not, cond}
+use mathlib.Core.Path.{_≡_, refl}
 use mathlib.Core.List.{List}
 use native.Mathlib.Omega.{arith}
 use lib.Dec.{T, ltb, eqb}
 use lib.ListN.{getD}
 use lib.IntN.{ℤ}
-use lib.Ieee.{Float, nan, inf, fin, binary64, up, down, odd, units, round, sum, add, mul, div, ofBits}
+use lib.Ieee.{Float, nan, inf, fin, Format, binary64, prec, emax, low, up, down, odd, units, round, sum, add, mul, div, ofBits}
 use lib.Ieee.Fits.{round-is}
 use Rattle.float.specs.Float.{rootOf, rootUnits}
 use Rattle.geometry.specs.Geometry.{squares}
@@ -33,23 +34,39 @@ plus-is no-number = tt
 plus-is endless = tt
 plus-is (number m e) = tt
 
+plus-by : (x : Float) → T (plus x) → Plus x
+plus-by nan h = no-number
+plus-by (inf false) h = endless
+plus-by (inf true) h = absurd h
+plus-by (fin false m e) h = number m e
+plus-by (fin true m e) h = absurd h
+
+-- ---- a rounded fraction has the sign that it is given
+
+odd-plus : (d : ℕ) (s : Bool) (q k l : ℕ) → plus (odd d s q k l) ≡ not s
+unfolding odd
+odd-plus d s zero k l = refl
+odd-plus d s (suc q) k l = refl
+
+units-plus : (f : Format) (s : Bool) (q k : ℕ) → plus (units f s q k) ≡ not s
+unfolding units
+units-plus f s q k = go (ltb (q * 2 ^ k) (2 ^ (low f + suc (emax f))))
+  where
+    go : (t : Bool) → plus (cond t (odd (suc (prec f)) s q k (low f)) (inf s)) ≡ not s
+    go true = odd-plus (suc (prec f)) s q k (low f)
+    go false = refl
+
+pub round-plus : (f : Format) (s : Bool) (a c : ℕ) → plus (round f s a c) ≡ not s
+round-plus f s a c = rw round-is (units-plus f s _ _)
+
 -- ---- the operations
 
 either : (b : Bool) {x y : Float} → Plus x → Plus y → Plus (cond b x y)
 either true p q = p
 either false p q = q
 
-odd-plus : (d q k l : ℕ) → Plus (odd d false q k l)
-unfolding odd
-odd-plus d zero k l = number _ _
-odd-plus d (suc q) k l = number _ _
-
-units-plus : (q k : ℕ) → Plus (units binary64 false q k)
-unfolding units
-units-plus q k = either (ltb (q * 2 ^ k) (2 ^ 2098)) (odd-plus 54 q k 1074) endless
-
-round-plus : (a c : ℕ) → Plus (round binary64 false a c)
-round-plus a c = rw round-is (units-plus _ _)
+positive : (a c : ℕ) → Plus (round binary64 false a c)
+positive a c = plus-by (round binary64 false a c) (rw (round-plus binary64 false a c) tt)
 
 add-plus : {x y : Float} → Plus x → Plus y → Plus (add binary64 x y)
 unfolding add sum
@@ -59,7 +76,7 @@ add-plus endless endless = endless
 add-plus endless (number n d) = endless
 add-plus (number m e) no-number = no-number
 add-plus (number m e) endless = endless
-add-plus (number m e) (number n d) = round-plus (m * up e * down d + n * up d * down e) (down e * down d)
+add-plus (number m e) (number n d) = positive (m * up e * down d + n * up d * down e) (down e * down d)
 
 mul-plus : {x y : Float} → Plus x → Plus y → Plus (mul binary64 x y)
 unfolding mul
@@ -69,7 +86,7 @@ mul-plus endless endless = endless
 mul-plus endless (number n d) = either (eqb n 0) no-number endless
 mul-plus (number m e) no-number = no-number
 mul-plus (number m e) endless = either (eqb m 0) no-number endless
-mul-plus (number m e) (number n d) = round-plus (m * up e * (n * up d)) (down e * down d)
+mul-plus (number m e) (number n d) = positive (m * up e * (n * up d)) (down e * down d)
 
 div-plus : {x y : Float} → Plus x → Plus y → Plus (div binary64 x y)
 unfolding div
@@ -79,14 +96,14 @@ div-plus endless endless = no-number
 div-plus endless (number n d) = endless
 div-plus (number m e) no-number = no-number
 div-plus (number m e) endless = number _ _
-div-plus (number m e) (number n d) = either (eqb n 0) (either (eqb m 0) no-number endless) (round-plus (m * up e * down d) (n * up d * down e))
+div-plus (number m e) (number n d) = either (eqb n 0) (either (eqb m 0) no-number endless) (positive (m * up e * down d) (n * up d * down e))
 
 root-plus : {x : Float} → Plus x → Plus (rootOf x)
 unfolding rootOf rootUnits
 root-plus no-number = no-number
 root-plus endless = endless
 root-plus (number zero e) = number _ _
-root-plus (number (suc m) e) = odd-plus _ _ _ _
+root-plus (number (suc m) e) = plus-by _ (rw odd-plus tt)
 
 -- the signs of a square's factors are alike
 square-plus : (x : Float) → Plus (mul binary64 x x)

@@ -15,23 +15,7 @@ use lib.Ieee.Order.{round-mono}
 use lib.Ieee.Positive.{through}
 use Rattle.float.specs.Numbers.{nil}
 use Rattle.measure.specs.Plus.{plus}
-
--- ---- a rounded fraction has the sign that it is given
-odd-plus : (d : ℕ) (s : Bool) (q k l : ℕ) → plus (odd d s q k l) ≡ not s
-unfolding odd
-odd-plus d s zero k l = refl
-odd-plus d s (suc q) k l = refl
-
-units-plus : (f : Format) (s : Bool) (q k : ℕ) → plus (units f s q k) ≡ not s
-unfolding units
-units-plus f s q k = go (ltb (q * 2 ^ k) (2 ^ (low f + suc (emax f))))
-  where
-    go : (t : Bool) → plus (cond t (odd (suc (prec f)) s q k (low f)) (inf s)) ≡ not s
-    go true = odd-plus (suc (prec f)) s q k (low f)
-    go false = refl
-
-round-plus : (f : Format) (s : Bool) (a c : ℕ) → plus (round f s a c) ≡ not s
-round-plus f s a c = rw round-is (units-plus f s _ _)
+use Rattle.measure.proofs.Signs.{round-plus}
 
 -- ---- a sum that is above zero: of a negative number and zero there is none
 above-plus : (r : Float) → lt nil r ≡ true → T (plus r)
