@@ -50,6 +50,8 @@
  *
  * Five rows are lent to work in. What they hold on entry does not matter, and they are zero throughout on
  * every return. Shorter rows than the full rooms are allowed: contours that need more are then refused.
+ * Longer rows change no answer of fontcrunch_crunch but 6, 7 and 9, so that a small contour may be tried in
+ * short rows, which are cleared sooner, and in longer ones only if these do not suffice.
  *
  *   row      a place holds                              full room
  *   samples  x, y, direction x, direction y             FONTCRUNCH_SAMPLES
