@@ -12,7 +12,8 @@ use Rattle.chain.specs.declared.Piece.{Piece}
 use Rattle.contour.specs.Output.{front}
 use Rattle.rows.specs.Rows.{Work, work, zeroWork}
 use Rattle.edition.specs.Edition.{Rooms}
-use Rattle.edition.specs.Scratch.{Inputs, inputs, roomsOf, cleared}
+use Rattle.rows.specs.Lent.{Inputs, inputs}
+use Rattle.edition.specs.Scratch.{roomsOf, cleared}
 use Rattle.pieces.specs.Slots.{Chain, chain, chained, roomOf}
 use Rattle.chains.specs.Chains.{Outcome, refused, unchanged, chainOf}
 use Rattle.chains.specs.Chains as Chains

@@ -5,7 +5,8 @@ use lib.ListN.{length}
 use Rattle.float.specs.Numbers.{nil, one}
 use Rattle.breaks.specs.Breaks.{halfGrid}
 use Rattle.rows.specs.Rows.{Work}
-use Rattle.edition.specs.Scratch.{Inputs, inputs, roomsOf, cleared}
+use Rattle.rows.specs.Lent.{Inputs, inputs}
+use Rattle.edition.specs.Scratch.{roomsOf, cleared}
 use Rattle.pieces.specs.Slots.{Chain, chained, roomOf}
 use Rattle.chains.specs.Chains.{Outcome, refused, unchanged, chainOf}
 use Rattle.chains.specs.Chains as Chains

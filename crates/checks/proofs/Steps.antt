@@ -14,7 +14,7 @@ use Rattle.numbered.specs.Numbered.{numberedRun}
 use Rattle.survey.specs.Survey.{surveyOf, surveyIn}
 use Rattle.survey.specs.declared.Surveyed as Y
 use Rattle.rows.specs.Rows.{Work, work, zeroWork}
-use Rattle.edition.specs.Scratch.{inputs}
+use Rattle.rows.specs.Lent.{inputs}
 use Rattle.checks.specs.Checks.{Given, ofRun, afterJudging, checkOf}
 use Rattle.checks.specs.Entry.{left, leaving, report, wholeOf}
 use Rattle.checks.specs.declared.Verdict as D

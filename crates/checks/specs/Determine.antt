@@ -26,7 +26,8 @@ use Rattle.chain.specs.declared.Checked.{Checked}
 use Rattle.chain.specs.declared.Checked.the-variants as Checked
 use Rattle.rows.specs.Rows.{Work, work, zeroWork}
 use Rattle.edition.specs.Edition.{Rooms, answerRoom}
-use Rattle.edition.specs.Scratch.{Inputs, inputs, roomsOf, cleared}
+use Rattle.rows.specs.Lent.{Inputs, inputs}
+use Rattle.edition.specs.Scratch.{roomsOf, cleared}
 use Rattle.checks.specs.Checks.{Given, verdictOf, unlessShort, ofSurvey, ofRun, afterJudging, checkOf}
 use Rattle.checks.specs.Entry.{report, wholeOf, left, leaving}
 use Rattle.checks.specs.declared.Verdict as D

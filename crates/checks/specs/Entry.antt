@@ -4,7 +4,8 @@ use mathlib.Core.Bool.{Bool, true, false}
 use Rattle.float.specs.Numbers.{one}
 use Rattle.breaks.specs.Breaks.{halfGrid}
 use Rattle.rows.specs.Rows.{Work}
-use Rattle.edition.specs.Scratch.{Inputs, inputs, roomsOf, cleared}
+use Rattle.rows.specs.Lent.{Inputs, inputs}
+use Rattle.edition.specs.Scratch.{roomsOf, cleared}
 use Rattle.checks.specs.Checks.{Given, checkOf}
 use Rattle.checks.specs.declared.Verdict as D
 use Rattle.checks.specs.declared.Verdict.the-variants as Verdict

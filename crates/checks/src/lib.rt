@@ -15,7 +15,7 @@ ghost use Rattle.numbered.specs.Numbered.{numberedRun};
 ghost use Rattle.breaks.specs.Breaks.{halfGrid};
 ghost use Rattle.survey.specs.Survey.{surveyed, surveyOf};
 ghost use Rattle.rows.specs.Rows.{work};
-ghost use Rattle.edition.specs.Scratch.{inputs};
+ghost use Rattle.rows.specs.Lent.{inputs};
 ghost use Rattle.checks.specs.Checks.{ofSurvey, ofRun, afterJudging};
 ghost use Rattle.checks.specs.Entry.{report, wholeOf, left, leaving};
 

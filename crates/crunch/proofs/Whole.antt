@@ -17,7 +17,7 @@ use Rattle.corners.specs.Corners.{cornersOf}
 use Rattle.corners.specs.Runs.{firstRun}
 use Rattle.rows.specs.Rows.{Work, work, zeroWork, pointZero}
 use Rattle.edition.specs.Edition.{Rooms}
-use Rattle.edition.specs.Scratch.{inputs}
+use Rattle.rows.specs.Lent.{inputs}
 use Rattle.contour.specs.Points.{Points, startPoint}
 use Rattle.contour.specs.Writing.{Wrote, written}
 use Rattle.contour.specs.Output.{Outputs}

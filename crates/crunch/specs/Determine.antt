@@ -15,7 +15,8 @@ use Rattle.contour.specs.Points.{Points}
 use Rattle.contour.specs.Implied.{number}
 use Rattle.contour.specs.Output.{Outputs, outputs, column, flagOf, flags, front}
 use Rattle.edition.specs.Edition.{Rooms}
-use Rattle.edition.specs.Scratch.{Inputs, inputs, cleared}
+use Rattle.rows.specs.Lent.{Inputs, inputs}
+use Rattle.edition.specs.Scratch.{cleared}
 use Rattle.crunch.specs.Crunch.{Outcome, refused, crunched, crunchOf}
 use Rattle.crunch.specs.Entry.{report, answerOf, outputsOf, Scratch, scratch, pointRoom, clearedAll, workIn, wholeOf, left, leaving}
 use Rattle.crunch.specs.declared.Crunched as D

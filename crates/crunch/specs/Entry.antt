@@ -7,7 +7,8 @@ use Rattle.rows.specs.Rows.{Work, pointZero}
 use Rattle.contour.specs.Points.{Points}
 use Rattle.contour.specs.Output.{Outputs, outputs, given}
 use Rattle.edition.specs.Edition.{Rooms}
-use Rattle.edition.specs.Scratch.{Inputs, inputs, roomsOf, cleared}
+use Rattle.rows.specs.Lent.{Inputs, inputs}
+use Rattle.edition.specs.Scratch.{roomsOf, cleared}
 use Rattle.crunch.specs.Crunch.{Outcome, refused, crunched, crunchOf}
 use Rattle.crunch.specs.declared.Crunched as C
 use Rattle.crunch.specs.declared.Crunched.the-variants as Crunched

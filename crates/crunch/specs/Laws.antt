@@ -27,7 +27,7 @@ use Rattle.edition.specs.Laws.{Within, work-same}
 use Rattle.contour.specs.Points.{Points}
 use Rattle.contour.specs.Laws.{finished-shorter}
 use Rattle.contour.specs.Output.{Outputs}
-use Rattle.edition.specs.Scratch.{Inputs, inputs}
+use Rattle.rows.specs.Lent.{Inputs, inputs}
 use Rattle.crunch.specs.Crunch.{State, refused, ended, going, Outcome, crunched, added, runIf, afterRun, onward, crunchFrom, overIf, outcomeOf, afterJudging, crunchRuns, crunchOf}
 use Rattle.crunch.specs.Entry.{report, answerOf, Scratch, workIn, pointRoom, wholeOf}
 

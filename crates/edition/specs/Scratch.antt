@@ -1,14 +1,7 @@
 -- The rows that an entry is lent to work runs in: how many places they have, and how they are left. Definitions only.
-use Prim.Native.Nat.{ℕ}
-use mathlib.Core.List.{List}
-use lib.IntN.{ℤ}
 use lib.ListN.{length}
 use Rattle.rows.specs.Rows.{Work, work, zeroWork}
 use Rattle.edition.specs.Edition.{Rooms}
-
--- a contour: x, y, flags
-pub data Inputs : Type 0 where
-  inputs : List ℤ → List ℤ → List ℕ → Inputs
 
 abbrev pub roomsOf : Work → Rooms
 roomsOf (work s b a l) = record { samples = length s; breaks = length b; answers = length a; links = length l }

@@ -26,7 +26,8 @@ use Rattle.chain.specs.declared.Checked.the-variants as Checked
 use Rattle.edition.specs.Edition.{Result, Rooms, answerRoom, workOf}
 use Rattle.edition.specs.Edition as Edition
 use Rattle.edition.specs.Laws.{Optimal, work-solved}
-use Rattle.edition.specs.Scratch.{Inputs, inputs, roomsOf}
+use Rattle.rows.specs.Lent.{Inputs, inputs}
+use Rattle.edition.specs.Scratch.{roomsOf}
 use Rattle.float.specs.Numbers.{one}
 use Rattle.breaks.specs.Breaks.{halfGrid}
 use Rattle.rows.specs.Rows.{Work}

@@ -4,7 +4,8 @@ use Prim.Native.Nat.{ℕ}
 use mathlib.Core.Path.{_≡_, refl, sym, ap, _∙_}
 use Rattle.rows.specs.Rows.{Work}
 use Rattle.contour.specs.Output.{Outputs}
-use Rattle.edition.specs.Scratch.{Inputs, roomsOf, cleared}
+use Rattle.rows.specs.Lent.{Inputs}
+use Rattle.edition.specs.Scratch.{roomsOf, cleared}
 use Rattle.pieces.specs.Slots.{Chain, roomOf}
 use Rattle.crunch.specs.Entry as Crunch
 use Rattle.crunch.specs.Determine as CrunchOnce

@@ -6,7 +6,7 @@ use crunch::Crunched;
 ghost use mathlib.Core.Path.{_≡_};
 ghost use Rattle.rows.specs.Rows.{work};
 ghost use Rattle.contour.specs.Output.{outputs};
-ghost use Rattle.edition.specs.Scratch.{inputs};
+ghost use Rattle.rows.specs.Lent.{inputs};
 ghost use Rattle.pieces.specs.Slots.{chain};
 ghost use Rattle.crunch.specs.Entry as Crunch;
 ghost use Rattle.chains.specs.Entry as Chains;

@@ -13,7 +13,8 @@ use Rattle.contour.specs.Implied.{number}
 use Rattle.contour.specs.Output.{Outputs, outputs, column, flagOf, flags}
 use Rattle.edition.specs.Edition.{Rooms}
 use Rattle.edition.specs.Laws.{Within}
-use Rattle.edition.specs.Scratch.{inputs, fullRooms}
+use Rattle.rows.specs.Lent.{inputs}
+use Rattle.edition.specs.Scratch.{fullRooms}
 use Rattle.crunch.specs.Crunch.{Outcome, refused, crunched, crunchOf}
 use Rattle.crunch.specs.Entry.{report, answerOf, outputsOf, Scratch, scratch, pointRoom, wholeOf, Left, left, leaving}
 use Rattle.crunch.specs.Laws.{points-within, forRoom, short, more-room}

@@ -1,7 +1,7 @@
 -- `chains::chain_of_run` meets its contract. Assumes nothing.
 use mathlib.Core.Path.{_∙_}
 use Rattle.rows.specs.Rows.{work}
-use Rattle.edition.specs.Scratch.{inputs}
+use Rattle.rows.specs.Lent.{inputs}
 use Rattle.pieces.specs.Slots.{chain}
 use Rattle.chains.specs.Entry.{wholeOf}
 use Rattle.chains.proofs.Steps.{answer-is, leaves}
