@@ -8,17 +8,17 @@ use lib.Dec.{ltb}
 use lib.Ieee.{Float, nan}
 use lib.IntN.{ℤ}
 use lib.ListN.{length, getD, take}
-use Rattle.float.specs.Numbers.{one}
 use Rattle.refusals.specs.Refusals.{judged}
 use Rattle.refusals.specs.declared.Judged.{Judged}
-use Rattle.corners.specs.declared.Run.{Run}
-use Rattle.numbered.specs.Numbered.{numberedRun}
-use Rattle.breaks.specs.Breaks.{Row, halfGrid}
+use Rattle.runs.specs.Runs.{numberedRun}
+use Rattle.runs.specs.declared.Run.{Run}
+use Rattle.breaks.specs.Breaks.{Row}
 use Rattle.breaks.specs.declared.Grid.{Grid}
+use Rattle.settings.specs.Settings.{gridOf, penaltyOf}
+use Rattle.settings.specs.declared.Settings.{Settings}
 use Rattle.optimize.specs.Answers.{Answer, scoreOf}
 use Rattle.optimize.specs.Stored.{Anywhere, Holds, starts, follows}
 use Rattle.chain.specs.declared.Piece.{Piece}
-use Rattle.rows.specs.Rows.{Work, work, zeroWork}
 use Rattle.edition.specs.Edition as E
 use Rattle.edition.specs.Edition.{Result, Rooms, Works, workOf}
 use Rattle.edition.specs.declared.Worked as W
@@ -30,7 +30,7 @@ use Rattle.pieces.specs.declared.Put as D
 use Rattle.pieces.specs.declared.Put.the-variants as Put
 use Rattle.pieces.proofs.Within.{solved-within}
 use Rattle.chains.specs.Chains.{Outcome, overIf, written, ofRun, afterJudging, chainOf}
-use Rattle.chains.specs.Entry.{report, answerOf, left, leaving}
+use Rattle.chains.specs.Entry.{answerOf, rowsOf}
 use Rattle.chains.specs.Steps.{Handed, handed, handing, Readable}
 use Rattle.chains.specs.declared.Chained as C
 use Rattle.chains.specs.declared.Chained.the-variants as Chained
@@ -101,16 +101,6 @@ module _ {penalty : Float} {breaks : Row} {answers : List (List Float)} {links :
     };
   }
 
-  pub works-refused : {x : Result} {w : W.Worked} {n : ℕ} → Works penalty breaks answers links x w → w ≡ Worked.Refused n → x ≡ E.refused n
-  works-refused (E.no e) is = ap E.refused (ap numberIn (sym e ∙ is))
-  works-refused (E.stays e) is = absurd (omega (arith, ap kind (sym e ∙ is)))
-  works-refused (E.holds samples e few fine by held) is = absurd (omega (arith, ap kind (sym e ∙ is)))
-
-  pub works-unchanged : {x : Result} {w : W.Worked} {p : ℕ} → Works penalty breaks answers links x w → w ≡ Worked.Unchanged p → x ≡ E.unchanged p
-  works-unchanged (E.no e) is = absurd (omega (arith, ap kind (sym e ∙ is)))
-  works-unchanged (E.stays e) is = ap E.unchanged (ap numberIn (sym e ∙ is))
-  works-unchanged (E.holds samples e few fine by held) is = absurd (omega (arith, ap kind (sym e ∙ is)))
-
   -- what is handed on of each answer that the rows may hold is handed on of the run's
   pub works-handed : (room : ℕ) (c : Chain) {x : Result} {w : W.Worked} {n k p : ℕ} {h : Handed} → Works penalty breaks answers links x w → w ≡ Worked.Done n k p →
       ((b : Row) (a : Answer) → Holds Anywhere b answers links k a → h ≡ handing (written room (E.solved a p)) c) →
@@ -126,24 +116,32 @@ readable-held r is = works-held (r .works) is
 
 -- ---- a run, and a contour
 
-module _ (rooms : Rooms) (c : Chain) (xs ys : List ℤ) (fs : List ℕ) {h : Handed} where
-  pub on-grid : (first count : ℕ) {g : Grid} → g ≡ halfGrid → h ≡ handing (written (roomOf c) (workOf rooms g one xs ys fs first count)) c →
-      h ≡ handing (written (roomOf c) (workOf rooms halfGrid one xs ys fs first count)) c
-  on-grid first count e is = is ∙ ap (λ (g : Grid). handing (written (roomOf c) (workOf rooms g one xs ys fs first count)) c) e
+module _ (rooms : Rooms) (settings : Settings) (c : Chain) (xs ys : List ℤ) (fs : List ℕ) {h : Handed} where
+  pub chosen : (first count : ℕ) {g : Grid} {penalty : Float} → g ≡ gridOf settings → penalty ≡ penaltyOf settings →
+      h ≡ handing (written (roomOf c) (workOf rooms g penalty xs ys fs first count)) c →
+      h ≡ handing (written (roomOf c) (workOf rooms (gridOf settings) (penaltyOf settings) xs ys fs first count)) c
+  chosen first count {g} {penalty} e f is =
+      is
+      ∙ ap (λ (g : Grid). handing (written (roomOf c) (workOf rooms g penalty xs ys fs first count)) c) e
+      ∙ ap (λ (p : Float). handing (written (roomOf c) (workOf rooms (gridOf settings) p xs ys fs first count)) c) f
 
-  pub numbered-handed : (k : ℕ) {r s : Run} → r ≡ numberedRun xs ys fs k → r ≡ s → h ≡ handing (ofRun rooms (roomOf c) halfGrid one xs ys fs s) c →
-      h ≡ handing (ofRun rooms (roomOf c) halfGrid one xs ys fs (numberedRun xs ys fs k)) c
-  numbered-handed k e as-s is = is ∙ ap (λ (r : Run). handing (ofRun rooms (roomOf c) halfGrid one xs ys fs r) c) (sym as-s ∙ e)
+  pub numbered-handed : (k : ℕ) {r s : Run} → r ≡ numberedRun xs ys fs k → r ≡ s → h ≡ handing (ofRun rooms (roomOf c) settings xs ys fs s) c →
+      h ≡ handing (ofRun rooms (roomOf c) settings xs ys fs (numberedRun xs ys fs k)) c
+  numbered-handed k e as-s is = is ∙ ap (λ (r : Run). handing (ofRun rooms (roomOf c) settings xs ys fs r) c) (sym as-s ∙ e)
 
   pub judged-handed : (k : ℕ) {r s : Judged} → r ≡ judged xs ys fs → r ≡ s →
-      h ≡ handing (afterJudging rooms (roomOf c) halfGrid one xs ys fs s (ofRun rooms (roomOf c) halfGrid one xs ys fs (numberedRun xs ys fs k))) c →
-      h ≡ handing (chainOf rooms (roomOf c) halfGrid one xs ys fs k) c
+      h ≡ handing (afterJudging s (ofRun rooms (roomOf c) settings xs ys fs (numberedRun xs ys fs k))) c →
+      h ≡ handing (chainOf rooms (roomOf c) settings xs ys fs k) c
   unfolding chainOf
   judged-handed k e as-s is =
       is
-      ∙ ap (λ (r : Judged). handing (afterJudging rooms (roomOf c) halfGrid one xs ys fs r (ofRun rooms (roomOf c) halfGrid one xs ys fs (numberedRun xs ys fs k))) c) (sym as-s ∙ e)
+      ∙ ap (λ (r : Judged). handing (afterJudging r (ofRun rooms (roomOf c) settings xs ys fs (numberedRun xs ys fs k))) c) (sym as-s ∙ e)
 
 -- ---- the entry
+
+pub with-settings : (rooms : Rooms) (c : Chain) (xs ys : List ℤ) (fs : List ℕ) (k : ℕ) {h : Handed} {s s' : Settings} → s ≡ s' →
+    h ≡ handing (chainOf rooms (roomOf c) s xs ys fs k) c → h ≡ handing (chainOf rooms (roomOf c) s' xs ys fs k) c
+with-settings rooms c xs ys fs k {h} e is = subst (λ (s : Settings). h ≡ handing (chainOf rooms (roomOf c) s xs ys fs k) c) e is
 
 abbrev answerIn : Handed → C.Chained
 answerIn (handed r c) = r
@@ -151,12 +149,9 @@ answerIn (handed r c) = r
 abbrev rowsIn : Handed → Chain
 rowsIn (handed r c) = c
 
-module _ (o : Outcome) (c : Chain) {r : C.Chained} {c' : Chain} where
-  pub answer-is : handed r c' ≡ handing o c → r ≡ answerOf o
-  answer-is e = ap answerIn e
+module _ (o : Outcome) (c : Chain) {r : C.Chained} {c' : Chain} (e : handed r c' ≡ handing o c) where
+  pub answer-is : r ≡ answerOf o
+  answer-is = ap answerIn e
 
-  -- the scratch rows are cleared at the lengths that they were lent with
-  pub leaves : (s b a : List (List Float)) (l : List ℕ) {w : Work} {n m i j : ℕ} → handed r c' ≡ handing o c →
-      w ≡ zeroWork n m i j → n ≡ length s → m ≡ length b → i ≡ length a → j ≡ length l →
-      left (report r) c' w ≡ leaving o c (work s b a l)
-  leaves s b a l e zero samples breaks answers links = rw (ap answerIn e, ap rowsIn e, zero, samples, breaks, answers, links) refl
+  pub rows-are : c' ≡ rowsOf o c
+  rows-are = ap rowsIn e

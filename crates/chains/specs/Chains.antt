@@ -9,10 +9,11 @@ use lib.ListN.{length}
 use Rattle.refusals.specs.Refusals.{judged}
 use Rattle.refusals.specs.declared.Judged.{Judged}
 use Rattle.refusals.specs.declared.Judged.the-variants as Judged
-use Rattle.corners.specs.declared.Run.{Run}
-use Rattle.corners.specs.declared.Run.the-variants.{Between, Nothing}
-use Rattle.numbered.specs.Numbered.{numberedRun}
-use Rattle.breaks.specs.declared.Grid.{Grid}
+use Rattle.runs.specs.declared.Run.{Run}
+use Rattle.runs.specs.declared.Run.the-variants.{Between, Nothing}
+use Rattle.runs.specs.Runs.{numberedRun}
+use Rattle.settings.specs.Settings.{gridOf, penaltyOf}
+use Rattle.settings.specs.declared.Settings.{Settings}
 use Rattle.optimize.specs.Answers.{scoreOf}
 use Rattle.chain.specs.declared.Piece.{Piece}
 use Rattle.edition.specs.Edition.{Result, Rooms, workOf}
@@ -35,17 +36,18 @@ written room (Edition.refused k) = refused k
 written room (Edition.unchanged p) = unchanged p
 written room (Edition.solved a p) = overIf (ltb room (length (piecesOf a))) (piecesOf a) (scoreOf a) p
 
-module _ (rooms : Rooms) (room : ℕ) (g : Grid) (penalty : Float) (xs ys : List ℤ) (fs : List ℕ) where
+-- refusals 1 to 5 first
+abbrev pub afterJudging : Judged → Outcome → Outcome
+afterJudging (Judged.Refused k) o = refused k
+afterJudging Judged.Fine o = o
+
+-- with chain rows of so many places
+module _ (rooms : Rooms) (room : ℕ) (settings : Settings) (xs ys : List ℤ) (fs : List ℕ) where
   -- refusal 10: no such run, or the run is one copied line
   abbrev pub ofRun : Run → Outcome
   ofRun Nothing = refused 10
-  ofRun (Between first count) = written room (workOf rooms g penalty xs ys fs first count)
+  ofRun (Between first count) = written room (workOf rooms (gridOf settings) (penaltyOf settings) xs ys fs first count)
 
-  -- refusals 1 to 5 first
-  abbrev pub afterJudging : Judged → Outcome → Outcome
-  afterJudging (Judged.Refused k) o = refused k
-  afterJudging Judged.Fine o = o
-
-  -- of run k, with chain rows of so many places
+  -- of run k
   unfoldable pub chainOf : ℕ → Outcome
   chainOf k = afterJudging (judged xs ys fs) (ofRun (numberedRun xs ys fs k))

@@ -1,13 +1,15 @@
 -- What the chain entry hands back and leaves in every lent row. Definitions only.
 use Prim.Native.Nat.{ℕ}
+use mathlib.Core.Path.{_≡_}
 use lib.Ieee.{Float}
 use lib.ListN.{length}
-use Rattle.float.specs.Numbers.{nil, one}
-use Rattle.breaks.specs.Breaks.{halfGrid}
+use denote.Triple.Both.{Both}
+use Rattle.float.specs.Numbers.{nil}
 use Rattle.rows.specs.Rows.{Work}
-use Rattle.rows.specs.Lent.{Inputs, inputs}
-use Rattle.edition.specs.Scratch.{roomsOf, cleared}
-use Rattle.pieces.specs.Slots.{Chain, chained, roomOf}
+use Rattle.rows.specs.Lent.{Lent, before, after, Inputs, inputs}
+use Rattle.settings.specs.declared.Settings.{Settings}
+use Rattle.edition.specs.Scratch.{Scratch, roomsOf, cleared}
+use Rattle.pieces.specs.Slots.{Chain, chain, chained, roomOf}
 use Rattle.chains.specs.Chains.{Outcome, refused, unchanged, chainOf}
 use Rattle.chains.specs.Chains as Chains
 use Rattle.chains.specs.declared.Chained as C
@@ -38,13 +40,22 @@ rowsOf (Chains.chained ps s p) c = chained ps c
 
 -- ---- the rows
 
--- run k of a contour, with document 01's grid and penalty
-abbrev pub wholeOf : Inputs → ℕ → Chain → Work → Outcome
-wholeOf (inputs xs ys fs) k c w = chainOf (roomsOf w) (roomOf c) halfGrid one xs ys fs k
+-- the chain's rows, lent and handed back
+abbrev pub LentChain : Type 0
+LentChain = Both Chain Chain
 
--- all that is handed back and left
-pub data Left : Type 0 where
-  left : Report → Chain → Work → Left
+abbrev pub chainIn : Lent ℕ → Lent ℕ → Lent Float → Lent Float → LentChain
+chainIn st en cx cy = record {
+  entry = chain (before st) (before en) (before cx) (before cy);
+  exit = chain (after st) (after en) (after cx) (after cy);
+}
 
-abbrev pub leaving : Outcome → Chain → Work → Left
-leaving o c w = left (report (answerOf o)) (rowsOf o c) (cleared w)
+-- run k of a contour
+abbrev pub wholeOf : Inputs → Settings → ℕ → Chain → Work → Outcome
+wholeOf (inputs xs ys fs) settings k c w = chainOf (roomsOf w) (roomOf c) settings xs ys fs k
+
+-- the entry's contract: what it hands back, what it leaves in the chain's rows, and that the scratch rows are zero throughout, whatever they held
+pub record Promise (i : Inputs) (settings : Settings) (k : ℕ) (c : LentChain) (w : Scratch) (r : C.Chained) : Type 0 where
+  pub answer : r ≡ answerOf (wholeOf i settings k (c .entry) (w .entry))
+  pub rows : c .exit ≡ rowsOf (wholeOf i settings k (c .entry) (w .entry)) (c .entry)
+  pub work : w .exit ≡ cleared (w .entry)

@@ -1,13 +1,14 @@
 -- What the steps of the chain entry hand on, and what they ask of the answer rows. Definitions only.
 use Prim.Native.Nat.{ℕ}
 use mathlib.Core.List.{List}
+use mathlib.Core.Path.{_≡_}
 use lib.Ieee.{Float}
 use Rattle.breaks.specs.Breaks.{Row}
 use Rattle.edition.specs.Edition.{Result, Works}
 use Rattle.edition.specs.declared.Worked as W
 use Rattle.pieces.specs.Slots.{Chain}
 use Rattle.chains.specs.Chains.{Outcome}
-use Rattle.chains.specs.Entry.{answerOf, rowsOf}
+use Rattle.chains.specs.Entry.{answerOf, rowsOf, LentChain}
 use Rattle.chains.specs.declared.Chained as C
 
 -- the answer, and the chain's rows
@@ -16,6 +17,10 @@ pub data Handed : Type 0 where
 
 abbrev pub handing : Outcome → Chain → Handed
 handing o c = handed (answerOf o) (rowsOf o c)
+
+-- what is handed back for an outcome, with the chain's rows
+abbrev pub Hands : Outcome → LentChain → C.Chained → Type 0
+Hands o c r = handed r (c .exit) ≡ handing o (c .entry)
 
 -- the rows hold what the work on a run says of them
 pub record Readable (answers : List (List Float)) (links : List ℕ) (worked : W.Worked) : Type 0 where

@@ -1,29 +1,24 @@
 // The chain entry: a contour in three rows and a run number; the optimiser's chain of that run out in four
 // rows, start break, end break, control x, control y; and four scratch rows, which are left zero throughout
 // whatever they held.
-use breaks::Grid;
-use corners::Run;
 use edition::Worked;
 use pieces::Put;
 use refusals::Judged;
-ghost use mathlib.Core.Path.{_≡_};
+use runs::Run;
+use settings::Settings;
 ghost use lib.Ieee.{Float};
-ghost use Rattle.float.specs.Numbers.{one};
-ghost use Rattle.rows.specs.Rows.{work};
-ghost use Rattle.breaks.specs.Breaks.{Row, halfGrid};
+ghost use Rattle.rows.specs.Lent.{before, contour};
+ghost use Rattle.settings.specs.Settings.{gridOf, penaltyOf, crateSettings};
+ghost use Rattle.breaks.specs.Breaks.{Row};
 ghost use Rattle.optimize.specs.Answers.{Answer};
 ghost use Rattle.optimize.specs.Stored.{Anywhere, Holds};
-ghost use Rattle.numbered.specs.Numbered.{numberedRun};
+ghost use Rattle.runs.specs.Runs.{numberedRun};
 ghost use Rattle.edition.specs.Edition.{Result, solved, workOf, Works};
-ghost use Rattle.rows.specs.Lent.{inputs};
-ghost use Rattle.edition.specs.Scratch.{roomsOf};
-ghost use Rattle.pieces.specs.Slots.{chain, roomOf, Held};
-ghost use Rattle.chains.specs.Chains.{written, ofRun};
-ghost use Rattle.chains.specs.Entry.{report, answerOf, wholeOf, left, leaving};
-ghost use Rattle.chains.specs.Steps.{handed, handing, Readable};
-
-// Document 01's penalty.
-const PENALTY: f64 = 1.0;
+ghost use Rattle.edition.specs.Scratch.{roomsIn, scratch};
+ghost use Rattle.pieces.specs.Slots.{roomOf, Held};
+ghost use Rattle.chains.specs.Chains.{written, ofRun, chainOf};
+ghost use Rattle.chains.specs.Entry.{chainIn, Promise};
+ghost use Rattle.chains.specs.Steps.{Hands, Readable};
 
 pub enum Chained {
     // the number of a refusal
@@ -46,10 +41,8 @@ fn put_solved(
     cys: &mut [f64],
 ) -> Chained
     requires { ⌜ Held (now answers) (now links) k ⌝ }
-    ensures { λ r. ⌜ ((breaks : Row) (a : Answer) → Holds Anywhere breaks (now (answers .entry)) (now (links .entry)) k a →
-        handed r (chain (now (starts .exit)) (now (ends .exit)) (now (cxs .exit)) (now (cys .exit)))
-        ≡ handing (written (roomOf (chain (now (starts .entry)) (now (ends .entry)) (now (cxs .entry)) (now (cys .entry)))) (solved a pairs))
-        (chain (now (starts .entry)) (now (ends .entry)) (now (cxs .entry)) (now (cys .entry)))) ⌝ }
+    ensures { λ r. ⌜ ((breaks : Row) (a : Answer) → Holds Anywhere breaks (before answers) (before links) k a →
+        Hands (written (roomOf (chainIn starts ends cxs cys .entry)) (solved a pairs)) (chainIn starts ends cxs cys) r) ⌝ }
 {
     match pieces::put_chain(answers, links, k, starts, ends, cxs, cys) {
         Put::Over => Chained::Refused(9),
@@ -67,10 +60,8 @@ fn put_worked(
     cys: &mut [f64],
 ) -> Chained
     requires { ⌜ Readable (now answers) (now links) worked ⌝ }
-    ensures { λ r. ⌜ ((penalty : Float) (breaks : Row) (x : Result) → Works penalty breaks (now (answers .entry)) (now (links .entry)) x worked →
-        handed r (chain (now (starts .exit)) (now (ends .exit)) (now (cxs .exit)) (now (cys .exit)))
-        ≡ handing (written (roomOf (chain (now (starts .entry)) (now (ends .entry)) (now (cxs .entry)) (now (cys .entry)))) x)
-        (chain (now (starts .entry)) (now (ends .entry)) (now (cxs .entry)) (now (cys .entry)))) ⌝ }
+    ensures { λ r. ⌜ ((penalty : Float) (breaks : Row) (x : Result) → Works penalty breaks (before answers) (before links) x worked →
+        Hands (written (roomOf (chainIn starts ends cxs cys .entry)) x) (chainIn starts ends cxs cys) r) ⌝ }
 {
     match worked {
         Worked::Refused(n) => Chained::Refused(n),
@@ -88,6 +79,7 @@ fn chain_run(
     flags: &[u8],
     first: usize,
     count: usize,
+    settings: Settings,
     starts: &mut [u32],
     ends: &mut [u32],
     cxs: &mut [f64],
@@ -97,10 +89,8 @@ fn chain_run(
     answers: &mut [[f64; 3]],
     links: &mut [u32],
 ) -> Chained
-    ensures { λ r. ⌜ handed r (chain (now (starts .exit)) (now (ends .exit)) (now (cxs .exit)) (now (cys .exit)))
-        ≡ handing (written (roomOf (chain (now (starts .entry)) (now (ends .entry)) (now (cxs .entry)) (now (cys .entry))))
-        (workOf (roomsOf (work (now (samples .entry)) (now (breaks .entry)) (now (answers .entry)) (now (links .entry)))) halfGrid one (now (xs .entry)) (now (ys .entry)) (now (flags .entry)) first count))
-        (chain (now (starts .entry)) (now (ends .entry)) (now (cxs .entry)) (now (cys .entry))) ⌝ }
+    ensures { λ r. ⌜ Hands (written (roomOf (chainIn starts ends cxs cys .entry)) (workOf (roomsIn samples breaks answers links)
+        (gridOf settings) (penaltyOf settings) (before xs) (before ys) (before flags) first count)) (chainIn starts ends cxs cys) r ⌝ }
 {
     let worked = edition::work_run(
         xs,
@@ -108,8 +98,8 @@ fn chain_run(
         flags,
         first,
         count,
-        Grid::half(),
-        PENALTY,
+        settings.grid(),
+        settings.per_piece(),
         samples,
         breaks,
         answers,
@@ -124,6 +114,7 @@ fn chain_fine(
     ys: &[i16],
     flags: &[u8],
     k: usize,
+    settings: Settings,
     starts: &mut [u32],
     ends: &mut [u32],
     cxs: &mut [f64],
@@ -133,12 +124,10 @@ fn chain_fine(
     answers: &mut [[f64; 3]],
     links: &mut [u32],
 ) -> Chained
-    ensures { λ r. ⌜ handed r (chain (now (starts .exit)) (now (ends .exit)) (now (cxs .exit)) (now (cys .exit)))
-        ≡ handing (ofRun (roomsOf (work (now (samples .entry)) (now (breaks .entry)) (now (answers .entry)) (now (links .entry)))) (roomOf (chain (now (starts .entry)) (now (ends .entry)) (now (cxs .entry)) (now (cys .entry))))
-        halfGrid one (now (xs .entry)) (now (ys .entry)) (now (flags .entry)) (numberedRun (now (xs .entry)) (now (ys .entry)) (now (flags .entry)) k))
-        (chain (now (starts .entry)) (now (ends .entry)) (now (cxs .entry)) (now (cys .entry))) ⌝ }
+    ensures { λ r. ⌜ Hands (ofRun (roomsIn samples breaks answers links) (roomOf (chainIn starts ends cxs cys .entry)) settings
+        (before xs) (before ys) (before flags) (numberedRun (before xs) (before ys) (before flags) k)) (chainIn starts ends cxs cys) r ⌝ }
 {
-    match numbered::numbered_run(xs, ys, flags, k) {
+    match runs::numbered_run(xs, ys, flags, k) {
         Run::Nothing => Chained::Refused(10),
         Run::Between(first, count) => {
             chain_run(
@@ -147,6 +136,7 @@ fn chain_fine(
                 flags,
                 first,
                 count,
+                settings,
                 starts,
                 ends,
                 cxs,
@@ -165,6 +155,7 @@ fn chain_judged(
     ys: &[i16],
     flags: &[u8],
     k: usize,
+    settings: Settings,
     starts: &mut [u32],
     ends: &mut [u32],
     cxs: &mut [f64],
@@ -174,10 +165,8 @@ fn chain_judged(
     answers: &mut [[f64; 3]],
     links: &mut [u32],
 ) -> Chained
-    ensures { λ r. ⌜ handed r (chain (now (starts .exit)) (now (ends .exit)) (now (cxs .exit)) (now (cys .exit)))
-        ≡ handing (wholeOf (inputs (now (xs .entry)) (now (ys .entry)) (now (flags .entry))) k (chain (now (starts .entry)) (now (ends .entry)) (now (cxs .entry)) (now (cys .entry)))
-        (work (now (samples .entry)) (now (breaks .entry)) (now (answers .entry)) (now (links .entry))))
-        (chain (now (starts .entry)) (now (ends .entry)) (now (cxs .entry)) (now (cys .entry))) ⌝ }
+    ensures { λ r. ⌜ Hands (chainOf (roomsIn samples breaks answers links) (roomOf (chainIn starts ends cxs cys .entry)) settings
+        (before xs) (before ys) (before flags) k) (chainIn starts ends cxs cys) r ⌝ }
 {
     match refusals::judge(xs, ys, flags) {
         Judged::Refused(n) => Chained::Refused(n),
@@ -187,6 +176,7 @@ fn chain_judged(
                 ys,
                 flags,
                 k,
+                settings,
                 starts,
                 ends,
                 cxs,
@@ -214,21 +204,14 @@ pub fn chain_of_run(
     answers: &mut [[f64; 3]],
     links: &mut [u32],
 ) -> Chained
-    ensures left { λ r. ⌜ left (report r) (chain (now (starts .exit)) (now (ends .exit)) (now (cxs .exit)) (now (cys .exit)))
-        (work (now (samples .exit)) (now (breaks .exit)) (now (answers .exit)) (now (links .exit)))
-        ≡ leaving (wholeOf (inputs (now (xs .entry)) (now (ys .entry)) (now (flags .entry))) k (chain (now (starts .entry)) (now (ends .entry)) (now (cxs .entry)) (now (cys .entry)))
-        (work (now (samples .entry)) (now (breaks .entry)) (now (answers .entry)) (now (links .entry))))
-        (chain (now (starts .entry)) (now (ends .entry)) (now (cxs .entry)) (now (cys .entry)))
-        (work (now (samples .entry)) (now (breaks .entry)) (now (answers .entry)) (now (links .entry))) ⌝ }
-    ensures answer { λ r. ⌜ r ≡ answerOf (wholeOf (inputs (now (xs .entry)) (now (ys .entry)) (now (flags .entry))) k
-        (chain (now (starts .entry)) (now (ends .entry)) (now (cxs .entry)) (now (cys .entry)))
-        (work (now (samples .entry)) (now (breaks .entry)) (now (answers .entry)) (now (links .entry)))) ⌝ }
+    ensures { λ r. ⌜ Promise (contour xs ys flags) crateSettings k (chainIn starts ends cxs cys) (scratch samples breaks answers links) r ⌝ }
 {
     let r = chain_judged(
         xs,
         ys,
         flags,
         k,
+        Settings::of_crate(),
         starts,
         ends,
         cxs,

@@ -9,10 +9,11 @@ use lib.ListN.{length}
 use Rattle.refusals.specs.Refusals.{judged}
 use Rattle.refusals.specs.declared.Judged.{Judged}
 use Rattle.refusals.specs.declared.Judged.the-variants as Judged
-use Rattle.corners.specs.declared.Run.{Run}
-use Rattle.corners.specs.declared.Run.the-variants.{Between, Nothing}
-use Rattle.numbered.specs.Numbered.{numberedRun}
-use Rattle.breaks.specs.declared.Grid.{Grid}
+use Rattle.runs.specs.declared.Run.{Run}
+use Rattle.runs.specs.declared.Run.the-variants.{Between, Nothing}
+use Rattle.runs.specs.Runs.{numberedRun}
+use Rattle.settings.specs.Settings.{gridOf, penaltyOf}
+use Rattle.settings.specs.declared.Settings.{Settings}
 use Rattle.survey.specs.Survey.{Survey, surveyOf}
 use Rattle.survey.specs.Survey as Survey
 use Rattle.chain.specs.Valid.{checkRows}
@@ -39,19 +40,19 @@ abbrev pub unlessShort : Bool → D.Verdict → D.Verdict
 unlessShort true v = Verdict.Refused 7
 unlessShort false v = v
 
--- half: half the shortest answer row, a room for breaks
-module _ (half : ℕ) (penalty : Float) (c : Given) where
-  -- after 6 and 7 the chain is judged; a run whose length is past its samples has no break, so no chain
-  abbrev pub ofSurvey : Survey → D.Verdict
-  ofSurvey (Survey.refused k) = Verdict.Refused k
-  ofSurvey Survey.past = Verdict.No
-  ofSurvey (Survey.surveyed samples breaks) =
-      unlessShort (ltb half (length breaks)) (verdictOf (checkRows samples breaks penalty (c .starts) (c .ends) (c .xs) (c .ys) (c .score)))
+-- half: half the shortest answer row, a room for breaks. After 6 and 7 the chain is judged; a run whose length is past its samples has no break, so no
+-- chain
+abbrev pub ofSurvey : ℕ → Float → Given → Survey → D.Verdict
+ofSurvey half penalty c (Survey.refused k) = Verdict.Refused k
+ofSurvey half penalty c Survey.past = Verdict.No
+ofSurvey half penalty c (Survey.surveyed samples breaks) =
+    unlessShort (ltb half (length breaks)) (verdictOf (checkRows samples breaks penalty (c .starts) (c .ends) (c .xs) (c .ys) (c .score)))
 
-  -- refusal 10: no such run, or the run is one copied line
-  abbrev pub ofRun : ℕ → ℕ → Grid → List ℤ → List ℤ → List ℕ → Run → D.Verdict
-  ofRun sampleRow breakRow g xs ys fs Nothing = Verdict.Refused 10
-  ofRun sampleRow breakRow g xs ys fs (Between first count) = ofSurvey (surveyOf sampleRow breakRow xs ys fs first count g)
+-- refusal 10: no such run, or the run is one copied line
+abbrev pub ofRun : ℕ → Settings → Given → ℕ → ℕ → List ℤ → List ℤ → List ℕ → Run → D.Verdict
+ofRun half settings c sampleRow breakRow xs ys fs Nothing = Verdict.Refused 10
+ofRun half settings c sampleRow breakRow xs ys fs (Between first count) =
+    ofSurvey half (penaltyOf settings) c (surveyOf sampleRow breakRow xs ys fs first count (gridOf settings))
 
 -- refusals 1 to 5 first
 abbrev pub afterJudging : Judged → D.Verdict → D.Verdict
@@ -59,6 +60,7 @@ afterJudging (Judged.Refused k) v = Verdict.Refused k
 afterJudging Judged.Fine v = v
 
 -- of a chain for run k
-unfoldable pub checkOf : Rooms → Grid → Float → List ℤ → List ℤ → List ℕ → Given → ℕ → D.Verdict
-checkOf rooms g penalty xs ys fs c k =
-    afterJudging (judged xs ys fs) (ofRun (answerRoom (rooms .answers) (rooms .links)) penalty c (rooms .samples) (rooms .breaks) g xs ys fs (numberedRun xs ys fs k))
+unfoldable pub checkOf : Rooms → Settings → List ℤ → List ℤ → List ℕ → Given → ℕ → D.Verdict
+checkOf rooms settings xs ys fs c k =
+    afterJudging (judged xs ys fs)
+    (ofRun (answerRoom (rooms .answers) (rooms .links)) settings c (rooms .samples) (rooms .breaks) xs ys fs (numberedRun xs ys fs k))

@@ -1,11 +1,12 @@
 -- What the checker's entry hands back and leaves in every lent row. Definitions only.
 use Prim.Native.Nat.{ℕ}
 use mathlib.Core.Bool.{Bool, true, false}
-use Rattle.float.specs.Numbers.{one}
-use Rattle.breaks.specs.Breaks.{halfGrid}
+use mathlib.Core.Path.{_≡_}
+use lib.Ieee.{Float}
 use Rattle.rows.specs.Rows.{Work}
-use Rattle.rows.specs.Lent.{Inputs, inputs}
-use Rattle.edition.specs.Scratch.{roomsOf, cleared}
+use Rattle.rows.specs.Lent.{Lent, before, Inputs, inputs}
+use Rattle.settings.specs.declared.Settings.{Settings}
+use Rattle.edition.specs.Scratch.{Scratch, roomsOf, cleared}
 use Rattle.checks.specs.Checks.{Given, checkOf}
 use Rattle.checks.specs.declared.Verdict as D
 use Rattle.checks.specs.declared.Verdict.the-variants as Verdict
@@ -20,13 +21,15 @@ report (Verdict.Refused k) = record { number = k; accepted = false }
 report Verdict.Yes = record { number = 0; accepted = true }
 report Verdict.No = record { number = 0; accepted = false }
 
--- a chain for run k of a contour, with document 01's grid and penalty
-abbrev pub wholeOf : Inputs → ℕ → Given → Work → D.Verdict
-wholeOf (inputs xs ys fs) k c w = checkOf (roomsOf w) halfGrid one xs ys fs c k
+-- a chain as it is lent, to be read
+abbrev pub given : Lent ℕ → Lent ℕ → Lent Float → Lent Float → Float → Given
+given starts ends cxs cys score = record { starts = before starts; ends = before ends; xs = before cxs; ys = before cys; score = score }
 
--- all that is handed back and left
-pub data Left : Type 0 where
-  left : Report → Work → Left
+-- a chain for run k of a contour
+abbrev pub wholeOf : Inputs → Settings → ℕ → Given → Work → D.Verdict
+wholeOf (inputs xs ys fs) settings k c w = checkOf (roomsOf w) settings xs ys fs c k
 
-abbrev pub leaving : D.Verdict → Work → Left
-leaving v w = left (report v) (cleared w)
+-- the entry's contract: what it hands back, and what it leaves in the scratch rows w
+pub record Promise (i : Inputs) (settings : Settings) (k : ℕ) (c : Given) (w : Scratch) (r : D.Verdict) : Type 0 where
+  pub verdict : r ≡ wholeOf i settings k c (w .entry)
+  pub left : w .exit ≡ cleared (w .entry)

@@ -1,3 +1,3 @@
 pub mod Checks
-pub mod Determine
 pub mod Entry
+pub mod Determine

@@ -1,26 +1,22 @@
 // The checker's entry: a contour in three rows, a run number, a chain in four rows with its score; and four
 // scratch rows, which are left zero throughout whatever they held. Answers and links are lent for their
 // rooms alone: the checker has the same rooms as the optimiser.
-use breaks::Grid;
 use chain::Checked;
-use corners::Run;
 use refusals::Judged;
+use runs::Run;
+use settings::Settings;
 use survey::Surveyed;
 ghost use mathlib.Core.Path.{_≡_};
 ghost use Prim.Native.Nat.{_<_};
 ghost use lib.ListN.{length};
-ghost use Rattle.float.specs.Numbers.{one};
 ghost use Rattle.refusals.specs.Refusals.{judged};
-ghost use Rattle.numbered.specs.Numbered.{numberedRun};
-ghost use Rattle.breaks.specs.Breaks.{halfGrid};
+ghost use Rattle.rows.specs.Lent.{before, room, contour};
+ghost use Rattle.runs.specs.Runs.{numberedRun};
+ghost use Rattle.settings.specs.Settings.{gridOf, penaltyOf, crateSettings};
 ghost use Rattle.survey.specs.Survey.{surveyed, surveyOf};
-ghost use Rattle.rows.specs.Rows.{work};
-ghost use Rattle.rows.specs.Lent.{inputs};
+ghost use Rattle.edition.specs.Scratch.{scratch};
 ghost use Rattle.checks.specs.Checks.{ofSurvey, ofRun, afterJudging};
-ghost use Rattle.checks.specs.Entry.{report, wholeOf, left, leaving};
-
-// Document 01's penalty.
-const PENALTY: f64 = 1.0;
+ghost use Rattle.checks.specs.Entry.{given, Promise};
 
 pub enum Verdict {
     // the number of a refusal
@@ -34,6 +30,7 @@ fn check_surveyed(
     samples: &[[f64; 4]],
     breaks: &[[f64; 5]],
     half: usize,
+    settings: Settings,
     starts: &[u32],
     ends: &[u32],
     cxs: &[f64],
@@ -41,14 +38,22 @@ fn check_surveyed(
     score: f64,
 ) -> Verdict
     requires { ⌜ 0 < length (now breaks) ⌝ }
-    ensures { λ r. ⌜ r ≡ ofSurvey half one
-        (record { starts = now (starts .entry); ends = now (ends .entry); xs = now (cxs .entry); ys = now (cys .entry); score = score })
-        (surveyed (now (samples .entry)) (now (breaks .entry))) ⌝ }
+    ensures { λ r. ⌜ r ≡ ofSurvey half (penaltyOf settings) (given starts ends cxs cys score)
+        (surveyed (before samples) (before breaks)) ⌝ }
 {
     if half < breaks.len() {
         return Verdict::Refused(7);
     }
-    match chain::check(samples, breaks, starts, ends, cxs, cys, score, PENALTY) {
+    match chain::check(
+        samples,
+        breaks,
+        starts,
+        ends,
+        cxs,
+        cys,
+        score,
+        settings.per_piece(),
+    ) {
         Checked::Last => Verdict::Refused(8),
         Checked::Yes => Verdict::Yes,
         Checked::No => Verdict::No,
@@ -68,14 +73,23 @@ fn check_run(
     cys: &[f64],
     score: f64,
     half: usize,
+    settings: Settings,
     samples: &mut [[f64; 4]],
     breaks: &mut [[f64; 5]],
 ) -> Verdict
-    ensures { λ r. ⌜ r ≡ ofSurvey half one
-        (record { starts = now (starts .entry); ends = now (ends .entry); xs = now (cxs .entry); ys = now (cys .entry); score = score })
-        (surveyOf (length (now (samples .entry))) (length (now (breaks .entry))) (now (xs .entry)) (now (ys .entry)) (now (flags .entry)) first count halfGrid) ⌝ }
+    ensures { λ r. ⌜ r ≡ ofSurvey half (penaltyOf settings) (given starts ends cxs cys score)
+        (surveyOf (room samples) (room breaks) (before xs) (before ys) (before flags) first count (gridOf settings)) ⌝ }
 {
-    match survey::survey(xs, ys, flags, first, count, Grid::half(), samples, breaks) {
+    match survey::survey(
+        xs,
+        ys,
+        flags,
+        first,
+        count,
+        settings.grid(),
+        samples,
+        breaks,
+    ) {
         Surveyed::Refused(n) => Verdict::Refused(n),
         Surveyed::Past => Verdict::No,
         Surveyed::Rows(n, m) => {
@@ -83,6 +97,7 @@ fn check_run(
                 &samples[..n],
                 &breaks[..m],
                 half,
+                settings,
                 starts,
                 ends,
                 cxs,
@@ -105,14 +120,14 @@ fn check_fine(
     cys: &[f64],
     score: f64,
     half: usize,
+    settings: Settings,
     samples: &mut [[f64; 4]],
     breaks: &mut [[f64; 5]],
 ) -> Verdict
-    ensures { λ r. ⌜ r ≡ ofRun half one
-        (record { starts = now (starts .entry); ends = now (ends .entry); xs = now (cxs .entry); ys = now (cys .entry); score = score })
-        (length (now (samples .entry))) (length (now (breaks .entry))) halfGrid (now (xs .entry)) (now (ys .entry)) (now (flags .entry)) (numberedRun (now (xs .entry)) (now (ys .entry)) (now (flags .entry)) k) ⌝ }
+    ensures { λ r. ⌜ r ≡ ofRun half settings (given starts ends cxs cys score)
+        (room samples) (room breaks) (before xs) (before ys) (before flags) (numberedRun (before xs) (before ys) (before flags) k) ⌝ }
 {
-    match numbered::numbered_run(xs, ys, flags, k) {
+    match runs::numbered_run(xs, ys, flags, k) {
         Run::Nothing => Verdict::Refused(10),
         Run::Between(first, count) => {
             check_run(
@@ -127,6 +142,7 @@ fn check_fine(
                 cys,
                 score,
                 half,
+                settings,
                 samples,
                 breaks,
             )
@@ -145,12 +161,12 @@ fn check_judged(
     cys: &[f64],
     score: f64,
     half: usize,
+    settings: Settings,
     samples: &mut [[f64; 4]],
     breaks: &mut [[f64; 5]],
 ) -> Verdict
-    ensures { λ r. ⌜ r ≡ afterJudging (judged (now (xs .entry)) (now (ys .entry)) (now (flags .entry))) (ofRun half one
-        (record { starts = now (starts .entry); ends = now (ends .entry); xs = now (cxs .entry); ys = now (cys .entry); score = score })
-        (length (now (samples .entry))) (length (now (breaks .entry))) halfGrid (now (xs .entry)) (now (ys .entry)) (now (flags .entry)) (numberedRun (now (xs .entry)) (now (ys .entry)) (now (flags .entry)) k)) ⌝ }
+    ensures { λ r. ⌜ r ≡ afterJudging (judged (before xs) (before ys) (before flags)) (ofRun half settings (given starts ends cxs cys score)
+        (room samples) (room breaks) (before xs) (before ys) (before flags) (numberedRun (before xs) (before ys) (before flags) k)) ⌝ }
 {
     match refusals::judge(xs, ys, flags) {
         Judged::Refused(n) => Verdict::Refused(n),
@@ -166,6 +182,7 @@ fn check_judged(
                 cys,
                 score,
                 half,
+                settings,
                 samples,
                 breaks,
             )
@@ -188,14 +205,7 @@ pub fn check_chain(
     answers: &mut [[f64; 3]],
     links: &mut [u32],
 ) -> Verdict
-    ensures left { λ r. ⌜ left (report r) (work (now (samples .exit)) (now (breaks .exit)) (now (answers .exit)) (now (links .exit)))
-        ≡ leaving (wholeOf (inputs (now (xs .entry)) (now (ys .entry)) (now (flags .entry))) k
-        (record { starts = now (starts .entry); ends = now (ends .entry); xs = now (cxs .entry); ys = now (cys .entry); score = score })
-        (work (now (samples .entry)) (now (breaks .entry)) (now (answers .entry)) (now (links .entry))))
-        (work (now (samples .entry)) (now (breaks .entry)) (now (answers .entry)) (now (links .entry))) ⌝ }
-    ensures verdict { λ r. ⌜ r ≡ wholeOf (inputs (now (xs .entry)) (now (ys .entry)) (now (flags .entry))) k
-        (record { starts = now (starts .entry); ends = now (ends .entry); xs = now (cxs .entry); ys = now (cys .entry); score = score })
-        (work (now (samples .entry)) (now (breaks .entry)) (now (answers .entry)) (now (links .entry))) ⌝ }
+    ensures { λ r. ⌜ Promise (contour xs ys flags) crateSettings k (given starts ends cxs cys score) (scratch samples breaks answers links) r ⌝ }
 {
     let half = rows::least(answers.len(), links.len()) / 2;
     let r = check_judged(
@@ -209,6 +219,7 @@ pub fn check_chain(
         cys,
         score,
         half,
+        Settings::of_crate(),
         samples,
         breaks,
     );

@@ -9,8 +9,6 @@ use Rattle.float.specs.Float.{absOf, tiny, closeTo, rootDown, rootNear, rootUni
 use Rattle.float.proofs.Decimals.{Decimal, decimal, value, nearest}
 use Rattle.corners.specs.Segments.{countOf, endOf, placeAfter, segFrom}
 use Rattle.corners.specs.Corners.{fiftieth, marked, stateAt, cornersOf}
-use Rattle.corners.specs.Runs.{firstMark, runAt, isCopied}
-use Rattle.corners.specs.declared.Run.the-variants.{Between, Nothing}
 
 -- 0.02 is the f64 nearest to its decimal
 abbrev constants : List Decimal
@@ -30,18 +28,10 @@ lost-curve : cornersOf (pos 0 ∷ pos 100 ∷ pos 50 ∷ []) (pos 0 ∷ pos 0 �
 unfolding cornersOf marked stateAt segFrom countOf placeAfter endOf closeTo tiny absOf rootOf rootUnits rootNear rootDown Ieee.ofInt Ieee.ofBits Ieee.round Ieee.size Ieee.add Ieee.sub Ieee.mul Ieee.div Ieee.lt
 lost-curve = refl
 
--- (0, 0), (100, 0), (200, 0), (200, 100), all on: no corner at (100, 0). Run 0 has two segments, run 1 is one line, which is copied
+-- (0, 0), (100, 0), (200, 0), (200, 100), all on: no corner at (100, 0)
 abbrev flat : List Bool
 flat = cornersOf (pos 0 ∷ pos 100 ∷ pos 200 ∷ pos 200 ∷ []) (pos 0 ∷ pos 0 ∷ pos 0 ∷ pos 100 ∷ []) (1 ∷ 1 ∷ 1 ∷ 1 ∷ []) 4
 
 flat-corners : flat ≡ true ∷ false ∷ true ∷ true ∷ []
 unfolding cornersOf marked stateAt segFrom countOf placeAfter endOf closeTo tiny absOf rootOf rootUnits rootNear rootDown Ieee.ofInt Ieee.ofBits Ieee.round Ieee.size Ieee.add Ieee.sub Ieee.mul Ieee.div Ieee.lt
 flat-corners = refl
-
-runs : map (runAt (true ∷ false ∷ true ∷ true ∷ [])) (0 ∷ 1 ∷ 2 ∷ []) ≡ Between 0 2 ∷ Between 2 1 ∷ Nothing ∷ []
-unfolding runAt firstMark
-runs = refl
-
-copied : map (isCopied [] [] (1 ∷ 1 ∷ 1 ∷ 0 ∷ [])) (Between 0 2 ∷ Between 1 1 ∷ Between 2 1 ∷ Nothing ∷ []) ≡ false ∷ true ∷ false ∷ false ∷ []
-unfolding segFrom placeAfter endOf
-copied = refl

@@ -1,5 +1,4 @@
 pub mod Segments
 pub mod Corners
-pub mod Runs
 pub mod OpenType
 pub mod Laws

@@ -1,6 +1,5 @@
-// Module 3: segments of a contour, its corners, and the runs between them. A contour is three rows: x,
-// y, and flags whose bit 0 means on-curve. Each contract equates the result with a definition of
-// specs/, and asks nothing.
+// Module 3: segments of a contour, and its corners. A contour is three rows: x, y, and flags whose bit 0
+// means on-curve. Each contract equates the result with a definition of specs/, and asks nothing.
 use geometry::Point;
 ghost use mathlib.Core.Path.{_≡_};
 ghost use Prim.Native.Nat.{_-_};
@@ -9,7 +8,6 @@ ghost use Rattle.corners.specs.Segments.{coordinate, onAt, countOf, next
 ghost use Rattle.corners.specs.Segments.{isQuadOf, chordOf, leavingOf, arrivingOf};
 ghost use Rattle.corners.specs.Corners.{turnsX, turnsY, turns, keptOf, afterTurn, zeroTangent, angleCorner, tangentCorner};
 ghost use Rattle.corners.specs.Corners.{none, markIf, marked, stateAt, turnAt, tangentAt, cornersOf};
-ghost use Rattle.corners.specs.Runs.{cornerFrom, runFrom, firstRun, nextRun, runAt, copiedFrom, isCopied};
 
 // ---- segments
 
@@ -342,104 +340,4 @@ pub fn segment_sp(xs: &[i16], ys: &[i16], flags: &[u8], marks: &mut [bool]) -> u
     sign_round(xs, ys, flags, m, s, marks);
     tangent_round(xs, ys, flags, m, marks);
     m
-}
-
-// ---- runs
-
-pub enum Corner {
-    At(usize),
-    Nowhere,
-}
-
-// A run, from one corner up to the next: its first segment, and how many it has. Nothing where no such run is.
-pub enum Run {
-    Between(usize, usize),
-    Nothing,
-}
-
-// The first corner at or after k.
-pub fn corner_from(marks: &[bool], k: usize) -> Corner
-    ensures { λ r. ⌜ r ≡ cornerFrom (now (marks .entry)) k ⌝ }
-{
-    let mut i = k;
-    while i < marks.len() {
-        if marks[i] {
-            return Corner::At(i);
-        }
-        i += 1;
-    }
-    Corner::Nowhere
-}
-
-// The run that starts at corner a.
-fn run_from(marks: &[bool], a: usize) -> Run
-    ensures { λ r. ⌜ r ≡ runFrom (now (marks .entry)) a ⌝ }
-{
-    if marks.len() <= a {
-        return Run::Nothing;
-    }
-    match corner_from(marks, a + 1) {
-        Corner::At(b) => Run::Between(a, b - a),
-        Corner::Nowhere => Run::Nothing,
-    }
-}
-
-pub fn first_run(marks: &[bool]) -> Run
-    ensures { λ r. ⌜ r ≡ firstRun (now (marks .entry)) ⌝ }
-{
-    match corner_from(marks, 0) {
-        Corner::At(a) => run_from(marks, a),
-        Corner::Nowhere => Run::Nothing,
-    }
-}
-
-pub fn next_run(marks: &[bool], r: Run) -> Run
-    ensures { λ s. ⌜ s ≡ nextRun (now (marks .entry)) r ⌝ }
-{
-    match r {
-        Run::Between(first, count) => {
-            if marks.len() <= first {
-                return Run::Nothing;
-            }
-            if marks.len() - first <= count {
-                return Run::Nothing;
-            }
-            run_from(marks, first + count)
-        }
-        Run::Nothing => Run::Nothing,
-    }
-}
-
-// Run k. The walk ends with the last run, however large k is.
-pub fn run_at(marks: &[bool], k: usize) -> Run
-    ensures { λ r. ⌜ r ≡ runAt (now (marks .entry)) k ⌝ }
-{
-    let mut r = first_run(marks);
-    let mut i = 0;
-    while i < k {
-        let Run::Between(_, _) = r else {
-            return Run::Nothing;
-        };
-        r = next_run(marks, r);
-        i += 1;
-    }
-    r
-}
-
-// Whether the run of so many segments from place a on is one line, which is copied.
-pub fn is_copied_from(xs: &[i16], ys: &[i16], flags: &[u8], a: usize, count: usize) -> bool
-    ensures { λ r. ⌜ r ≡ copiedFrom (now (xs .entry)) (now (ys .entry)) (now (flags .entry)) a count ⌝ }
-{
-    count == 1 && !read_from(xs, ys, flags, a).is_quad()
-}
-
-pub fn is_copied(xs: &[i16], ys: &[i16], flags: &[u8], r: Run) -> bool
-    ensures { λ b. ⌜ b ≡ isCopied (now (xs .entry)) (now (ys .entry)) (now (flags .entry)) r ⌝ }
-{
-    match r {
-        Run::Between(first, count) => {
-            is_copied_from(xs, ys, flags, start_of(flags, first), count)
-        }
-        Run::Nothing => false,
-    }
 }

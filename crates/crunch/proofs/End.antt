@@ -1,5 +1,6 @@
 -- The end of a contour: what the points in the row become, and what is given out of them. Assumes nothing.
 use Prim.Native.Nat.{ℕ, _≤_}
+use native.Mathlib.Nat.{le-trans}
 use native.Mathlib.Omega.{arith}
 use mathlib.Core.Bool.{Bool, true, false}
 use mathlib.Core.List.{List, _++_}
@@ -7,76 +8,47 @@ use mathlib.Core.Path.{_≡_, refl, sym, ap, subst, _∙_}
 use lib.Dec.{ltb}
 use lib.IntN.{ℤ}
 use lib.ListN.{length, take, length-append}
-use lib.Seq.{length-take-le, take-append-le}
+use lib.Seq.{take-append-le}
 use Rattle.contour.specs.Points.{Points}
 use Rattle.contour.specs.Writing.{Writing, so, over, unlessOver, written, Wrote, Holds}
 use Rattle.contour.specs.Implied.{finished}
-use Rattle.contour.specs.Laws.{wrote-all, holds-count, finished-shorter}
+use Rattle.contour.specs.Laws.{holds-count}
 use Rattle.contour.specs.Output.{Outputs, outputs, given}
-use Rattle.contour.specs.declared.Written.{Written}
-use Rattle.crunch.specs.Crunch.{State, Outcome, refused, crunched, overIf, outcomeOf}
+use Rattle.assembly.specs.Assembly.{State}
+use Rattle.assembly.specs.Stands.{Stands, stops, ends, goes}
+use Rattle.assembly.specs.declared.Crunching as C
+use Rattle.assembly.specs.declared.Progress.{Progress}
+use Rattle.crunch.specs.Crunch.{Outcome, refused, crunched, overIf, outcomeOf}
 use Rattle.crunch.specs.Crunch as S
-use Rattle.crunch.specs.Stands.{Stands, stops, ends, goes, outcomeBy, outcomeIn, Roomy, Takes, Ready, Gives}
+use Rattle.crunch.specs.Entry.{answerOf, outputsOf}
+use Rattle.crunch.specs.Stands.{Gives, no, yes, outcomeBy, outcomeIn, Counted, Fits}
+use Rattle.crunch.specs.Steps.{copied}
 use Rattle.crunch.specs.declared.Crunched as D
 use Rattle.crunch.specs.declared.Crunched.the-variants as Crunched
-use Rattle.crunch.specs.declared.runs.Crunching as C
-use Rattle.crunch.specs.declared.runs.Progress.{Progress}
 
--- ---- `put_out`
+-- ---- `finish_points`
 
-pub over-gives : (row : Points) (o : Outputs) (p : Progress) → p .w .over ≡ true → Gives (outcomeBy row p) o o (Crunched.Refused 9)
-over-gives row o p h = rw h (record { rows = refl; answer = refl })
+pub over-gives : (row : Points) {row' : Points} (p : Progress) → p .w .over ≡ true → Gives row' (outcomeBy row p) (Crunched.Refused 9)
+over-gives row p h = rw h (no refl)
 
-module _ (row : Points) (ox oy : List ℤ) (of : List ℕ) (p : Progress) (h : p .w .over ≡ false) {row' : Points} {n : ℕ} (held : Holds row' n (finished (take (p .w .count) row))) where
-  pub out-fits : Takes row (outputs ox oy of) p → (n ≤ length row') × (n ≤ length ox) × (n ≤ length oy) × (n ≤ length of)
-  out-fits takes =
-      let (x, y, f) = takes .roomy h in
-      let few : n ≤ p .w .count =
-      omega (arith, holds-count held, finished-shorter (take (p .w .count) row), length-take-le (p .w .count) row (takes .within)) in
-      (held .within, omega arith, omega arith, omega arith)
-
-  pub out-gives : {o : Outputs} → o ≡ given (take n row') (outputs ox oy of) → Gives (outcomeBy row p) (outputs ox oy of) o (Crunched.Points n (p .pairs))
-  out-gives e =
-      rw h (record {
-        rows = e ∙ ap (λ (ps : Points). given ps (outputs ox oy of)) (held .are);
-        answer = ap (λ (m : ℕ). Crunched.Points m (p .pairs)) (sym (holds-count held));
-      })
+pub all-gives : (row : Points) (p : Progress) → p .w .over ≡ false → {row' : Points} {n : ℕ} → Holds row' n (finished (take (p .w .count) row)) →
+    Gives row' (outcomeBy row p) (Crunched.Points n (p .pairs))
+all-gives row p h held = rw h (yes refl held)
 
 -- ---- `finish`, whose answer is one of three
 
-pub gives-by : (row : Points) {c d : C.Crunching} {o o' : Outputs} {r : D.Crunched} → c ≡ d → Gives (outcomeIn row d) o o' r → Gives (outcomeIn row c) o o' r
-gives-by row {o = o} {o' = o'} {r = r} e g = subst (λ (x : C.Crunching). Gives (outcomeIn row x) o o' r) (sym e) g
+pub gives-by : (row : Points) {row' : Points} {c d : C.Crunching} {r : D.Crunched} → c ≡ d → Gives row' (outcomeIn row d) r → Gives row' (outcomeIn row c) r
+gives-by row {row'} {r = r} e g = subst (λ (x : C.Crunching). Gives row' (outcomeIn row x) r) (sym e) g
 
--- ---- the row is lent up to its room: what stands in its first places stands in the row
-
-wrote-all-row : {sub : Points} (rest : Points) {w : Written} {s : Writing} → Wrote sub w s → Wrote (sub ++ rest) w s
-wrote-all-row {sub} rest {w} wrote =
-    record {
-      within = omega (arith, wrote .within, length-append sub rest);
-      is = ap (unlessOver (w .over)) (take-append-le (w .count) sub rest (wrote .within)) ∙ wrote .is;
-    }
-
-pub stands-in : {room : ℕ} {sub : Points} (rest : Points) {s : State} {c : C.Crunching} → Stands room sub s c → Stands room (sub ++ rest) s c
-stands-in rest (stops e) = stops e
-stands-in rest (ends e wrote pairs) = ends e (wrote-all-row rest wrote) pairs
-stands-in rest (goes e wrote pairs) = goes e (wrote-all-row rest wrote) pairs
-
-takes : {room : ℕ} {row : Points} {ox oy : List ℤ} {of : List ℕ} {p : Progress} (ps : Points) → Wrote row (p .w) (written room ps) → Roomy room (outputs ox oy of) → Takes row (outputs ox oy of) p
-takes {room} {row} {ox} {oy} {of} {p} ps wrote (x, y, f) =
-    record {
-      within = wrote .within;
-      roomy = λ h.
-          let (held, few) = wrote-all room ps wrote h in
-          let count = holds-count held in
-          (omega arith, omega arith, omega arith);
-    }
-
-pub ready : {room : ℕ} {row : Points} {s : State} {c : C.Crunching} (ox oy : List ℤ) (of : List ℕ) → Stands room row s c → Roomy room (outputs ox oy of) → Ready row (outputs ox oy of) c
-ready {row = row} ox oy of (stops e) roomy = subst (Ready row (outputs ox oy of)) (sym e) tt
-ready {row = row} ox oy of (ends {ps = ps} e wrote pairs) roomy = subst (Ready row (outputs ox oy of)) (sym e) (takes ps wrote roomy)
-ready {row = row} ox oy of (goes {ps = ps} e wrote pairs) roomy = subst (Ready row (outputs ox oy of)) (sym e) (takes ps wrote roomy)
+pub counted-by : (row : Points) {c d : C.Crunching} → c ≡ d → Counted row c → Counted row d
+counted-by row e h = subst (Counted row) e h
 
 -- ---- the outcome, of the state that the row stands for
+
+pub counted : {room : ℕ} {row : Points} {s : State} {c : C.Crunching} → Stands room row s c → Counted row c
+counted {row = row} (stops e) = subst (Counted row) (sym e) tt
+counted {row = row} (ends e wrote pairs) = subst (Counted row) (sym e) (wrote .within)
+counted {row = row} (goes e wrote pairs) = subst (Counted row) (sym e) (wrote .within)
 
 abbrev byWriting : ℕ → Writing → Outcome
 byWriting pairs (so ps) = crunched (finished ps) pairs
@@ -99,6 +71,37 @@ outcome-is {row = row} (stops e) = ap (outcomeIn row) e
 outcome-is {room} {row} (ends {ps = ps} {n = n} e wrote pairs) = ap (outcomeIn row) e ∙ written-is room ps n wrote pairs
 outcome-is {room} {row} (goes {ps = ps} {n = n} e wrote pairs) = ap (outcomeIn row) e ∙ written-is room ps n wrote pairs
 
-pub gives-outcome : {room n : ℕ} {row : Points} {s : State} {c : C.Crunching} {o o' : Outputs} {r : D.Crunched} → room ≡ n → Stands room row s c → Gives (outcomeIn row c) o o' r →
-    Gives (outcomeOf n s) o o' r
-gives-outcome {s = s} {o = o} {o' = o'} {r = r} e stands g = subst (λ (x : Outcome). Gives x o o' r) (outcome-is stands ∙ ap (λ (k : ℕ). outcomeOf k s) e) g
+pub gives-outcome : {room : ℕ} {row row' : Points} {s : State} {c : C.Crunching} {r : D.Crunched} → Stands room row s c → Gives row' (outcomeIn row c) r → Gives row' (outcomeOf room s) r
+gives-outcome {row' = row'} {r = r} stands g = subst (λ (x : Outcome). Gives row' x r) (outcome-is stands) g
+
+-- ---- `put_out`
+
+pub refused-out : (row : Points) (o : Outputs) {c : D.Crunched} {k : ℕ} → c ≡ Crunched.Refused k → o ≡ copied c row o
+refused-out row o e = rw e refl
+
+pub points-out : (row : Points) (o : Outputs) {o' : Outputs} {c : D.Crunched} {n p : ℕ} → c ≡ Crunched.Points n p → o' ≡ given (take n row) o → o' ≡ copied c row o
+points-out row o e h = rw e h
+
+pub fits-out : (row : Points) (ox oy : List ℤ) (of : List ℕ) {c : D.Crunched} {n p : ℕ} → c ≡ Crunched.Points n p → Fits row (outputs ox oy of) c →
+    (n ≤ length row) × (n ≤ length ox) × (n ≤ length oy) × (n ≤ length of)
+fits-out row ox oy of e h = subst (Fits row (outputs ox oy of)) e h
+
+-- ---- the row is lent up to its room: what stands in its first places stands in the row
+
+module _ {sub : Points} (rest : Points) where
+  held-in : {n : ℕ} {ps : Points} → Holds sub n ps → Holds (sub ++ rest) n ps
+  held-in {n} h = record { within = omega (arith, h .within, length-append sub rest); are = take-append-le n sub rest (h .within) ∙ h .are }
+
+  pub gives-fit : (ox oy : List ℤ) (of : List ℕ) {x : Outcome} {r : D.Crunched} → Gives sub x r → length sub ≤ length ox → length sub ≤ length oy → length sub ≤ length of →
+      Fits (sub ++ rest) (outputs ox oy of) r
+  gives-fit ox oy of (no e) x y f = subst (Fits (sub ++ rest) (outputs ox oy of)) (sym e) tt
+  gives-fit ox oy of (yes e h) x y f =
+      subst (Fits (sub ++ rest) (outputs ox oy of)) (sym e) (held-in h .within, le-trans (h .within) x, le-trans (h .within) y, le-trans (h .within) f)
+
+  pub gives-answer : {x : Outcome} {r : D.Crunched} → Gives sub x r → r ≡ answerOf x
+  gives-answer (no e) = e
+  gives-answer (yes {n = n} {p = p} e h) = e ∙ ap (λ (k : ℕ). Crunched.Points k p) (sym (holds-count h))
+
+  pub gives-outs : {x : Outcome} {r : D.Crunched} (o : Outputs) → Gives sub x r → copied r (sub ++ rest) o ≡ outputsOf x o
+  gives-outs o (no e) = rw e refl
+  gives-outs o (yes e h) = rw (e, held-in h .are) refl

@@ -1,5 +1,3 @@
--- What the proofs share: one run; the runs in order; the end of a contour, and the entry.
-mod Run
-mod Going
+-- What the proofs share: the end of a contour, and the entry.
 mod End
 mod Whole

@@ -1,45 +1,45 @@
--- The statement of `crunch_contour` determines the answer and every lent row; and the answer and the points written are those of the contour and of
--- the lengths of the rows alone, whatever the rows held. Assumes nothing.
+-- The promise of `crunch_contour` determines the answer and every lent row; and the answer and the points written are those of the contour, of the
+-- settings and of the lengths of the rows alone, whatever the rows held. Assumes nothing.
 use Prim.Native.Nat.{ℕ, min}
 use native.Mathlib.Nat.{le-refl}
 use mathlib.Core.List.{List, []}
 use mathlib.Core.Path.{_≡_, refl, sym, ap, _∙_}
-use lib.Ieee.{Float}
 use lib.IntN.{ℤ}
 use lib.ListN.{length, take, drop, replicate, length-map}
 use lib.Seq.{take-length, take-append-le}
-use Rattle.float.specs.Numbers.{one}
-use Rattle.breaks.specs.Breaks.{halfGrid}
 use Rattle.rows.specs.Rows.{Work, work, zeroWork, pointZero}
+use Rattle.rows.specs.Lent.{Inputs, inputs}
+use Rattle.settings.specs.declared.Settings.{Settings}
 use Rattle.contour.specs.Points.{Points}
 use Rattle.contour.specs.Implied.{number}
 use Rattle.contour.specs.Output.{Outputs, outputs, column, flagOf, flags, front}
 use Rattle.edition.specs.Edition.{Rooms}
-use Rattle.rows.specs.Lent.{Inputs, inputs}
-use Rattle.edition.specs.Scratch.{cleared}
+use Rattle.edition.specs.Scratch.{roomsOf, cleared}
+use Rattle.edition.specs.Laws.{same-cleared}
 use Rattle.crunch.specs.Crunch.{Outcome, refused, crunched, crunchOf}
-use Rattle.crunch.specs.Entry.{report, answerOf, outputsOf, Scratch, scratch, pointRoom, clearedAll, workIn, wholeOf, left, leaving}
+use Rattle.crunch.specs.Entry.{report, answerOf, outputsOf, Rows, LentRows, roomIn, pointRoom, wholeOf, Promise}
 use Rattle.crunch.specs.declared.Crunched as D
 
 -- ---- two outcomes of one order are one
 
-pub record Same (r r' : D.Crunched) (o o' : Outputs) (s s' b b' a a' : List (List Float)) (l l' : List ℕ) (p p' : Points) : Type 0 where
+pub record Same (r r' : D.Crunched) (t t' : Rows) : Type 0 where
   pub answer : r ≡ r'
   pub reported : report r ≡ report r'
-  pub outs : o ≡ o'
-  pub samples : s ≡ s'
-  pub breaks : b ≡ b'
-  pub answers : a ≡ a'
-  pub links : l ≡ l'
-  pub points : p ≡ p'
+  pub outs : t .outs ≡ t' .outs
+  pub work : t .work ≡ t' .work
+  pub points : t .points ≡ t' .points
 
-pub determined :
-    (i : Inputs) (o : Outputs) (t : Scratch) (r r' : D.Crunched) (ox oy ox' oy' : List ℤ) (of of' : List ℕ) (s s' b b' a a' : List (List Float)) (l l' : List ℕ) (p p' : Points) →
-    left (report r) (outputs ox oy of) (scratch (work s b a l) p) ≡ leaving (wholeOf i o t) o t → r ≡ answerOf (wholeOf i o t) →
-    left (report r') (outputs ox' oy' of') (scratch (work s' b' a' l') p') ≡ leaving (wholeOf i o t) o t → r' ≡ answerOf (wholeOf i o t) →
-    Same r r' (outputs ox oy of) (outputs ox' oy' of') s s' b b' a a' l l' p p'
-determined i o t r r' ox oy ox' oy' of of' s s' b b' a a' l l' p p' e v e' v' =
-    record { answer = cc; reported = cc; outs = cc; samples = cc; breaks = cc; answers = cc; links = cc; points = cc }
+pub determined : {i : Inputs} {settings : Settings} {t t' : LentRows} {r r' : D.Crunched} → t .entry ≡ t' .entry →
+    Promise i settings t r → Promise i settings t' r' → Same r r' (t .exit) (t' .exit)
+determined {i} {settings} {t} {t'} e p q =
+    let answer = p .answer ∙ ap (λ (u : Rows). answerOf (wholeOf i settings u)) e ∙ sym (q .answer) in
+    record {
+      answer = answer;
+      reported = ap report answer;
+      outs = p .outs ∙ ap (λ (u : Rows). outputsOf (wholeOf i settings u) (u .outs)) e ∙ sym (q .outs);
+      work = p .work ∙ ap (λ (u : Rows). cleared (u .work)) e ∙ sym (q .work);
+      points = p .points ∙ ap (λ (u : Rows). replicate (length (u .points)) pointZero) e ∙ sym (q .points);
+    }
 
 -- ---- of the lent rows only their lengths count
 
@@ -52,26 +52,20 @@ pub record Places : Type 0 where
 abbrev pub placesOf : Outputs → Places
 placesOf (outputs ox oy of) = record { x = length ox; y = length oy; flags = length of }
 
-abbrev pub pointPlaces : Scratch → ℕ
-pointPlaces (scratch w points) = length points
+-- rows of equal lengths
+pub record Alike (t t' : Rows) : Type 0 where
+  pub outs : placesOf (t .outs) ≡ placesOf (t' .outs)
+  pub work : roomsOf (t .work) ≡ roomsOf (t' .work)
+  pub points : length (t .points) ≡ length (t' .points)
 
-same-room : (o o' : Outputs) (t t' : Scratch) → placesOf o ≡ placesOf o' → pointPlaces t ≡ pointPlaces t' → pointRoom o t ≡ pointRoom o' t'
-same-room (outputs ox oy of) (outputs ox' oy' of') (scratch w points) (scratch w' points') e h =
-    ap (λ (k : Places). min (min (k .x) (k .y)) (min (k .flags) (length points))) e
-    ∙ ap (λ (n : ℕ). min (min (length ox') (length oy')) (min (length of') n)) h
+same-room : (o o' : Outputs) (n : ℕ) → placesOf o ≡ placesOf o' → roomIn o n ≡ roomIn o' n
+same-room (outputs ox oy of) (outputs ox' oy' of') n e = ap (λ (k : Places). min (min (k .x) (k .y)) (min (k .flags) n)) e
 
-pub same-whole : (i : Inputs) (o o' : Outputs) (t t' : Scratch) → placesOf o ≡ placesOf o' → workIn t ≡ workIn t' → pointPlaces t ≡ pointPlaces t' → wholeOf i o t ≡ wholeOf i o' t'
-same-whole (inputs xs ys fs) o o' t t' places rooms points =
-    ap (λ (k : Rooms). crunchOf k (pointRoom o t) halfGrid one xs ys fs) rooms
-    ∙ ap (λ (n : ℕ). crunchOf (workIn t') n halfGrid one xs ys fs) (same-room o o' t t' places points)
-
-same-work : (w w' : Work) (p p' : Points) → workIn (scratch w p) ≡ workIn (scratch w' p') → cleared w ≡ cleared w'
-same-work (work s b a l) (work s' b' a' l') p p' e = ap (λ (k : Rooms). zeroWork (k .samples) (k .breaks) (k .answers) (k .links)) e
-
-pub same-cleared : (t t' : Scratch) → workIn t ≡ workIn t' → pointPlaces t ≡ pointPlaces t' → clearedAll t ≡ clearedAll t'
-same-cleared (scratch w p) (scratch w' p') rooms points =
-    ap (λ (v : Work). scratch v (replicate (length p) pointZero)) (same-work w w' p p' rooms)
-    ∙ ap (λ (n : ℕ). scratch (cleared w') (replicate n pointZero)) points
+pub same-whole : (i : Inputs) (settings : Settings) (t t' : Rows) → Alike t t' → wholeOf i settings t ≡ wholeOf i settings t'
+same-whole (inputs xs ys fs) settings t t' a =
+    ap (λ (k : Rooms). crunchOf k (pointRoom t) settings xs ys fs) (a .work)
+    ∙ ap (λ (n : ℕ). crunchOf (roomsOf (t' .work)) n settings xs ys fs)
+    (same-room (t .outs) (t' .outs) (length (t .points)) (a .outs) ∙ ap (roomIn (t' .outs)) (a .points))
 
 -- ---- the points written
 
@@ -98,44 +92,30 @@ written-first (crunched ps p) (outputs ox oy of) =
       front-first (length ps) (flags ps) of (length-map ps flagOf),
     ) refl
 
+-- what is written, of the promise
+pub written-is : {i : Inputs} {settings : Settings} {t : LentRows} {r : D.Crunched} → Promise i settings t r →
+    firstOf (report r .points) (t .exit .outs) ≡ writtenOf (wholeOf i settings (t .entry))
+written-is {i} {settings} {t} p = rw (p .answer, p .outs) (written-first (wholeOf i settings (t .entry)) (t .entry .outs))
+
 -- ---- equal orders
 
-pub record Equal (r r' : D.Crunched) (o o' : Outputs) (s s' b b' a a' : List (List Float)) (l l' : List ℕ) (p p' : Points) : Type 0 where
+pub record Equal (r r' : D.Crunched) (t t' : Rows) : Type 0 where
   pub answer : r ≡ r'
   pub reported : report r ≡ report r'
-  pub written : firstOf (report r .points) o ≡ firstOf (report r' .points) o'
-  pub samples : s ≡ s'
-  pub breaks : b ≡ b'
-  pub answers : a ≡ a'
-  pub links : l ≡ l'
-  pub points : p ≡ p'
-
--- what is written, of the statement
-written-is : (x : Outcome) (o o' : Outputs) (t t' : Scratch) (r : D.Crunched) → left (report r) o' t' ≡ leaving x o t → firstOf (report r .points) o' ≡ writtenOf x
-written-is x o o' t t' r e =
-    let points : report r ≡ report (answerOf x) = cc in
-    let outs : o' ≡ outputsOf x o = cc in
-    rw (points, outs) (written-first x o)
+  pub written : firstOf (report r .points) (t .outs) ≡ firstOf (report r' .points) (t' .outs)
+  pub work : t .work ≡ t' .work
+  pub points : t .points ≡ t' .points
 
 -- two orders of one contour, in rows of equal lengths: the answers, the points written and the scratch rows are equal
-pub equal-orders :
-    (i : Inputs) (o o' : Outputs) (t t' : Scratch) → placesOf o ≡ placesOf o' → workIn t ≡ workIn t' → pointPlaces t ≡ pointPlaces t' →
-    (r r' : D.Crunched) (ox oy ox' oy' : List ℤ) (of of' : List ℕ) (s s' b b' a a' : List (List Float)) (l l' : List ℕ) (p p' : Points) →
-    left (report r) (outputs ox oy of) (scratch (work s b a l) p) ≡ leaving (wholeOf i o t) o t → r ≡ answerOf (wholeOf i o t) →
-    left (report r') (outputs ox' oy' of') (scratch (work s' b' a' l') p') ≡ leaving (wholeOf i o' t') o' t' → r' ≡ answerOf (wholeOf i o' t') →
-    Equal r r' (outputs ox oy of) (outputs ox' oy' of') s s' b b' a a' l l' p p'
-equal-orders i o o' t t' places rooms long r r' ox oy ox' oy' of of' s s' b b' a a' l l' p p' e v e' v' =
-    let whole = same-whole i o o' t t' places rooms long in
-    let rows = same-cleared t t' rooms long in
-    let first = written-is (wholeOf i o t) o (outputs ox oy of) t (scratch (work s b a l) p) r e in
-    let second = written-is (wholeOf i o' t') o' (outputs ox' oy' of') t' (scratch (work s' b' a' l') p') r' e' in
+pub equal-orders : {i : Inputs} {settings : Settings} {t t' : LentRows} {r r' : D.Crunched} → Alike (t .entry) (t' .entry) →
+    Promise i settings t r → Promise i settings t' r' → Equal r r' (t .exit) (t' .exit)
+equal-orders {i} {settings} {t} {t'} a p q =
+    let whole = same-whole i settings (t .entry) (t' .entry) a in
+    let answer = p .answer ∙ ap answerOf whole ∙ sym (q .answer) in
     record {
-      answer = cc;
-      reported = cc;
-      written = first ∙ ap writtenOf whole ∙ sym second;
-      samples = cc;
-      breaks = cc;
-      answers = cc;
-      links = cc;
-      points = cc;
+      answer = answer;
+      reported = ap report answer;
+      written = written-is p ∙ ap writtenOf whole ∙ sym (written-is q);
+      work = p .work ∙ same-cleared (t .entry .work) (t' .entry .work) (a .work) ∙ sym (q .work);
+      points = p .points ∙ ap (λ (n : ℕ). replicate n pointZero) (a .points) ∙ sym (q .points);
     }

@@ -1,14 +1,17 @@
 -- What the crunch entry hands back and leaves in every lent row. Definitions only.
 use Prim.Native.Nat.{ℕ, min}
+use mathlib.Core.List.{List}
+use mathlib.Core.Path.{_≡_}
+use lib.Ieee.{Float}
+use lib.IntN.{ℤ}
 use lib.ListN.{length, replicate}
-use Rattle.float.specs.Numbers.{one}
-use Rattle.breaks.specs.Breaks.{halfGrid}
+use denote.Triple.Both.{Both}
 use Rattle.rows.specs.Rows.{Work, pointZero}
+use Rattle.rows.specs.Lent.{Lent, before, after, Inputs, inputs}
+use Rattle.settings.specs.declared.Settings.{Settings}
 use Rattle.contour.specs.Points.{Points}
 use Rattle.contour.specs.Output.{Outputs, outputs, given}
-use Rattle.edition.specs.Edition.{Rooms}
-use Rattle.rows.specs.Lent.{Inputs, inputs}
-use Rattle.edition.specs.Scratch.{roomsOf, cleared}
+use Rattle.edition.specs.Scratch.{Scratch, roomsOf, cleared}
 use Rattle.crunch.specs.Crunch.{Outcome, refused, crunched, crunchOf}
 use Rattle.crunch.specs.declared.Crunched as C
 use Rattle.crunch.specs.declared.Crunched.the-variants as Crunched
@@ -34,28 +37,35 @@ outputsOf (crunched ps p) o = given ps o
 
 -- ---- the rows
 
--- the rows that a run is worked in, and the row for points
-pub data Scratch : Type 0 where
-  scratch : Work → Points → Scratch
+-- the output rows, the rows that a run is worked in, and the row for points
+pub record Rows : Type 0 where
+  pub outs : Outputs
+  pub work : Work
+  pub points : Points
 
--- the shortest of the output rows and the scratch row for points
-abbrev pub pointRoom : Outputs → Scratch → ℕ
-pointRoom (outputs ox oy of) (scratch w points) = min (min (length ox) (length oy)) (min (length of) (length points))
+abbrev pub LentRows : Type 0
+LentRows = Both Rows Rows
 
--- zero throughout, whatever they held
-abbrev pub clearedAll : Scratch → Scratch
-clearedAll (scratch w points) = scratch (cleared w) (replicate (length points) pointZero)
+abbrev pub rows : Lent ℤ → Lent ℤ → Lent ℕ → Scratch → Lent (List ℤ) → LentRows
+rows ox oy of w points = record {
+  entry = record { outs = outputs (before ox) (before oy) (before of); work = w .entry; points = before points };
+  exit = record { outs = outputs (after ox) (after oy) (after of); work = w .exit; points = after points };
+}
 
-abbrev pub workIn : Scratch → Rooms
-workIn (scratch w points) = roomsOf w
+-- the shortest of the output rows and the row for points
+abbrev pub roomIn : Outputs → ℕ → ℕ
+roomIn (outputs ox oy of) points = min (min (length ox) (length oy)) (min (length of) points)
 
--- the whole of a contour, with document 01's grid and penalty
-abbrev pub wholeOf : Inputs → Outputs → Scratch → Outcome
-wholeOf (inputs xs ys fs) o s = crunchOf (workIn s) (pointRoom o s) halfGrid one xs ys fs
+abbrev pub pointRoom : Rows → ℕ
+pointRoom t = roomIn (t .outs) (length (t .points))
 
--- all that is handed back and left
-pub data Left : Type 0 where
-  left : Report → Outputs → Scratch → Left
+-- the whole of a contour
+abbrev pub wholeOf : Inputs → Settings → Rows → Outcome
+wholeOf (inputs xs ys fs) settings t = crunchOf (roomsOf (t .work)) (pointRoom t) settings xs ys fs
 
-abbrev pub leaving : Outcome → Outputs → Scratch → Left
-leaving w o s = left (report (answerOf w)) (outputsOf w o) (clearedAll s)
+-- the entry's contract: what it hands back, what it writes, and that the scratch rows are zero throughout, whatever they held
+pub record Promise (i : Inputs) (settings : Settings) (t : LentRows) (r : C.Crunched) : Type 0 where
+  pub answer : r ≡ answerOf (wholeOf i settings (t .entry))
+  pub outs : t .exit .outs ≡ outputsOf (wholeOf i settings (t .entry)) (t .entry .outs)
+  pub work : t .exit .work ≡ cleared (t .entry .work)
+  pub points : t .exit .points ≡ replicate (length (t .entry .points)) pointZero

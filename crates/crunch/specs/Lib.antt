@@ -1,5 +1,6 @@
 pub mod Crunch
 pub mod Entry
 pub mod Stands
+pub mod Steps
 pub mod Determine
 pub mod Laws

@@ -18,10 +18,8 @@ use Rattle.optimize.specs.declared.Solved as S
 use Rattle.optimize.specs.declared.Solved.the-variants as Solved
 use Rattle.survey.specs.Survey.{Survey, surveyOf, surveyIn}
 use Rattle.survey.specs.declared.Surveyed as Y
-use Rattle.survey.specs.declared.Surveyed.the-variants as Surveyed
 use Rattle.edition.specs.Edition as E
 use Rattle.edition.specs.Edition.{Result, Rooms, answerRoom, resultOf, editionOf, afterSurvey, workOf, Found, Works}
-use Rattle.edition.specs.Laws.{surveyed-found}
 use Rattle.edition.specs.declared.Worked as D
 use Rattle.edition.specs.declared.Worked.the-variants as Worked
 
@@ -73,10 +71,6 @@ first-places {penalty} {breaks} {answers} {links} m h (E.holds {n = n} {k = k} {
     (subst (λ (b : Row). optimizeOf (measureBy samples b) b penalty ≡ solved a p) same is)
     (subst (λ (b : Row). Holds Anywhere b answers links k a) same held)
 
--- so many samples, or breaks, are in a row that is as long as it was lent
-pub in-row : (used : Y.Surveyed → ℕ) {r s : Y.Surveyed} {k l : ℕ} → r ≡ s → used r ≤ k → l ≡ k → used s ≤ l
-in-row used e h kept = omega (arith, h, ap used e, kept)
-
 module _ (rooms : Rooms) (g : Grid) (penalty : Float) (xs ys : List ℤ) (fs : List ℕ) (first count : ℕ) (samples : List Sample) (breaks : Row) {r s : Y.Surveyed}
     (e : surveyOf (rooms .samples) (rooms .breaks) xs ys fs first count g ≡ surveyIn samples breaks r) (h : r ≡ s) where
   pub surveyed-works : {row : Row} {answers : List (List Float)} {links : List ℕ} {w : D.Worked} →
@@ -85,9 +79,3 @@ module _ (rooms : Rooms) (g : Grid) (penalty : Float) (xs ys : List ℤ) (fs : L
   unfolding workOf
   surveyed-works {row} {answers} {links} {w} works =
       subst (λ (y : Survey). Works penalty row answers links (afterSurvey (rooms .answers) (rooms .links) penalty y) w) (sym (e ∙ ap (surveyIn samples breaks) h)) works
-
--- what the edition asks of the breaks that it is lent
-pub found-rows : (sampleRow breakRow : ℕ) (xs ys : List ℤ) (fs : List ℕ) (first count : ℕ) (g : Grid) (samples : List Sample) (breaks : Row) {n m : ℕ} {r : Y.Surveyed} →
-    surveyOf sampleRow breakRow xs ys fs first count g ≡ surveyIn samples breaks r → r ≡ Surveyed.Rows n m → Found (take m breaks)
-found-rows sampleRow breakRow xs ys fs first count g samples breaks {n} {m} e h =
-    surveyed-found sampleRow breakRow xs ys fs first count g (take n samples) (take m breaks) (e ∙ ap (surveyIn samples breaks) h)

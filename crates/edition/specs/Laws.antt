@@ -9,18 +9,22 @@ use borrow.Author.Tests.{ltb-false, le-ltb}
 use lib.Dec.{ltb}
 use lib.Ieee.{Float}
 use lib.IntN.{ℤ}
-use lib.ListN.{length}
+use lib.ListN.{length, take}
 use Rattle.breaks.specs.Breaks.{Row}
 use Rattle.breaks.specs.declared.Grid.{Grid}
+use Rattle.rows.specs.Rows.{Work, work, zeroWork}
 use Rattle.samples.specs.Samples.{Sample}
 use Rattle.optimize.specs.Answers.{Answer}
 use Rattle.optimize.specs.Laws.{mostPairs, pairs-few, pairs-few-unchanged}
 use Rattle.optimize.specs.Optimize.{Optimised, measureBy, optimizeOf}
 use Rattle.optimize.specs.Optimize as O
 use Rattle.survey.specs.Laws.{surveyed-some, surveyed-few, surveyed-fit, survey-same}
-use Rattle.survey.specs.Survey.{Survey, surveyOf}
+use Rattle.survey.specs.Survey.{Survey, surveyOf, surveyIn}
 use Rattle.survey.specs.Survey as Survey
+use Rattle.survey.specs.declared.Surveyed as Y
+use Rattle.survey.specs.declared.Surveyed.the-variants as Surveyed
 use Rattle.edition.specs.Edition.{Result, refused, unchanged, solved, answerRoom, resultOf, unlessShort, editionOf, afterSurvey, Rooms, workOf, Found, Works, no, stays, holds}
+use Rattle.edition.specs.Scratch.{roomsOf, cleared}
 use Rattle.edition.specs.declared.Worked as W
 use Rattle.edition.specs.declared.Worked.the-variants as Worked
 
@@ -30,6 +34,16 @@ surveyed-found sampleRow breakRow xs ys fs first count g samples breaks e =
     let some = surveyed-some sampleRow breakRow xs ys fs first count g samples breaks e in
     let fit = surveyed-fit sampleRow breakRow xs ys fs first count g samples breaks e 0 some in
     record { some = some; few = surveyed-few sampleRow breakRow xs ys fs first count g samples breaks e; fit-x = fit .0; fit-y = fit .1 }
+
+-- what the edition asks of the breaks that it is lent
+pub found-rows : (sampleRow breakRow : ℕ) (xs ys : List ℤ) (fs : List ℕ) (first count : ℕ) (g : Grid) (samples : List Sample) (breaks : Row) {n m : ℕ} {r : Y.Surveyed} →
+    surveyOf sampleRow breakRow xs ys fs first count g ≡ surveyIn samples breaks r → r ≡ Surveyed.Rows n m → Found (take m breaks)
+found-rows sampleRow breakRow xs ys fs first count g samples breaks {n} {m} e h =
+    surveyed-found sampleRow breakRow xs ys fs first count g (take n samples) (take m breaks) (e ∙ ap (surveyIn samples breaks) h)
+
+-- so many samples, or breaks, are in a row that is as long as it was lent
+pub in-row : (used : Y.Surveyed → ℕ) {r s : Y.Surveyed} {k l : ℕ} → r ≡ s → used r ≤ k → l ≡ k → used s ≤ l
+in-row used e h kept = omega (arith, h, ap used e, kept)
 
 -- ---- a solved run
 
@@ -104,24 +118,21 @@ module _ (samples : List Sample) (breaks : Row) (penalty : Float) (fine : Found 
   tested-few true = omega arith
   tested-few false = optimised-few _ refl
 
+  pub edition-pairs : (answers links : ℕ) → pairsOf (editionOf answers links samples breaks penalty) ≤ mostPairs
+  unfolding editionOf
+  edition-pairs answers links = tested-few (ltb (answerRoom answers links) (length breaks))
+
 module _ (rooms : Rooms) (g : Grid) (penalty : Float) (xs ys : List ℤ) (fs : List ℕ) (first count : ℕ) where
   after-few : (s : Survey) → surveyOf (rooms .samples) (rooms .breaks) xs ys fs first count g ≡ s →
       pairsOf (afterSurvey (rooms .answers) (rooms .links) penalty s) ≤ mostPairs
-  unfolding editionOf
   after-few (Survey.refused k) s = omega arith
   after-few Survey.past s = omega arith
   after-few (Survey.surveyed samples breaks) s =
-      tested-few samples breaks penalty (surveyed-found (rooms .samples) (rooms .breaks) xs ys fs first count g samples breaks s) (ltb (answerRoom (rooms .answers) (rooms .links)) (length breaks))
+      edition-pairs samples breaks penalty (surveyed-found (rooms .samples) (rooms .breaks) xs ys fs first count g samples breaks s) (rooms .answers) (rooms .links)
 
   pub work-pairs : pairsOf (workOf rooms g penalty xs ys fs first count) ≤ mostPairs
   unfolding workOf
   work-pairs = after-few _ refl
-
-  pub work-few : {a : Answer} {p : ℕ} → workOf rooms g penalty xs ys fs first count ≡ solved a p → p ≤ mostPairs
-  work-few e = subst (λ (x : Result). pairsOf x ≤ mostPairs) e work-pairs
-
-  pub work-few-unchanged : {p : ℕ} → workOf rooms g penalty xs ys fs first count ≡ unchanged p → p ≤ mostPairs
-  work-few-unchanged e = subst (λ (x : Result). pairsOf x ≤ mostPairs) e work-pairs
 
 pub works-pairs : {penalty : Float} {breaks : Row} {answers : List (List Float)} {links : List ℕ} {x : Result} {r : W.Worked} →
     Works penalty breaks answers links x r → pairsOf x ≡ pairsIn r
@@ -129,10 +140,17 @@ works-pairs (no e) = sym (ap pairsIn e)
 works-pairs (stays e) = sym (ap pairsIn e)
 works-pairs (holds samples e few fine is held) = sym (ap pairsIn e)
 
--- of the result as the rows hold it
-pub works-few : (rooms : Rooms) (g : Grid) (penalty : Float) (xs ys : List ℤ) (fs : List ℕ) (first count : ℕ) {breaks : Row} {answers : List (List Float)} {links : List ℕ} {r : W.Worked} →
-    Works penalty breaks answers links (workOf rooms g penalty xs ys fs first count) r → pairsIn r ≤ mostPairs
-works-few rooms g penalty xs ys fs first count w = subst (λ (k : ℕ). k ≤ mostPairs) (works-pairs w) (work-pairs rooms g penalty xs ys fs first count)
+-- what the answer of the work says of its result
+module _ {penalty : Float} {breaks : Row} {answers : List (List Float)} {links : List ℕ} where
+  pub works-refused : {x : Result} {r : W.Worked} {k : ℕ} → Works penalty breaks answers links x r → r ≡ Worked.Refused k → x ≡ refused k
+  works-refused (no e) h = cc
+  works-refused (stays e) h = let z : _≡_ {A = ℕ} 0 1 = cc in absurd (omega arith)
+  works-refused (holds samples e few fine is held) h = let z : _≡_ {A = ℕ} 0 1 = cc in absurd (omega arith)
+
+  pub works-unchanged : {x : Result} {r : W.Worked} {p : ℕ} → Works penalty breaks answers links x r → r ≡ Worked.Unchanged p → x ≡ unchanged p
+  works-unchanged (no e) h = let z : _≡_ {A = ℕ} 0 1 = cc in absurd (omega arith)
+  works-unchanged (stays e) h = cc
+  works-unchanged (holds samples e few fine is held) h = let z : _≡_ {A = ℕ} 0 1 = cc in absurd (omega arith)
 
 -- ---- longer rows
 
@@ -170,3 +188,13 @@ module _ (rooms rooms' : Rooms) (h : Within rooms rooms') (g : Grid) (penalty : 
       ap (afterSurvey (rooms' .answers) (rooms' .links) penalty)
       (survey-same (rooms .samples) (rooms .breaks) (rooms' .samples) (rooms' .breaks) (h .samples) (h .breaks) xs ys fs first count g (λ e. six (ap after e)) (λ e. seven (ap after e)))
       ∙ after-same (surveyOf (rooms .samples) (rooms .breaks) xs ys fs first count g) seven
+
+-- ---- rows of equal lengths are cleared to the same
+
+pub same-cleared : (w w' : Work) → roomsOf w ≡ roomsOf w' → cleared w ≡ cleared w'
+same-cleared (work s b a l) (work s' b' a' l') e = ap (λ (k : Rooms). zeroWork (k .samples) (k .breaks) (k .answers) (k .links)) e
+
+-- cleared at the lengths that they were lent with
+pub cleared-work : (s b a : List (List Float)) (l : List ℕ) {w : Work} {ks kb ka kl : ℕ} → w ≡ zeroWork ks kb ka kl →
+    ks ≡ length s → kb ≡ length b → ka ≡ length a → kl ≡ length l → w ≡ cleared (work s b a l)
+cleared-work s b a l e samples breaks answers links = rw (e, samples, breaks, answers, links) refl

@@ -1,2 +1,3 @@
--- What the proofs share.
+-- What the proofs share; and the contracts of the exports as the check reads them.
 mod Reports
+mod Stated

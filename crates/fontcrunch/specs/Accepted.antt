@@ -1,5 +1,5 @@
 -- Demand 3, for the entries: the first `pieces` places of the chain rows that the chain entry leaves, with its score, are accepted by the
--- checker's entry for the same contour, run, grid, penalty and row lengths. Assumes nothing.
+-- checker's entry for the same contour, settings, run and row lengths. Assumes nothing.
 use Prim.Native.Nat.{ℕ, zero, suc, _+_, _<_, _≤_}
 use native.Mathlib.Omega.{arith}
 use mathlib.Core.Bool.{Bool, true, false, _&&_}
@@ -13,10 +13,11 @@ use lib.ListN.{length, length-map}
 use Rattle.refusals.specs.Refusals.{judged}
 use Rattle.refusals.specs.declared.Judged.{Judged}
 use Rattle.refusals.specs.declared.Judged.the-variants as Judged
-use Rattle.corners.specs.declared.Run.{Run}
-use Rattle.corners.specs.declared.Run.the-variants.{Between, Nothing}
-use Rattle.numbered.specs.Numbered.{numberedRun}
-use Rattle.breaks.specs.declared.Grid.{Grid}
+use Rattle.runs.specs.declared.Run.{Run}
+use Rattle.runs.specs.declared.Run.the-variants.{Between, Nothing}
+use Rattle.runs.specs.Runs.{numberedRun}
+use Rattle.settings.specs.Settings.{gridOf, penaltyOf}
+use Rattle.settings.specs.declared.Settings.{Settings}
 use Rattle.optimize.specs.Answers.{Answer, scoreOf}
 use Rattle.survey.specs.Survey.{Survey, surveyOf}
 use Rattle.survey.specs.Survey as Survey
@@ -28,8 +29,6 @@ use Rattle.edition.specs.Edition as Edition
 use Rattle.edition.specs.Laws.{Optimal, work-solved}
 use Rattle.rows.specs.Lent.{Inputs, inputs}
 use Rattle.edition.specs.Scratch.{roomsOf}
-use Rattle.float.specs.Numbers.{one}
-use Rattle.breaks.specs.Breaks.{halfGrid}
 use Rattle.rows.specs.Rows.{Work}
 use Rattle.pieces.specs.Slots.{Chain, chain, roomOf}
 use Rattle.chains.specs.Entry as ChainEntry
@@ -110,7 +109,10 @@ was-written room (Edition.solved a q) {ps} {score} {p} e = by (ltb room (length 
     by true f = no-chain f
     by false f = record { answer = a; pairs = q; is = refl; pieces = cc; scored = cc }
 
-module _ (rooms : Rooms) (room : ℕ) (g : Grid) (penalty : Float) (xs ys : List ℤ) (fs : List ℕ) (ps : List Piece) (score : Float) (p : ℕ) where
+module _ (rooms : Rooms) (room : ℕ) (settings : Settings) (xs ys : List ℤ) (fs : List ℕ) (ps : List Piece) (score : Float) (p : ℕ) where
+  abbrev penalty : Float
+  penalty = penaltyOf settings
+
   abbrev half : ℕ
   half = answerRoom (rooms .answers) (rooms .links)
 
@@ -119,11 +121,11 @@ module _ (rooms : Rooms) (room : ℕ) (g : Grid) (penalty : Float) (xs ys : List
   unfolding Valid.checkRows
   accepted-rows samples breaks e = rw (even ps, read-back ps) e
 
-  accepted-run : (first count : ℕ) → written room (workOf rooms g penalty xs ys fs first count) ≡ chained ps score p →
-      Checks.ofSurvey half penalty (given ps score) (surveyOf (rooms .samples) (rooms .breaks) xs ys fs first count g) ≡ Verdict.Yes
+  accepted-run : (first count : ℕ) → written room (workOf rooms (gridOf settings) penalty xs ys fs first count) ≡ chained ps score p →
+      Checks.ofSurvey half penalty (given ps score) (surveyOf (rooms .samples) (rooms .breaks) xs ys fs first count (gridOf settings)) ≡ Verdict.Yes
   accepted-run first count e =
-      let was = was-written room (workOf rooms g penalty xs ys fs first count) e in
-      let best = work-solved rooms g penalty xs ys fs first count (was .answer) (was .pairs) (was .is) in
+      let was = was-written room (workOf rooms (gridOf settings) penalty xs ys fs first count) e in
+      let best = work-solved rooms (gridOf settings) penalty xs ys fs first count (was .answer) (was .pairs) (was .is) in
       let fine = best .fine in
       let yes = accepted-any (best .samples) (best .breaks) penalty (fine .some) (fine .fit-x) (fine .fit-y) (was .answer) (was .pairs) (best .is) in
       let same : Valid.checkOf (best .samples) (best .breaks) penalty ps score ≡ Checked.Yes = rw (was .pieces, was .scored) at yes in
@@ -131,17 +133,17 @@ module _ (rooms : Rooms) (room : ℕ) (g : Grid) (penalty : Float) (xs ys : List
 
   -- ---- the whole
 
-  accepted-number : (r : Run) → Chains.ofRun rooms room g penalty xs ys fs r ≡ chained ps score p →
-      Checks.ofRun half penalty (given ps score) (rooms .samples) (rooms .breaks) g xs ys fs r ≡ Verdict.Yes
+  accepted-number : (r : Run) → Chains.ofRun rooms room settings xs ys fs r ≡ chained ps score p →
+      Checks.ofRun half settings (given ps score) (rooms .samples) (rooms .breaks) xs ys fs r ≡ Verdict.Yes
   accepted-number Nothing e = no-chain e
   accepted-number (Between first count) e = accepted-run first count e
 
-  pub accepted-chain : (k : ℕ) → chainOf rooms room g penalty xs ys fs k ≡ chained ps score p → checkOf rooms g penalty xs ys fs (given ps score) k ≡ Verdict.Yes
+  pub accepted-chain : (k : ℕ) → chainOf rooms room settings xs ys fs k ≡ chained ps score p → checkOf rooms settings xs ys fs (given ps score) k ≡ Verdict.Yes
   unfolding chainOf checkOf
   accepted-chain k e = by (judged xs ys fs) e
     where
-      by : (j : Judged) → Chains.afterJudging rooms room g penalty xs ys fs j (Chains.ofRun rooms room g penalty xs ys fs (numberedRun xs ys fs k)) ≡ chained ps score p →
-          Checks.afterJudging j (Checks.ofRun half penalty (given ps score) (rooms .samples) (rooms .breaks) g xs ys fs (numberedRun xs ys fs k)) ≡ Verdict.Yes
+      by : (j : Judged) → Chains.afterJudging j (Chains.ofRun rooms room settings xs ys fs (numberedRun xs ys fs k)) ≡ chained ps score p →
+          Checks.afterJudging j (Checks.ofRun half settings (given ps score) (rooms .samples) (rooms .breaks) xs ys fs (numberedRun xs ys fs k)) ≡ Verdict.Yes
       by (Judged.Refused n) f = no-chain f
       by Judged.Fine f = accepted-number (numberedRun xs ys fs k) f
 
@@ -151,8 +153,8 @@ module _ (rooms : Rooms) (room : ℕ) (g : Grid) (penalty : Float) (xs ys : List
 abbrev pub givenBy : Chain → Float → Given
 givenBy (chain starts ends xs ys) score = record { starts = starts; ends = ends; xs = xs; ys = ys; score = score }
 
-pub demand-three : (i : Inputs) (k : ℕ) (c : Chain) (w w' : Work) (ps : List Piece) (score : Float) (pairs : ℕ) → roomsOf w ≡ roomsOf w' →
-    ChainEntry.wholeOf i k c w ≡ chained ps score pairs →
-    CheckEntry.wholeOf i k (givenBy (placesOf (length ps) (ChainEntry.rowsOf (ChainEntry.wholeOf i k c w) c)) score) w' ≡ Verdict.Yes
-demand-three (inputs xs ys fs) k c w w' ps score pairs same e =
-    rw (e, chained-places ps c, sym same) (accepted-chain (roomsOf w) (roomOf c) halfGrid one xs ys fs ps score pairs k e)
+pub demand-three : (i : Inputs) (settings : Settings) (k : ℕ) (c : Chain) (w w' : Work) (ps : List Piece) (score : Float) (pairs : ℕ) → roomsOf w ≡ roomsOf w' →
+    ChainEntry.wholeOf i settings k c w ≡ chained ps score pairs →
+    CheckEntry.wholeOf i settings k (givenBy (placesOf (length ps) (ChainEntry.rowsOf (ChainEntry.wholeOf i settings k c w) c)) score) w' ≡ Verdict.Yes
+demand-three (inputs xs ys fs) settings k c w w' ps score pairs same e =
+    rw (e, chained-places ps c, sym same) (accepted-chain (roomsOf w) (roomOf c) settings xs ys fs ps score pairs k e)

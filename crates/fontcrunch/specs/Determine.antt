@@ -1,11 +1,11 @@
--- The statements of the exported entries determine the report and every lent row; and the report and what is written are those of the inputs and
+-- The promises of the exported entries determine the report and every lent row; and the report and what is written are those of the inputs and
 -- of the lengths of the rows alone, whatever the rows held. Assumes nothing.
 use Prim.Native.Nat.{ℕ}
 use mathlib.Core.Path.{_≡_, refl, sym, ap, _∙_}
 use Rattle.rows.specs.Rows.{Work}
-use Rattle.contour.specs.Output.{Outputs}
-use Rattle.rows.specs.Lent.{Inputs}
-use Rattle.edition.specs.Scratch.{roomsOf, cleared}
+use Rattle.rows.specs.Lent.{Inputs, Shown}
+use Rattle.settings.specs.declared.Settings.{Settings}
+use Rattle.edition.specs.Scratch.{Scratch, roomsOf}
 use Rattle.pieces.specs.Slots.{Chain, roomOf}
 use Rattle.crunch.specs.Entry as Crunch
 use Rattle.crunch.specs.Determine as CrunchOnce
@@ -14,95 +14,82 @@ use Rattle.chains.specs.Determine as ChainsOnce
 use Rattle.checks.specs.Checks.{Given}
 use Rattle.checks.specs.Entry as Checks
 use Rattle.checks.specs.Determine as ChecksOnce
-use Rattle.fontcrunch.specs.Exports.{crunchReport, chainReport, leftChain, chainLeft, leftCheck, checkLeft}
+use Rattle.fontcrunch.specs.Exports.{crunchReport, chainReport, checkReport}
 use Rattle.fontcrunch.specs.declared.CrunchReport.{CrunchReport}
 use Rattle.fontcrunch.specs.declared.ChainReport.{ChainReport}
 use Rattle.fontcrunch.specs.declared.CheckReport.{CheckReport}
 
+-- two answers that are one are shown alike
+shown-same : {A R : Type 0} {show : A → R} {P Q : A → Type 0} {r r' : R} (p : Shown show P r) (q : Shown show Q r') → p .answer ≡ q .answer → r ≡ r'
+shown-same {show = show} p q e = p .is ∙ ap show e ∙ sym (q .is)
+
 -- ---- the crunch entry
 
-abbrev exported : Crunch.Report → CrunchReport
-exported r = record { number = r .number; points = r .points; pairs = r .pairs }
-
-pub record CrunchSame (r r' : CrunchReport) (o o' : Outputs) (t t' : Crunch.Scratch) : Type 0 where
+pub record CrunchSame (r r' : CrunchReport) (t t' : Crunch.Rows) : Type 0 where
   pub report : r ≡ r'
-  pub outs : o ≡ o'
-  pub scratch : t ≡ t'
+  pub outs : t .outs ≡ t' .outs
+  pub work : t .work ≡ t' .work
+  pub points : t .points ≡ t' .points
 
-pub crunch-determined : {r r' : CrunchReport} {o o' : Outputs} {t t' : Crunch.Scratch} {l : Crunch.Left} →
-    Crunch.left (crunchReport r) o t ≡ l → Crunch.left (crunchReport r') o' t' ≡ l → CrunchSame r r' o o' t t'
-crunch-determined {r} {r'} e e' =
-    let reports : crunchReport r ≡ crunchReport r' = cc in
-    record { report = ap exported reports; outs = cc; scratch = cc }
+pub crunch-determined : {i : Inputs} {settings : Settings} {t t' : Crunch.LentRows} {r r' : CrunchReport} → t .entry ≡ t' .entry →
+    Shown crunchReport (Crunch.Promise i settings t) r → Shown crunchReport (Crunch.Promise i settings t') r' → CrunchSame r r' (t .exit) (t' .exit)
+crunch-determined e p q =
+    let same = CrunchOnce.determined e (p .promise) (q .promise) in
+    record { report = shown-same p q (same .answer); outs = same .outs; work = same .work; points = same .points }
 
-pub record CrunchEqual (r r' : CrunchReport) (o o' : Outputs) (t t' : Crunch.Scratch) : Type 0 where
+pub record CrunchEqual (r r' : CrunchReport) (t t' : Crunch.Rows) : Type 0 where
   pub report : r ≡ r'
   -- the points written
-  pub written : CrunchOnce.firstOf (r .points) o ≡ CrunchOnce.firstOf (r' .points) o'
-  pub scratch : t ≡ t'
+  pub written : CrunchOnce.firstOf (r .points) (t .outs) ≡ CrunchOnce.firstOf (r' .points) (t' .outs)
+  pub work : t .work ≡ t' .work
+  pub points : t .points ≡ t' .points
 
-pub crunch-equal-orders : (i : Inputs) (o o' : Outputs) (t t' : Crunch.Scratch) (r r' : CrunchReport) (out out' : Outputs) (u u' : Crunch.Scratch) →
-    CrunchOnce.placesOf o ≡ CrunchOnce.placesOf o' → Crunch.workIn t ≡ Crunch.workIn t' → CrunchOnce.pointPlaces t ≡ CrunchOnce.pointPlaces t' →
-    Crunch.left (crunchReport r) out u ≡ Crunch.leaving (Crunch.wholeOf i o t) o t → Crunch.left (crunchReport r') out' u' ≡ Crunch.leaving (Crunch.wholeOf i o' t') o' t' →
-    CrunchEqual r r' out out' u u'
-crunch-equal-orders i o o' t t' r r' out out' u u' places rooms points e e' =
-    let x = Crunch.wholeOf i o t in
-    let same : x ≡ Crunch.wholeOf i o' t' = CrunchOnce.same-whole i o o' t t' places rooms points in
-    let mine : crunchReport r ≡ Crunch.report (Crunch.answerOf x) = cc in
-    let theirs : crunchReport r' ≡ Crunch.report (Crunch.answerOf x) = cc in
-    let zeros : Crunch.clearedAll t ≡ Crunch.clearedAll t' = CrunchOnce.same-cleared t t' rooms points in
-    let outs : out ≡ Crunch.outputsOf x o = cc in
-    let outs' : out' ≡ Crunch.outputsOf x o' = cc in
-    let n : r .points ≡ Crunch.report (Crunch.answerOf x) .points = ap (λ (k : Crunch.Report). k .points) mine in
-    let n' : r' .points ≡ Crunch.report (Crunch.answerOf x) .points = ap (λ (k : Crunch.Report). k .points) theirs in
-    record {
-      report = ap exported (mine ∙ sym theirs);
-      written = rw (n, n', outs, outs') (CrunchOnce.written-first x o ∙ sym (CrunchOnce.written-first x o'));
-      scratch = cc;
-    }
+pub crunch-equal-orders : {i : Inputs} {settings : Settings} {t t' : Crunch.LentRows} {r r' : CrunchReport} → CrunchOnce.Alike (t .entry) (t' .entry) →
+    Shown crunchReport (Crunch.Promise i settings t) r → Shown crunchReport (Crunch.Promise i settings t') r' → CrunchEqual r r' (t .exit) (t' .exit)
+crunch-equal-orders a p q =
+    let same = CrunchOnce.equal-orders a (p .promise) (q .promise) in
+    record { report = shown-same p q (same .answer); written = rw (p .is, q .is) (same .written); work = same .work; points = same .points }
 
 -- ---- the chain entry
 
 pub record ChainSame (r r' : ChainReport) (c c' : Chain) (w w' : Work) : Type 0 where
   pub report : r ≡ r'
   pub rows : c ≡ c'
-  pub scratch : w ≡ w'
+  pub work : w ≡ w'
 
-pub chain-determined : {r r' : ChainReport} {c c' : Chain} {w w' : Work} (l : Chains.Left) →
-    leftChain r c w ≡ chainLeft l → leftChain r' c' w' ≡ chainLeft l → ChainSame r r' c c' w w'
-chain-determined l e e' = record { report = cc; rows = cc; scratch = cc }
+pub chain-determined : {i : Inputs} {settings : Settings} {k : ℕ} {c c' : Chains.LentChain} {w w' : Scratch} {r r' : ChainReport} →
+    c .entry ≡ c' .entry → w .entry ≡ w' .entry → Shown chainReport (Chains.Promise i settings k c w) r → Shown chainReport (Chains.Promise i settings k c' w') r' →
+    ChainSame r r' (c .exit) (c' .exit) (w .exit) (w' .exit)
+chain-determined e f p q =
+    let same = ChainsOnce.determined e f (p .promise) (q .promise) in
+    record { report = shown-same p q (same .answer); rows = same .rows; work = same .work }
 
 pub record ChainEqual (r r' : ChainReport) (c c' : Chain) (w w' : Work) : Type 0 where
   pub report : r ≡ r'
   -- the places written
-  pub written : ChainsOnce.placesOf (r .pieces) c ≡ ChainsOnce.placesOf (r' .pieces) c'
-  pub scratch : w ≡ w'
+  pub written : ChainsOnce.placesOf (r .pieces) c ≡ ChainsOnce.placesOf (r .pieces) c'
+  pub work : w ≡ w'
 
-pub chain-equal-orders : (i : Inputs) (k : ℕ) (c c' : Chain) (w w' : Work) (r r' : ChainReport) (d d' : Chain) (v v' : Work) → roomOf c ≡ roomOf c' → roomsOf w ≡ roomsOf w' →
-    leftChain r d v ≡ chainLeft (Chains.leaving (Chains.wholeOf i k c w) c w) → leftChain r' d' v' ≡ chainLeft (Chains.leaving (Chains.wholeOf i k c' w') c' w') →
-    ChainEqual r r' d d' v v'
-chain-equal-orders i k c c' w w' r r' d d' v v' room rooms e e' =
-    let x = Chains.wholeOf i k c w in
-    let same : x ≡ Chains.wholeOf i k c' w' = ChainsOnce.same-whole i k c c' w w' room rooms in
-    let mine : r ≡ chainReport (Chains.report (Chains.answerOf x)) = cc in
-    let theirs : r' ≡ chainReport (Chains.report (Chains.answerOf x)) = cc in
-    let zeros : cleared w ≡ cleared w' = ChainsOnce.same-cleared w w' rooms in
-    let rows : d ≡ Chains.rowsOf x c = cc in
-    let rows' : d' ≡ Chains.rowsOf x c' = cc in
-    record { report = mine ∙ sym theirs; written = rw (mine, theirs, rows, rows') (ChainsOnce.same-places x c c'); scratch = cc }
+pub chain-equal-orders : {i : Inputs} {settings : Settings} {k : ℕ} {c c' : Chains.LentChain} {w w' : Scratch} {r r' : ChainReport} →
+    roomOf (c .entry) ≡ roomOf (c' .entry) → roomsOf (w .entry) ≡ roomsOf (w' .entry) →
+    Shown chainReport (Chains.Promise i settings k c w) r → Shown chainReport (Chains.Promise i settings k c' w') r' →
+    ChainEqual r r' (c .exit) (c' .exit) (w .exit) (w' .exit)
+chain-equal-orders room rooms p q =
+    let same = ChainsOnce.equal-orders room rooms (p .promise) (q .promise) in
+    record { report = shown-same p q (same .answer); written = rw (p .is) (same .places); work = same .work }
 
 -- ---- the checker's entry
 
 pub record CheckSame (r r' : CheckReport) (w w' : Work) : Type 0 where
   pub report : r ≡ r'
-  pub scratch : w ≡ w'
+  pub work : w ≡ w'
 
-pub check-determined : {r r' : CheckReport} {w w' : Work} (l : Checks.Left) → leftCheck r w ≡ checkLeft l → leftCheck r' w' ≡ checkLeft l → CheckSame r r' w w'
-check-determined l e e' = record { report = cc; scratch = cc }
+pub check-equal-orders : {i : Inputs} {settings : Settings} {k : ℕ} {c : Given} {w w' : Scratch} {r r' : CheckReport} → roomsOf (w .entry) ≡ roomsOf (w' .entry) →
+    Shown checkReport (Checks.Promise i settings k c w) r → Shown checkReport (Checks.Promise i settings k c w') r' → CheckSame r r' (w .exit) (w' .exit)
+check-equal-orders rooms p q =
+    let same = ChecksOnce.equal-orders rooms (p .promise) (q .promise) in
+    record { report = shown-same p q (same .verdict); work = same .left }
 
-pub check-equal-orders : (i : Inputs) (k : ℕ) (c : Given) (w w' : Work) (r r' : CheckReport) (v v' : Work) → roomsOf w ≡ roomsOf w' →
-    leftCheck r v ≡ checkLeft (Checks.leaving (Checks.wholeOf i k c w) w) → leftCheck r' v' ≡ checkLeft (Checks.leaving (Checks.wholeOf i k c w') w') → CheckSame r r' v v'
-check-equal-orders i k c w w' r r' v v' rooms e e' =
-    let same : Checks.wholeOf i k c w ≡ Checks.wholeOf i k c w' = ChecksOnce.same-whole i k c w w' rooms in
-    let zeros : cleared w ≡ cleared w' = ChecksOnce.same-cleared w w' rooms in
-    record { report = cc; scratch = cc }
+pub check-determined : {i : Inputs} {settings : Settings} {k : ℕ} {c : Given} {w w' : Scratch} {r r' : CheckReport} → w .entry ≡ w' .entry →
+    Shown checkReport (Checks.Promise i settings k c w) r → Shown checkReport (Checks.Promise i settings k c w') r' → CheckSame r r' (w .exit) (w' .exit)
+check-determined e p q = check-equal-orders (ap roomsOf e) p q

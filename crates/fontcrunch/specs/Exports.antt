@@ -2,39 +2,31 @@
 use Prim.Native.Nat.{ℕ}
 use mathlib.Core.Bool.{Bool, true, false}
 use lib.Ieee.{binary64, toBits}
-use Rattle.rows.specs.Rows.{Work}
-use Rattle.pieces.specs.Slots.{Chain}
 use Rattle.crunch.specs.Entry as Crunch
+use Rattle.crunch.specs.declared.Crunched.{Crunched}
 use Rattle.chains.specs.Entry as Chains
+use Rattle.chains.specs.declared.Chained.{Chained}
 use Rattle.checks.specs.Entry as Checks
+use Rattle.checks.specs.declared.Verdict.{Verdict}
 use Rattle.fontcrunch.specs.declared.CrunchReport.{CrunchReport}
 use Rattle.fontcrunch.specs.declared.ChainReport.{ChainReport}
 use Rattle.fontcrunch.specs.declared.CheckReport.{CheckReport}
 
-abbrev pub crunchReport : CrunchReport → Crunch.Report
-crunchReport r = record { number = r .number; points = r .points; pairs = r .pairs }
+abbrev pub crunchReport : Crunched → CrunchReport
+crunchReport c = record { number = Crunch.report c .number; points = Crunch.report c .points; pairs = Crunch.report c .pairs }
 
 -- every NaN has one pattern
-abbrev pub chainReport : Chains.Report → ChainReport
-chainReport r = record { number = r .number; pieces = r .pieces; pairs = r .pairs; «score_bits» = toBits binary64 (r .score) }
+abbrev pub chainReport : Chained → ChainReport
+chainReport c = record {
+  number = Chains.report c .number;
+  pieces = Chains.report c .pieces;
+  pairs = Chains.report c .pairs;
+  «score_bits» = toBits binary64 (Chains.report c .score);
+}
 
 abbrev pub bitOf : Bool → ℕ
 bitOf true = 1
 bitOf false = 0
 
-abbrev pub checkReport : Checks.Report → CheckReport
-checkReport r = record { number = r .number; accepted = bitOf (r .accepted) }
-
--- what the chain entry leaves
-pub data ChainLeft : Type 0 where
-  leftChain : ChainReport → Chain → Work → ChainLeft
-
-abbrev pub chainLeft : Chains.Left → ChainLeft
-chainLeft (Chains.left r c w) = leftChain (chainReport r) c w
-
--- what the checker's entry leaves
-pub data CheckLeft : Type 0 where
-  leftCheck : CheckReport → Work → CheckLeft
-
-abbrev pub checkLeft : Checks.Left → CheckLeft
-checkLeft (Checks.left r w) = leftCheck (checkReport r) w
+abbrev pub checkReport : Verdict → CheckReport
+checkReport v = record { number = Checks.report v .number; accepted = bitOf (Checks.report v .accepted) }

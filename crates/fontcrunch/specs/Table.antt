@@ -15,7 +15,8 @@ use Rattle.refusals.specs.Refusals.{offNeighbours, judged}
 use Rattle.corners.specs.Segments.{countOf, endOf, placeAfter, segFrom}
 use Rattle.corners.specs.Corners as Corners
 use Rattle.corners.specs.Corners.{angleCorner}
-use Rattle.corners.specs.Runs.{firstMark}
+use Rattle.runs.specs.Runs.{marksFrom, cornerList, between, runsOf}
+use Rattle.settings.specs.Settings.{crateSettings}
 use Rattle.measure.specs.declared.Measured.the-variants as Measured
 use Rattle.breaks.specs.Breaks as Breaks
 use Rattle.breaks.specs.Breaks.{halfGrid, onGrid}
@@ -24,7 +25,8 @@ use Rattle.optimize.specs.Optimize.{Measure, tryQuad, bent, tryLineQuad, tryAll
 use Rattle.edition.specs.Scratch.{fullRooms}
 use Rattle.contour.specs.Points.{Points, pointsTo, piecesPoints}
 use Rattle.contour.specs.Implied.{isImplied, impliedAt, look, dropFrom, dropImplied, cutOf}
-use Rattle.crunch.specs.Crunch.{Outcome, afterRun, crunchFrom, crunchRuns, crunchOf}
+use Rattle.assembly.specs.Assembly.{afterRun, crunchAll, crunchRuns}
+use Rattle.crunch.specs.Crunch.{Outcome, crunchOf}
 use Rattle.crunch.specs.Crunch as Crunch
 
 -- what a row gives
@@ -76,7 +78,7 @@ pairsOf (unchanged p) = tried p
 pairsOf (solved a p) = tried p
 
 abbrev pub evaluate : Case → Result
-evaluate (contour xs ys fs) = outcome (crunchOf fullRooms 16384 halfGrid one xs ys fs)
+evaluate (contour xs ys fs) = outcome (crunchOf fullRooms 16384 crateSettings xs ys fs)
 evaluate (tangents d0 d1) = byAngle (angleCorner d0 d1)
 evaluate (points ps) = left (dropImplied isImplied ps)
 evaluate (coordinate x) = breakAt (onGrid halfGrid x)
@@ -136,7 +138,7 @@ rows =
     ∷ []
 
 pub rows-hold : map (λ (r : Row). evaluate (r .case)) rows ≡ map (λ (r : Row). r .result) rows
-unfolding Corners.marked Corners.stateAt Corners.cornersOf crunchOf judged offNeighbours crunchRuns crunchFrom afterRun countOf endOf placeAfter segFrom firstMark piecesPoints dropFrom look impliedAt isImplied cutOf optimizeOf tryAll tryLineQuad bent tryQuad combined splitsFrom falling searchFrom absOf tiny closeTo wholeBy rootOf rootUnits rootNear rootDown Ieee.toSigned Ieee.ofInt Ieee.ofBits Ieee.round Ieee.size Ieee.add Ieee.sub Ieee.mul Ieee.div Ieee.lt
+unfolding Corners.marked Corners.stateAt Corners.cornersOf crunchOf judged offNeighbours crunchRuns crunchAll afterRun runsOf cornerList between marksFrom countOf endOf placeAfter segFrom piecesPoints dropFrom look impliedAt isImplied cutOf optimizeOf tryAll tryLineQuad bent tryQuad combined splitsFrom falling searchFrom absOf tiny closeTo wholeBy rootOf rootUnits rootNear rootDown Ieee.toSigned Ieee.ofInt Ieee.ofBits Ieee.round Ieee.size Ieee.add Ieee.sub Ieee.mul Ieee.div Ieee.lt
 rows-hold = refl
 
 -- each row by itself

@@ -4,15 +4,13 @@ use chains::Chained;
 use checks::Verdict;
 use crunch::Crunched;
 ghost use mathlib.Core.Path.{_≡_};
-ghost use Rattle.rows.specs.Rows.{work};
-ghost use Rattle.contour.specs.Output.{outputs};
-ghost use Rattle.rows.specs.Lent.{inputs};
-ghost use Rattle.pieces.specs.Slots.{chain};
+ghost use Rattle.rows.specs.Lent.{contour, Shown};
+ghost use Rattle.settings.specs.Settings.{crateSettings};
+ghost use Rattle.edition.specs.Scratch.{scratch};
 ghost use Rattle.crunch.specs.Entry as Crunch;
 ghost use Rattle.chains.specs.Entry as Chains;
 ghost use Rattle.checks.specs.Entry as Checks;
-ghost use Rattle.fontcrunch.specs.Exports.{crunchReport, chainLeft, checkLeft};
-ghost use Rattle.fontcrunch.specs.Exports as Exports;
+ghost use Rattle.fontcrunch.specs.Exports.{crunchReport, chainReport, checkReport};
 
 // The number of a refusal, or 0; points written; pairs tried.
 #[repr(C)]
@@ -39,7 +37,7 @@ pub struct CheckReport {
 }
 
 fn crunch_report(c: Crunched) -> CrunchReport
-    ensures { λ r. ⌜ crunchReport r ≡ Crunch.report c ⌝ }
+    ensures { λ r. ⌜ r ≡ crunchReport c ⌝ }
 {
     match c {
         Crunched::Refused(k) => CrunchReport {
@@ -56,7 +54,7 @@ fn crunch_report(c: Crunched) -> CrunchReport
 }
 
 fn chain_report(c: Chained) -> ChainReport
-    ensures { λ r. ⌜ r ≡ Exports.chainReport (Chains.report c) ⌝ }
+    ensures { λ r. ⌜ r ≡ chainReport c ⌝ }
 {
     match c {
         Chained::Refused(k) => ChainReport {
@@ -81,7 +79,7 @@ fn chain_report(c: Chained) -> ChainReport
 }
 
 fn check_report(v: Verdict) -> CheckReport
-    ensures { λ r. ⌜ r ≡ Exports.checkReport (Checks.report v) ⌝ }
+    ensures { λ r. ⌜ r ≡ checkReport v ⌝ }
 {
     match v {
         Verdict::Refused(k) => CheckReport {
@@ -113,13 +111,8 @@ pub extern "C" fn fontcrunch_crunch(
     links: &mut [u32],
     points: &mut [[i16; 3]],
 ) -> CrunchReport
-    ensures { λ r. ⌜ Crunch.left (crunchReport r) (outputs (now (ox .exit)) (now (oy .exit)) (now (of .exit)))
-        (Crunch.scratch (work (now (samples .exit)) (now (breaks .exit)) (now (answers .exit)) (now (links .exit))) (now (points .exit)))
-        ≡ Crunch.leaving (Crunch.wholeOf (inputs (now (xs .entry)) (now (ys .entry)) (now (flags .entry)))
-        (outputs (now (ox .entry)) (now (oy .entry)) (now (of .entry)))
-        (Crunch.scratch (work (now (samples .entry)) (now (breaks .entry)) (now (answers .entry)) (now (links .entry))) (now (points .entry))))
-        (outputs (now (ox .entry)) (now (oy .entry)) (now (of .entry)))
-        (Crunch.scratch (work (now (samples .entry)) (now (breaks .entry)) (now (answers .entry)) (now (links .entry))) (now (points .entry))) ⌝ }
+    ensures { λ r. ⌜ Shown crunchReport (Crunch.Promise (contour xs ys flags) crateSettings
+        (Crunch.rows ox oy of (scratch samples breaks answers links) points)) r ⌝ }
 {
     crunch_report(crunch::crunch_contour(
         xs,
@@ -151,12 +144,8 @@ pub extern "C" fn fontcrunch_chain(
     answers: &mut [[f64; 3]],
     links: &mut [u32],
 ) -> ChainReport
-    ensures { λ r. ⌜ Exports.leftChain r (chain (now (starts .exit)) (now (ends .exit)) (now (cxs .exit)) (now (cys .exit)))
-        (work (now (samples .exit)) (now (breaks .exit)) (now (answers .exit)) (now (links .exit)))
-        ≡ chainLeft (Chains.leaving (Chains.wholeOf (inputs (now (xs .entry)) (now (ys .entry)) (now (flags .entry))) k (chain (now (starts .entry)) (now (ends .entry)) (now (cxs .entry)) (now (cys .entry)))
-        (work (now (samples .entry)) (now (breaks .entry)) (now (answers .entry)) (now (links .entry))))
-        (chain (now (starts .entry)) (now (ends .entry)) (now (cxs .entry)) (now (cys .entry)))
-        (work (now (samples .entry)) (now (breaks .entry)) (now (answers .entry)) (now (links .entry)))) ⌝ }
+    ensures { λ r. ⌜ Shown chainReport (Chains.Promise (contour xs ys flags) crateSettings k (Chains.chainIn starts ends cxs cys)
+        (scratch samples breaks answers links)) r ⌝ }
 {
     chain_report(chains::chain_of_run(
         xs,
@@ -190,11 +179,8 @@ pub extern "C" fn fontcrunch_check(
     answers: &mut [[f64; 3]],
     links: &mut [u32],
 ) -> CheckReport
-    ensures { λ r. ⌜ Exports.leftCheck r (work (now (samples .exit)) (now (breaks .exit)) (now (answers .exit)) (now (links .exit)))
-        ≡ checkLeft (Checks.leaving (Checks.wholeOf (inputs (now (xs .entry)) (now (ys .entry)) (now (flags .entry))) k
-        (record { starts = now (starts .entry); ends = now (ends .entry); xs = now (cxs .entry); ys = now (cys .entry); score = score })
-        (work (now (samples .entry)) (now (breaks .entry)) (now (answers .entry)) (now (links .entry))))
-        (work (now (samples .entry)) (now (breaks .entry)) (now (answers .entry)) (now (links .entry)))) ⌝ }
+    ensures { λ r. ⌜ Shown checkReport (Checks.Promise (contour xs ys flags) crateSettings k (Checks.given starts ends cxs cys score)
+        (scratch samples breaks answers links)) r ⌝ }
 {
     check_report(checks::check_chain(
         xs,

@@ -6,8 +6,7 @@ use mathlib.Core.Path.{_≡_, refl, sym, ap, subst, _∙_}
 use native.Mathlib.Omega.{arith}
 use lib.IntN.{ℤ, pos}
 use lib.ListN.{length, getD, drop, replicate, length-map, List·getD-append}
-use Rattle.float.specs.Numbers.{one}
-use Rattle.breaks.specs.Breaks.{halfGrid}
+use Rattle.settings.specs.Settings.{crateSettings}
 use Rattle.rows.specs.Rows.{zeroWork, pointZero}
 use Rattle.contour.specs.Implied.{number}
 use Rattle.contour.specs.Output.{Outputs, outputs, column, flagOf, flags}
@@ -16,7 +15,7 @@ use Rattle.edition.specs.Laws.{Within}
 use Rattle.rows.specs.Lent.{inputs}
 use Rattle.edition.specs.Scratch.{fullRooms}
 use Rattle.crunch.specs.Crunch.{Outcome, refused, crunched, crunchOf}
-use Rattle.crunch.specs.Entry.{report, answerOf, outputsOf, Scratch, scratch, pointRoom, wholeOf, Left, left, leaving}
+use Rattle.crunch.specs.Entry.{report, answerOf, outputsOf, Rows, pointRoom, wholeOf}
 use Rattle.crunch.specs.Laws.{points-within, forRoom, short, more-room}
 use Rattle.crunch.specs.declared.Crunched as C
 use Rattle.lines.specs.Text.{Put, decimalOf}
@@ -44,16 +43,14 @@ told (crunched ps p) (outputs ox oy of) =
     ap (λ (text : List ℕ). okWord ++ (decimalOf p ++ text))
     (front-points (column 0 ps) (drop (length (column 0 ps)) ox) (column 1 ps) (drop (length (column 1 ps)) oy) (flags ps) (drop (length (flags ps)) of) (length ps) 0 (omega arith) (omega arith) (omega arith))
 
-abbrev outsIn : Left → Outputs
-outsIn (left r o s) = o
-
 -- ---- the rows as they are lent, zero throughout
 
-abbrev pub lentOut : ℕ → Outputs
-lentOut n = outputs (replicate n (pos 0)) (replicate n (pos 0)) (replicate n 0)
-
-abbrev pub lentScratch : Rooms → ℕ → Scratch
-lentScratch rooms n = scratch (zeroWork (rooms .samples) (rooms .breaks) (rooms .answers) (rooms .links)) (replicate n pointZero)
+abbrev pub lentRows : Rooms → ℕ → Rows
+lentRows rooms n = record {
+  outs = outputs (replicate n (pos 0)) (replicate n (pos 0)) (replicate n 0);
+  work = zeroWork (rooms .samples) (rooms .breaks) (rooms .answers) (rooms .links);
+  points = replicate n pointZero;
+}
 
 -- those of a small contour
 abbrev pub smallRooms : Rooms
@@ -61,22 +58,21 @@ smallRooms = record { samples = 256; breaks = 512; answers = 1024; links = 1024 
 
 module _ (rooms : Rooms) (n : ℕ) (xs ys : List ℤ) (fs : List ℕ) where
   abbrev lentWhole : Outcome
-  lentWhole = wholeOf (inputs xs ys fs) (lentOut n) (lentScratch rooms n)
+  lentWhole = wholeOf (inputs xs ys fs) crateSettings (lentRows rooms n)
 
   module _ {r : C.Crunched} (e : r ≡ answerOf lentWhole) where
     -- the points that the entry says it wrote lie in the rows
-    pub fits : {x y f : ℕ} → pointRoom (lentOut n) (lentScratch rooms n) ≡ n → x ≡ n → y ≡ n → f ≡ n → (report r .points ≤ x) × (report r .points ≤ y) × (report r .points ≤ f)
+    pub fits : {x y f : ℕ} → pointRoom (lentRows rooms n) ≡ n → x ≡ n → y ≡ n → f ≡ n → (report r .points ≤ x) × (report r .points ≤ y) × (report r .points ≤ f)
     fits room lx ly lf =
-        let few : report r .points ≤ pointRoom (lentOut n) (lentScratch rooms n) = rw e (points-within (inputs xs ys fs) (lentOut n) (lentScratch rooms n)) in
+        let few : report r .points ≤ pointRoom (lentRows rooms n) = rw e (points-within (inputs xs ys fs) crateSettings (lentRows rooms n)) in
         (omega arith, omega arith, omega arith)
 
     -- what it says is the answer, where the full rooms' outcome is the same
-    pub says : (ox oy : List ℤ) (of : List ℕ) {s : Scratch} {out out' : List ℕ} {at q : ℕ} → crunchOf fullRooms 16384 halfGrid one xs ys fs ≡ lentWhole →
-        left (report r) (outputs ox oy of) s ≡ leaving lentWhole (lentOut n) (lentScratch rooms n) →
-        Put out at (entryText r (outputs ox oy of)) out' q → Put out at (answerText xs ys fs) out' q
+    pub says : {o : Outputs} {out out' : List ℕ} {at q : ℕ} → crunchOf fullRooms 16384 crateSettings xs ys fs ≡ lentWhole →
+        o ≡ outputsOf lentWhole (lentRows rooms n .outs) → Put out at (entryText r o) out' q → Put out at (answerText xs ys fs) out' q
     unfolding answerText
-    says ox oy of {out = out} {out' = out'} {at = at} {q = q} same rows p =
-        subst (λ (text : List ℕ). Put out at text out' q) ((λ i. entryText (e i) (ap outsIn rows i)) ∙ told lentWhole (lentOut n) ∙ ap outcomeText (sym same)) p
+    says {out = out} {out' = out'} {at = at} {q = q} same rows p =
+        subst (λ (text : List ℕ). Put out at text out' q) ((λ i. entryText (e i) (rows i)) ∙ told lentWhole (lentRows rooms n .outs) ∙ ap outcomeText (sym same)) p
 
 for-room : (x : Outcome) → short x ≡ forRoom (report (answerOf x) .number)
 for-room (refused k) = refl
@@ -84,8 +80,8 @@ for-room (crunched ps p) = refl
 
 -- in a small contour's rows: what is not refused for want of room is the full rooms' outcome
 pub small-same : (xs ys : List ℤ) (fs : List ℕ) {r : C.Crunched} {t : Bool} → r ≡ answerOf (lentWhole smallRooms 1024 xs ys fs) → t ≡ forRoom (report r .number) → t ≡ false →
-    crunchOf fullRooms 16384 halfGrid one xs ys fs ≡ lentWhole smallRooms 1024 xs ys fs
+    crunchOf fullRooms 16384 crateSettings xs ys fs ≡ lentWhole smallRooms 1024 xs ys fs
 small-same xs ys fs e t fine =
     let within : Within smallRooms fullRooms = record { samples = omega arith; breaks = omega arith; answers = omega arith; links = omega arith } in
-    more-room smallRooms fullRooms 1024 16384 halfGrid one xs ys fs within (omega arith)
+    more-room smallRooms fullRooms 1024 16384 crateSettings xs ys fs within (omega arith)
     (for-room (lentWhole smallRooms 1024 xs ys fs) ∙ ap (λ (c : C.Crunched). forRoom (report c .number)) (sym e) ∙ sym t ∙ fine)

@@ -11,8 +11,7 @@ use lib.Dec.{ltb}
 use lib.IntN.{ℤ, pos}
 use lib.ListN.{length, take, drop, replicate, length-map}
 use lib.Seq.{sets, sets-eq, take-at, length-take-le}
-use Rattle.float.specs.Numbers.{one}
-use Rattle.breaks.specs.Breaks.{halfGrid}
+use Rattle.settings.specs.Settings.{crateSettings}
 use Rattle.crunch.specs.Laws.{many-refused}
 use Rattle.lines.specs.Text.{Put}
 use Rattle.lines.specs.Line.{Point, parsedOf, laid, Leaves}
@@ -28,7 +27,7 @@ part n {m} row least long = sym (length-take-le m row (omega arith))
 
 many-text : (xs ys : List ℤ) (fs : List ℕ) {n : ℕ} → length xs ≡ n → length ys ≡ n → length fs ≡ n → 1024 < n → answerText xs ys fs ≡ refusedText 3
 unfolding answerText
-many-text xs ys fs lx ly lf many = ap outcomeText (many-refused xs ys fs lx ly lf many fullRooms 16384 halfGrid one)
+many-text xs ys fs lx ly lf many = ap outcomeText (many-refused xs ys fs lx ly lf many fullRooms 16384 crateSettings)
 
 -- the points that were stored, where they are no more than the places
 read-back : {A : Type 0} (vs row : List A) {m : ℕ} → length vs ≡ m → m ≤ length row → take m (sets row 0 vs) ≡ vs

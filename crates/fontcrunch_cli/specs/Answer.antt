@@ -1,5 +1,5 @@
 -- The answer to a line, and where it is put. Definitions only.
-use Prim.Native.Nat.{ℕ, _+_}
+use Prim.Native.Nat.{ℕ, _+_, _≤_}
 use mathlib.Core.Bool.{Bool, true, false}
 use mathlib.Core.List.{List, [], _∷_, map}
 use mathlib.Core.Option.{Option, none, some}
@@ -7,8 +7,7 @@ use mathlib.Core.Path.{_≡_}
 use lib.Dec.{leb}
 use lib.IntN.{ℤ}
 use lib.ListN.{length}
-use Rattle.float.specs.Numbers.{one}
-use Rattle.breaks.specs.Breaks.{halfGrid}
+use Rattle.settings.specs.Settings.{crateSettings}
 use Rattle.contour.specs.Output.{Outputs, outputs, column, flags}
 use Rattle.edition.specs.Scratch.{fullRooms}
 use Rattle.crunch.specs.Crunch.{Outcome, refused, crunched, crunchOf}
@@ -29,9 +28,13 @@ abbrev pub entryText : C.Crunched → Outputs → List ℕ
 entryText (Crunched.Refused k) o = refusedText k
 entryText (Crunched.Points n pairs) (outputs ox oy of) = okText ox oy of pairs n
 
+-- every output row has so many places
+abbrev pub Roomy : ℕ → Outputs → Type 0
+Roomy n (outputs ox oy of) = (n ≤ length ox) × (n ≤ length oy) × (n ≤ length of)
+
 -- of a contour
 unfoldable pub answerText : List ℤ → List ℤ → List ℕ → List ℕ
-answerText xs ys fs = outcomeText (crunchOf fullRooms 16384 halfGrid one xs ys fs)
+answerText xs ys fs = outcomeText (crunchOf fullRooms 16384 crateSettings xs ys fs)
 
 -- `malformed`
 abbrev pub malformedWord : List ℕ

@@ -7,9 +7,8 @@ ghost use lib.ListN.{length};
 ghost use Rattle.contour.specs.Output.{outputs};
 ghost use Rattle.crunch.specs.Entry.{report};
 ghost use Rattle.crunch.specs.Laws.{forRoom};
-ghost use Rattle.crunch.specs.Stands.{Roomy};
 ghost use Rattle.lines.specs.Text.{Put};
-ghost use Rattle.fontcrunch_cli.specs.Answer.{entryText, answerText, lineText, placeOf, Answered, Tries};
+ghost use Rattle.fontcrunch_cli.specs.Answer.{Roomy, entryText, answerText, lineText, placeOf, Answered, Tries};
 
 // What becomes of a contour in rows that may be too short for it.
 pub enum Tried {

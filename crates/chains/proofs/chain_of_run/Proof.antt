@@ -2,11 +2,17 @@
 use mathlib.Core.Path.{_∙_}
 use Rattle.rows.specs.Rows.{work}
 use Rattle.rows.specs.Lent.{inputs}
+use Rattle.settings.specs.Settings.{crateSettings}
 use Rattle.pieces.specs.Slots.{chain}
+use Rattle.edition.specs.Laws.{cleared-work}
+use Rattle.edition.specs.Scratch.{roomsOf}
 use Rattle.chains.specs.Entry.{wholeOf}
-use Rattle.chains.proofs.Steps.{answer-is, leaves}
+use Rattle.chains.proofs.Steps.{with-settings, answer-is, rows-are}
 use Rattle.chains.proofs.chain_of_run.Statement.{statement}
 use Rattle.chains.proofs.chain_of_run.Tie as tie
+
+of-crate-requires : tie.Need-of-crate-requires
+of-crate-requires c κs = tt
 
 chain-judged-requires : tie.Need-chain-judged-requires
 chain-judged-requires c κs = tt
@@ -15,45 +21,48 @@ clear-work-requires : tie.Need-clear-work-requires
 clear-work-requires c κs = tt
 
 same-length : tie.Need-same-length
-same-length c = c .before .before .before .before .before .before .before .before .before .before .before .before .before .before .before .before .before .before .before .before .before .before .before .chain-judged .kept .1 .1 .1 .1 .0
+same-length c = c .before .before .before .before .before .before .before .before .before .before .before .before .before .before .before .before .before .before .before .before .before .before .before .chain-judged .kept .1 .1 .1 .1 .1 .0
 
 same-length-2 : tie.Need-same-length-2
-same-length-2 c = c .before .before .before .before .before .before .before .before .before .before .before .before .before .before .before .before .before .before .before .before .before .before .before .chain-judged .kept .1 .1 .1 .1 .1 .0
+same-length-2 c = c .before .before .before .before .before .before .before .before .before .before .before .before .before .before .before .before .before .before .before .before .before .before .before .chain-judged .kept .1 .1 .1 .1 .1 .1 .0
 
 same-length-3 : tie.Need-same-length-3
-same-length-3 c = c .before .before .before .before .before .before .before .before .before .before .before .before .before .before .before .before .before .before .before .before .before .before .before .chain-judged .kept .1 .1 .1 .1 .1 .1 .0
+same-length-3 c = c .before .before .before .before .before .before .before .before .before .before .before .before .before .before .before .before .before .before .before .before .before .before .before .chain-judged .kept .1 .1 .1 .1 .1 .1 .1 .0
 
 same-length-4 : tie.Need-same-length-4
-same-length-4 c = c .before .before .before .before .before .before .before .before .before .before .before .before .before .before .before .before .before .before .before .before .before .before .before .chain-judged .kept .1 .1 .1 .1 .1 .1 .1 .0
+same-length-4 c = c .before .before .before .before .before .before .before .before .before .before .before .before .before .before .before .before .before .before .before .before .before .before .before .chain-judged .kept .1 .1 .1 .1 .1 .1 .1 .1 .0
 
 same-length-5 : tie.Need-same-length-5
-same-length-5 c = c .before .before .before .before .before .clear-work .kept .0 ∙ c .before .before .before .before .before .before .before .before .before .before .before .before .before .before .before .before .before .before .before .before .before .before .before .chain-judged .kept .1 .1 .1 .1 .1 .1 .1 .1 .0
+same-length-5 c = c .before .before .before .before .before .clear-work .kept .0 ∙ c .before .before .before .before .before .before .before .before .before .before .before .before .before .before .before .before .before .before .before .before .before .before .before .chain-judged .kept .1 .1 .1 .1 .1 .1 .1 .1 .1 .0
 
 same-length-6 : tie.Need-same-length-6
-same-length-6 c = c .before .before .before .before .before .clear-work .kept .1 .0 ∙ c .before .before .before .before .before .before .before .before .before .before .before .before .before .before .before .before .before .before .before .before .before .before .before .chain-judged .kept .1 .1 .1 .1 .1 .1 .1 .1 .1 .0
+same-length-6 c = c .before .before .before .before .before .clear-work .kept .1 .0 ∙ c .before .before .before .before .before .before .before .before .before .before .before .before .before .before .before .before .before .before .before .before .before .before .before .chain-judged .kept .1 .1 .1 .1 .1 .1 .1 .1 .1 .1 .0
 
 same-length-7 : tie.Need-same-length-7
-same-length-7 c = c .before .before .before .before .before .clear-work .kept .1 .1 .0 ∙ c .before .before .before .before .before .before .before .before .before .before .before .before .before .before .before .before .before .before .before .before .before .before .before .chain-judged .kept .1 .1 .1 .1 .1 .1 .1 .1 .1 .1 .0
+same-length-7 c = c .before .before .before .before .before .clear-work .kept .1 .1 .0 ∙ c .before .before .before .before .before .before .before .before .before .before .before .before .before .before .before .before .before .before .before .before .before .before .before .chain-judged .kept .1 .1 .1 .1 .1 .1 .1 .1 .1 .1 .1 .0
 
 same-length-8 : tie.Need-same-length-8
-same-length-8 c = c .before .before .before .before .before .clear-work .kept .1 .1 .1 .0 ∙ c .before .before .before .before .before .before .before .before .before .before .before .before .before .before .before .before .before .before .before .before .before .before .before .chain-judged .kept .1 .1 .1 .1 .1 .1 .1 .1 .1 .1 .1 .0
+same-length-8 c = c .before .before .before .before .before .clear-work .kept .1 .1 .1 .0 ∙ c .before .before .before .before .before .before .before .before .before .before .before .before .before .before .before .before .before .before .before .before .before .before .before .chain-judged .kept .1 .1 .1 .1 .1 .1 .1 .1 .1 .1 .1 .1 .0
 
 returns : tie.Need-returns
 returns c =
-    let clearing = c .before .before .before .before .before in
-    let judging = clearing .before .before .before .before .before .before .before .before .before .before .before .before .before .before .before .before .before .before in
-    let args = judging .before .before .before .before .before .before .before .before .before .before .before .before .before .before .before .args in
-    let kept = judging .chain-judged .kept .1 .1 .1 .1 .1 .1 .1 .1 in
+    let args = c .before .before .before .before .before .before .before .before .before .before .before .before .before .before .before .before .before .before .before .before .before .before .before .before .before .before .before .before .before .before .before .before .before .before .before .before .before .before .before .args in
+    let kept = c .before .before .before .before .before .before .before .before .before .before .before .before .before .before .before .before .before .before .before .before .before .before .before .chain-judged .kept .1 .1 .1 .1 .1 .1 .1 .1 .1 in
     let lent = chain (args .starts .now) (args .ends .now) (args .cxs .now) (args .cys .now) in
     let rows = work (args .samples .now) (args .breaks .now) (args .answers .now) (args .links .now) in
-    let whole = wholeOf (inputs (args .xs .now) (args .ys .now) (args .flags .now)) (args .k) lent rows in
-    let handed = judging .chain-judged .ensures in
-    (leaves whole lent (args .samples .now) (args .breaks .now) (args .answers .now) (args .links .now) handed (clearing .clear-work .ensures) (kept .0) (kept .1 .0) (kept .1 .1 .0) (kept .1 .1 .1 .0), answer-is whole lent handed)
+    let whole = wholeOf (inputs (args .xs .now) (args .ys .now) (args .flags .now)) crateSettings (args .k) lent rows in
+    let handed = with-settings (roomsOf rows) lent (args .xs .now) (args .ys .now) (args .flags .now) (args .k) (c .before .before .before .before .before .before .before .before .before .before .before .before .before .before .before .before .before .before .before .before .before .before .before .before .before .before .before .before .before .before .before .before .of-crate .ensures) (c .before .before .before .before .before .before .before .before .before .before .before .before .before .before .before .before .before .before .before .before .before .before .before .chain-judged .ensures) in
+    record {
+      answer = answer-is whole lent handed;
+      rows = rows-are whole lent handed;
+      work = cleared-work (args .samples .now) (args .breaks .now) (args .answers .now) (args .links .now) (c .before .before .before .before .before .clear-work .ensures) (kept .0) (kept .1 .0) (kept .1 .1 .0) (kept .1 .1 .1 .0);
+    }
 
 pub chain-of-run-spec : {M : Type 1} → statement M
 chain-of-run-spec =
     tie.close
     (tie.spec
+    of-crate-requires
     chain-judged-requires
     clear-work-requires
     same-length

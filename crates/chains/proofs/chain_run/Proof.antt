@@ -1,14 +1,16 @@
 -- `chains::chain_run` meets its contract. Assumes nothing.
-use Rattle.float.specs.Numbers.{one}
 use Rattle.rows.specs.Rows.{work}
 use Rattle.edition.specs.Scratch.{roomsOf}
 use Rattle.pieces.specs.Slots.{chain}
-use Rattle.chains.proofs.Steps.{on-grid}
+use Rattle.chains.proofs.Steps.{chosen}
 use Rattle.chains.proofs.chain_run.Statement.{statement}
 use Rattle.chains.proofs.chain_run.Tie as tie
 
-half-requires : tie.Need-half-requires
-half-requires c κs = tt
+grid-requires : tie.Need-grid-requires
+grid-requires c κs = tt
+
+per-piece-requires : tie.Need-per-piece-requires
+per-piece-requires c κs = tt
 
 work-run-requires : tie.Need-work-run-requires
 work-run-requires c κs = tt
@@ -42,16 +44,17 @@ same-length-8 c = c .before .before .before .before .before .before .before .bef
 
 returns : tie.Need-returns
 returns c =
-    let args = c .before .before .before .before .before .before .before .before .before .before .before .before .before .before .before .before .before .before .before .before .before .before .before .before .before .before .before .before .before .before .before .before .args in
+    let args = c .before .before .before .before .before .before .before .before .before .before .before .before .before .before .before .before .before .before .before .before .before .before .before .before .before .before .before .before .before .before .before .before .before .args in
     let lent = chain (args .starts .now) (args .ends .now) (args .cxs .now) (args .cys .now) in
     let rows = work (args .samples .now) (args .breaks .now) (args .answers .now) (args .links .now) in
-    on-grid (roomsOf rows) lent (args .xs .now) (args .ys .now) (args .flags .now) (args .first) (args .count) (c .before .before .before .before .before .before .before .before .before .before .before .before .before .before .before .before .before .before .before .before .before .before .before .before .before .half .ensures) (c .before .before .before .before .before .before .before .before .put-worked .ensures one _ _ (c .before .before .before .before .before .before .before .before .before .before .before .before .before .before .before .before .before .before .before .before .work-run .ensures))
+    chosen (roomsOf rows) (args .settings) lent (args .xs .now) (args .ys .now) (args .flags .now) (args .first) (args .count) (c .before .before .before .before .before .before .before .before .before .before .before .before .before .before .before .before .before .before .before .before .before .before .before .before .before .before .grid .ensures) (c .before .before .before .before .before .before .before .before .before .before .before .before .before .before .before .before .before .before .before .before .before .before .before .before .before .per-piece .ensures) (c .before .before .before .before .before .before .before .before .put-worked .ensures _ _ _ (c .before .before .before .before .before .before .before .before .before .before .before .before .before .before .before .before .before .before .before .before .work-run .ensures))
 
 pub chain-run-spec : {M : Type 1} → statement M
 chain-run-spec =
     tie.close
     (tie.spec
-    half-requires
+    grid-requires
+    per-piece-requires
     work-run-requires
     put-worked-requires
     same-length

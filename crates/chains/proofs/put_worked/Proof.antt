@@ -1,7 +1,8 @@
 -- `chains::put_worked` meets its contract. Assumes nothing.
 use mathlib.Core.Path.{refl}
 use Rattle.pieces.specs.Slots.{chain, roomOf}
-use Rattle.chains.proofs.Steps.{readable-held, works-refused, works-unchanged, works-handed}
+use Rattle.edition.specs.Laws.{works-refused, works-unchanged}
+use Rattle.chains.proofs.Steps.{readable-held, works-handed}
 use Rattle.chains.proofs.put_worked.Statement.{statement}
 use Rattle.chains.proofs.put_worked.Tie as tie
 

@@ -19,15 +19,13 @@ returns : tie.Need-returns
 returns c = rw (← c .before .before .numbered-run .ensures, c .enum-told .given .1) refl
 
 same-length : tie.Need-same-length
-same-length c = c .before .before .check-run .kept .1 .1 .1 .1 .1 .1 .1 .1 .1 .1 .1 .0
+same-length c = c .before .before .check-run .kept .1 .1 .1 .1 .1 .1 .1 .1 .1 .1 .1 .1 .0
 
 same-length-2 : tie.Need-same-length-2
-same-length-2 c = c .before .before .check-run .kept .1 .1 .1 .1 .1 .1 .1 .1 .1 .1 .1 .1 .0
+same-length-2 c = c .before .before .check-run .kept .1 .1 .1 .1 .1 .1 .1 .1 .1 .1 .1 .1 .1 .0
 
 returns-2 : tie.Need-returns-2
-returns-2 c =
-    let numbering = c .before .before .before .before .before .before .before .before in
-    rw (← numbering .numbered-run .ensures, c .before .before .before .before .before .before .first .given .1) (c .before .before .check-run .ensures)
+returns-2 c = rw (← c .before .before .before .before .before .before .before .before .numbered-run .ensures, c .before .before .before .before .before .before .first .given .1) (c .before .before .check-run .ensures)
 
 pub check-fine-spec : {M : Type 1} → statement M
 check-fine-spec =

@@ -19,15 +19,13 @@ returns : tie.Need-returns
 returns c = rw (← c .before .before .before .judge .ensures, c .before .n .given .1) refl
 
 same-length : tie.Need-same-length
-same-length c = c .before .before .check-fine .kept .1 .1 .1 .1 .1 .1 .1 .1 .1 .1 .0
+same-length c = c .before .before .check-fine .kept .1 .1 .1 .1 .1 .1 .1 .1 .1 .1 .1 .0
 
 same-length-2 : tie.Need-same-length-2
-same-length-2 c = c .before .before .check-fine .kept .1 .1 .1 .1 .1 .1 .1 .1 .1 .1 .1 .0
+same-length-2 c = c .before .before .check-fine .kept .1 .1 .1 .1 .1 .1 .1 .1 .1 .1 .1 .1 .0
 
 returns-2 : tie.Need-returns-2
-returns-2 c =
-    let told = c .before .before .before .before .before in
-    rw (← told .before .before .judge .ensures, told .enum-told .given .1) (c .before .before .check-fine .ensures)
+returns-2 c = rw (← c .before .before .before .before .before .before .before .judge .ensures, c .before .before .before .before .before .enum-told .given .1) (c .before .before .check-fine .ensures)
 
 pub check-judged-spec : {M : Type 1} → statement M
 check-judged-spec =

@@ -1,18 +1,14 @@
 -- `checks::check_run` meets its contract. Assumes nothing.
-use Prim.Native.Nat.{_≤_}
-use native.Mathlib.Omega.{arith}
-use mathlib.Core.Path.{refl, sym, ap}
-use lib.ListN.{length}
+use mathlib.Core.Path.{refl, sym}
 use lib.Seq.{length-take-le}
-use Rattle.breaks.specs.Breaks.{halfGrid}
 use Rattle.survey.specs.Survey.{samplesUsed, breaksUsed}
-use Rattle.edition.specs.Laws.{surveyed-found}
+use Rattle.edition.specs.Laws.{in-row, found-rows}
 use Rattle.checks.proofs.Steps.{survey-is}
 use Rattle.checks.proofs.check_run.Statement.{statement}
 use Rattle.checks.proofs.check_run.Tie as tie
 
-half-requires : tie.Need-half-requires
-half-requires c κs = tt
+grid-requires : tie.Need-grid-requires
+grid-requires c κs = tt
 
 survey-requires : tie.Need-survey-requires
 survey-requires c κs = tt
@@ -26,37 +22,25 @@ enum-told c = c .match .keys2
 enum-known-n-2 : tie.Need-enum-known-n-2
 enum-known-n-2 c = c .match .keys3
 
--- so many samples, and so many breaks, are in the rows that the survey leaves
-samples-in : (c : tie.After-n2) → c .n2 .given .0 .0 ≤ length (c .before .before .before .before .survey .last .1 .1 .1 .1 .1 .1 .0)
-samples-in c =
-    let surveyed = c .before .before .before .before .survey in
-    omega (arith, surveyed .ensures .1 .0, ap samplesUsed (c .n2 .given .1), surveyed .kept .1 .1 .1 .1 .1 .1 .0)
-
-breaks-in : (c : tie.After-n2) → c .n2 .given .0 .1 .0 ≤ length (c .before .before .before .before .survey .last .1 .1 .1 .1 .1 .1 .1 .0)
-breaks-in c =
-    let surveyed = c .before .before .before .before .survey in
-    omega (arith, surveyed .ensures .1 .1, ap breaksUsed (c .n2 .given .1), surveyed .kept .1 .1 .1 .1 .1 .1 .1 .0)
-
 slice-reshare-prefix-check-surveyed : tie.Need-slice-reshare-prefix-check-surveyed
-slice-reshare-prefix-check-surveyed c = samples-in (c .before)
+slice-reshare-prefix-check-surveyed c = in-row samplesUsed (c .before .n2 .given .1) (c .before .before .before .before .before .survey .ensures .1 .0) (c .before .before .before .before .before .survey .kept .1 .1 .1 .1 .1 .1 .0)
 
 slice-aggregate-check-surveyed : tie.Need-slice-aggregate-check-surveyed
-slice-aggregate-check-surveyed c = sym (length-take-le _ _ (samples-in (c .before .before)))
+slice-aggregate-check-surveyed c =
+    sym (length-take-le _ (c .before .before .before .before .before .before .survey .last .1 .1 .1 .1 .1 .1 .0) (in-row samplesUsed (c .before .before .n2 .given .1) (c .before .before .before .before .before .before .survey .ensures .1 .0) (c .before .before .before .before .before .before .survey .kept .1 .1 .1 .1 .1 .1 .0)))
 
 slice-reshare-prefix-check-surveyed-2 : tie.Need-slice-reshare-prefix-check-surveyed-2
-slice-reshare-prefix-check-surveyed-2 c = breaks-in (c .before .before)
+slice-reshare-prefix-check-surveyed-2 c = in-row breaksUsed (c .before .before .n2 .given .1) (c .before .before .before .before .before .before .survey .ensures .1 .1) (c .before .before .before .before .before .before .survey .kept .1 .1 .1 .1 .1 .1 .1 .0)
 
 slice-aggregate-check-surveyed-2 : tie.Need-slice-aggregate-check-surveyed-2
-slice-aggregate-check-surveyed-2 c = sym (length-take-le _ _ (breaks-in (c .before .before .before)))
+slice-aggregate-check-surveyed-2 c =
+    sym (length-take-le _ (c .before .before .before .before .before .before .before .survey .last .1 .1 .1 .1 .1 .1 .1 .0) (in-row breaksUsed (c .before .before .before .n2 .given .1) (c .before .before .before .before .before .before .before .survey .ensures .1 .1) (c .before .before .before .before .before .before .before .survey .kept .1 .1 .1 .1 .1 .1 .1 .0)))
 
 check-surveyed-requires : tie.Need-check-surveyed-requires
 check-surveyed-requires c κs =
-    let known = c .before .before .before in
-    let surveying = known .before .before .before .before in
-    let args = surveying .before .before .before .before .before .before .before .before .before .args in
-    let last = surveying .survey .last .1 .1 .1 .1 .1 .1 in
-    let is = survey-is _ _ (args .xs .now) (args .ys .now) (args .flags .now) (args .first) (args .count) (last .0) (last .1 .0) (surveying .before .before .before .half .ensures) (surveying .survey .ensures .0) (known .n2 .given .1) in
-    surveyed-found _ _ (args .xs .now) (args .ys .now) (args .flags .now) (args .first) (args .count) halfGrid _ _ (sym is) .some
+    let args = c .before .before .before .before .before .before .before .before .before .before .before .before .before .before .before .before .args in
+    let last = c .before .before .before .before .before .before .before .survey .last .1 .1 .1 .1 .1 .1 in
+    found-rows _ _ (args .xs .now) (args .ys .now) (args .flags .now) (args .first) (args .count) (c .before .before .before .before .before .before .before .before .before .before .grid .result) (last .0) (last .1 .0) (c .before .before .before .before .before .before .before .survey .ensures .0) (c .before .before .before .n2 .given .1) .some
 
 same-length : tie.Need-same-length
 same-length c = c .before .before .before .before .before .survey .kept .1 .1 .1 .1 .1 .1 .0
@@ -66,10 +50,9 @@ same-length-2 c = c .before .before .before .before .before .survey .kept .1 .1 
 
 returns : tie.Need-returns
 returns c =
-    let surveying = c .before .before .before .before .before in
-    let args = surveying .before .before .before .before .before .before .before .before .before .args in
-    let last = surveying .survey .last .1 .1 .1 .1 .1 .1 in
-    let is = survey-is _ _ (args .xs .now) (args .ys .now) (args .flags .now) (args .first) (args .count) (last .0) (last .1 .0) (surveying .before .before .before .half .ensures) (surveying .survey .ensures .0) (c .before .n .given .1) in
+    let args = c .before .before .before .before .before .before .before .before .before .before .before .before .before .before .args in
+    let last = c .before .before .before .before .before .survey .last .1 .1 .1 .1 .1 .1 in
+    let is = survey-is _ _ (args .xs .now) (args .ys .now) (args .flags .now) (args .first) (args .count) (last .0) (last .1 .0) (c .before .before .before .before .before .before .before .before .grid .ensures) (c .before .before .before .before .before .survey .ensures .0) (c .before .n .given .1) in
     rw (← is) refl
 
 same-length-3 : tie.Need-same-length-3
@@ -80,10 +63,9 @@ same-length-4 c = c .before .before .before .before .survey .kept .1 .1 .1 .1 .1
 
 returns-2 : tie.Need-returns-2
 returns-2 c =
-    let surveying = c .before .before .before .before in
-    let args = surveying .before .before .before .before .before .before .before .before .before .args in
-    let last = surveying .survey .last .1 .1 .1 .1 .1 .1 in
-    let is = survey-is _ _ (args .xs .now) (args .ys .now) (args .flags .now) (args .first) (args .count) (last .0) (last .1 .0) (surveying .before .before .before .half .ensures) (surveying .survey .ensures .0) (c .enum-told .given .1) in
+    let args = c .before .before .before .before .before .before .before .before .before .before .before .before .before .args in
+    let last = c .before .before .before .before .survey .last .1 .1 .1 .1 .1 .1 in
+    let is = survey-is _ _ (args .xs .now) (args .ys .now) (args .flags .now) (args .first) (args .count) (last .0) (last .1 .0) (c .before .before .before .before .before .before .before .grid .ensures) (c .before .before .before .before .survey .ensures .0) (c .enum-told .given .1) in
     rw (← is) refl
 
 same-length-5 : tie.Need-same-length-5
@@ -94,17 +76,16 @@ same-length-6 c = c .before .before .before .before .before .before .before .bef
 
 returns-3 : tie.Need-returns-3
 returns-3 c =
-    let surveying = c .before .before .before .before .before .before .before .before in
-    let args = surveying .before .before .before .before .before .before .before .before .before .args in
-    let last = surveying .survey .last .1 .1 .1 .1 .1 .1 in
-    let is = survey-is _ _ (args .xs .now) (args .ys .now) (args .flags .now) (args .first) (args .count) (last .0) (last .1 .0) (surveying .before .before .before .half .ensures) (surveying .survey .ensures .0) (c .before .before .before .before .n2 .given .1) in
+    let args = c .before .before .before .before .before .before .before .before .before .before .before .before .before .before .before .before .before .args in
+    let last = c .before .before .before .before .before .before .before .before .survey .last .1 .1 .1 .1 .1 .1 in
+    let is = survey-is _ _ (args .xs .now) (args .ys .now) (args .flags .now) (args .first) (args .count) (last .0) (last .1 .0) (c .before .before .before .before .before .before .before .before .before .before .before .grid .ensures) (c .before .before .before .before .before .before .before .before .survey .ensures .0) (c .before .before .before .before .n2 .given .1) in
     rw (← is) (c .check-surveyed .ensures)
 
 pub check-run-spec : {M : Type 1} → statement M
 check-run-spec =
     tie.close
     (tie.spec
-    half-requires
+    grid-requires
     survey-requires
     enum-known-n
     enum-told

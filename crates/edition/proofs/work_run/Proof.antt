@@ -3,7 +3,8 @@ use mathlib.Core.Path.{refl, sym}
 use lib.Seq.{length-take-le}
 use Rattle.survey.specs.Survey.{samplesUsed, breaksUsed}
 use Rattle.edition.specs.Edition as E
-use Rattle.edition.proofs.Steps.{first-places, in-row, surveyed-works, found-rows}
+use Rattle.edition.specs.Laws.{in-row, found-rows}
+use Rattle.edition.proofs.Steps.{first-places, surveyed-works}
 use borrow.Author.Needs.{needs}
 use Rattle.edition.proofs.work_run.Statement.{statement}
 use Rattle.edition.proofs.work_run.Tie as tie

@@ -1,5 +1,5 @@
 -- `fontcrunch::check_report` meets its contract. Assumes nothing.
-use Rattle.fontcrunch.proofs.Reports.{check-as}
+use mathlib.Core.Path.{refl}
 use borrow.Author.Needs.{needs}
 use Rattle.fontcrunch.proofs.check_report.Statement.{statement}
 use Rattle.fontcrunch.proofs.check_report.Tie as tie
@@ -17,13 +17,13 @@ enum-told-2 : tie.Need-enum-told-2
 enum-told-2 c = search needs
 
 returns : tie.Need-returns
-returns c = check-as (c .before .v .given .1)
+returns c = rw (c .before .v .given .1) refl
 
 returns-2 : tie.Need-returns-2
-returns-2 c = check-as (c .enum-told .given .1)
+returns-2 c = rw (c .enum-told .given .1) refl
 
 returns-3 : tie.Need-returns-3
-returns-3 c = check-as (c .enum-told2 .given .1)
+returns-3 c = rw (c .enum-told2 .given .1) refl
 
 pub check-report-spec : {M : Type 1} → statement M
 check-report-spec =

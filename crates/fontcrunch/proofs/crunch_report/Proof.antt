@@ -1,5 +1,5 @@
 -- `fontcrunch::crunch_report` meets its contract. Assumes nothing.
-use Rattle.fontcrunch.proofs.Reports.{crunch-as}
+use mathlib.Core.Path.{refl}
 use borrow.Author.Needs.{needs}
 use Rattle.fontcrunch.proofs.crunch_report.Statement.{statement}
 use Rattle.fontcrunch.proofs.crunch_report.Tie as tie
@@ -14,10 +14,10 @@ enum-known-c-2 : tie.Need-enum-known-c-2
 enum-known-c-2 c = search needs
 
 returns : tie.Need-returns
-returns c = crunch-as (c .before .c .given .1)
+returns c = rw (c .before .c .given .1) refl
 
 returns-2 : tie.Need-returns-2
-returns-2 c = crunch-as (c .before .c2 .given .1)
+returns-2 c = rw (c .before .c2 .given .1) refl
 
 pub crunch-report-spec : {M : Type 1} → statement M
 crunch-report-spec = tie.close (tie.spec enum-known-c cast-t6 enum-known-c-2 returns returns-2)

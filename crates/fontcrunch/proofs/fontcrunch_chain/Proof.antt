@@ -1,5 +1,4 @@
 -- `fontcrunch::fontcrunch_chain` meets its contract. Assumes nothing.
-use Rattle.fontcrunch.proofs.Reports.{chain-left}
 use Rattle.fontcrunch.proofs.fontcrunch_chain.Statement.{statement}
 use Rattle.fontcrunch.proofs.fontcrunch_chain.Tie as tie
 
@@ -34,7 +33,7 @@ same-length-8 : tie.Need-same-length-8
 same-length-8 c = c .before .before .before .before .before .before .before .before .before .before .before .before .before .before .chain-of-run .kept .1 .1 .1 .1 .1 .1 .1 .1 .1 .1 .1 .0
 
 returns : tie.Need-returns
-returns c = chain-left (c .chain-report .ensures) (c .before .before .before .before .before .before .before .before .before .before .before .before .before .before .chain-of-run .ensures .0)
+returns c = record { answer = _; is = c .chain-report .ensures; promise = c .before .before .before .before .before .before .before .before .before .before .before .before .before .before .chain-of-run .ensures }
 
 pub fontcrunch-chain-spec : {M : Type 1} → statement M
 fontcrunch-chain-spec =

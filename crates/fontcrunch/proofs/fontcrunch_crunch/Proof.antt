@@ -1,5 +1,4 @@
 -- `fontcrunch::fontcrunch_crunch` meets its contract. Assumes nothing.
-use Rattle.fontcrunch.proofs.Reports.{crunch-left}
 use Rattle.fontcrunch.proofs.fontcrunch_crunch.Statement.{statement}
 use Rattle.fontcrunch.proofs.fontcrunch_crunch.Tie as tie
 
@@ -34,7 +33,7 @@ same-length-8 : tie.Need-same-length-8
 same-length-8 c = c .before .before .before .before .before .before .before .before .before .before .before .crunch-contour .kept .1 .1 .1 .1 .1 .1 .1 .1 .1 .1 .0
 
 returns : tie.Need-returns
-returns c = crunch-left (c .crunch-report .ensures) (c .before .before .before .before .before .before .before .before .before .before .before .crunch-contour .ensures .0)
+returns c = record { answer = _; is = c .crunch-report .ensures; promise = c .before .before .before .before .before .before .before .before .before .before .before .crunch-contour .ensures }
 
 pub fontcrunch-crunch-spec : {M : Type 1} → statement M
 fontcrunch-crunch-spec =

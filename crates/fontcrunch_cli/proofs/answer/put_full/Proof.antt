@@ -46,7 +46,7 @@ put-outcome-requires c κs =
     let called = c .before .before .before .before .before .before .before .before .before .before .before .before in
     let args = called .before .before .before .before .before .before .before .before .before .before .before .args in
     let kept = called .crunch-contour .kept .1 .1 .1 in
-    fits fullRooms 16384 (args .xs .now) (args .ys .now) (args .flags .now) (called .crunch-contour .ensures .1) refl (kept .0) (kept .1 .0) (kept .1 .1 .0)
+    fits fullRooms 16384 (args .xs .now) (args .ys .now) (args .flags .now) (called .crunch-contour .ensures .answer) refl (kept .0) (kept .1 .0) (kept .1 .1 .0)
 
 same-length : tie.Need-same-length
 same-length c = c .before .before .put-outcome .kept .0
@@ -55,9 +55,8 @@ returns : tie.Need-returns
 returns c =
     let called = c .before .before .before .before .before .before .before .before .before .before .before .before .before .before .before in
     let args = called .before .before .before .before .before .before .before .before .before .before .before .args in
-    let rows = called .crunch-contour .last .1 .1 .1 in
-    says fullRooms 16384 (args .xs .now) (args .ys .now) (args .flags .now) (called .crunch-contour .ensures .1) (rows .0) (rows .1 .0) (rows .1 .1 .0)
-    refl (called .crunch-contour .ensures .0) (c .before .before .put-outcome .ensures)
+    says fullRooms 16384 (args .xs .now) (args .ys .now) (args .flags .now) (called .crunch-contour .ensures .answer)
+    refl (called .crunch-contour .ensures .outs) (c .before .before .put-outcome .ensures)
 
 pub put-full-spec : {M : Type 1} → statement M
 put-full-spec =

@@ -51,7 +51,7 @@ put-outcome-requires c κs =
     let called = c .before .before .before .before .before .before .before .before .before .before .before .before .before .before in
     let args = called .before .before .before .before .before .before .before .before .before .before .before .args in
     let kept = called .crunch-contour .kept .1 .1 .1 in
-    fits smallRooms 1024 (args .xs .now) (args .ys .now) (args .flags .now) (called .crunch-contour .ensures .1) refl (kept .0) (kept .1 .0) (kept .1 .1 .0)
+    fits smallRooms 1024 (args .xs .now) (args .ys .now) (args .flags .now) (called .crunch-contour .ensures .answer) refl (kept .0) (kept .1 .0) (kept .1 .1 .0)
 
 same-length : tie.Need-same-length
 same-length c = c .before .before .put-outcome .kept .0
@@ -60,13 +60,12 @@ returns-2 : tie.Need-returns-2
 returns-2 c =
     let called = c .before .before .before .before .before .before .before .before .before .before .before .before .before .before .before .before .before in
     let args = called .before .before .before .before .before .before .before .before .before .before .before .args in
-    let rows = called .crunch-contour .last .1 .1 .1 in
     let xs = args .xs .now in
     let ys = args .ys .now in
     let fs = args .flags .now in
-    let answer = called .crunch-contour .ensures .1 in
-    says smallRooms 1024 xs ys fs answer (rows .0) (rows .1 .0) (rows .1 .1 .0)
-    (small-same xs ys fs answer (c .before .before .before .before .before .before .before .before .is-short .ensures) (c .before .before .before .before .before .before .before .if1 .left)) (called .crunch-contour .ensures .0) (c .before .before .put-outcome .ensures)
+    let answer = called .crunch-contour .ensures .answer in
+    says smallRooms 1024 xs ys fs answer
+    (small-same xs ys fs answer (c .before .before .before .before .before .before .before .before .is-short .ensures) (c .before .before .before .before .before .before .before .if1 .left)) (called .crunch-contour .ensures .outs) (c .before .before .put-outcome .ensures)
 
 pub put-small-spec : {M : Type 1} → statement M
 put-small-spec =

@@ -1,0 +1,207 @@
+-- The runs in order: what the loop keeps, one turn of it, and its ends. Assumes nothing.
+use Prim.Native.Nat.{ℕ, suc, _+_, _*_, _≤_, _<_}
+use native.Mathlib.Numerals.{add-one}
+use native.Mathlib.Omega.{arith}
+use mathlib.Core.List.{List, [], _∷_}
+use mathlib.Core.Path.{_≡_, refl, sym, ap, subst, _∙_}
+use lib.Ieee.{Float}
+use lib.IntN.{ℤ}
+use lib.ListN.{length, take, drop}
+use lib.Seq.{length-take-le}
+use Rattle.runs.specs.Runs.{Span, cornerList, between, runsOf, runAt, Listed}
+use Rattle.runs.specs.Laws.{run-here, run-none, runs-end}
+use Rattle.runs.specs.declared.Run.{Run}
+use Rattle.runs.specs.declared.Run.the-variants.{Between, Nothing}
+use Rattle.rows.specs.Rows.{work}
+use Rattle.settings.specs.declared.Settings.{Settings}
+use Rattle.optimize.specs.Laws.{mostPairs}
+use Rattle.edition.specs.Edition.{Rooms}
+use Rattle.edition.specs.Scratch.{roomsOf}
+use Rattle.contour.specs.Points.{Points, startPoint}
+use Rattle.contour.specs.Writing.{Wrote, written}
+use Rattle.contour.specs.declared.Written.{Written}
+use Rattle.assembly.specs.Assembly.{State, refused, ended, going, afterRun, crunchAll, crunchRuns}
+use Rattle.assembly.specs.Stands.{Stands, stops, ends, goes, pairsIn}
+use Rattle.assembly.specs.declared.Crunching as C
+use Rattle.assembly.specs.declared.Crunching.the-variants as Crunching
+use Rattle.assembly.specs.declared.Progress.{Progress}
+
+-- ---- what an answer says of the state that it stands for
+
+refused-for : {room : ℕ} {row : Points} {s : State} {r : C.Crunching} {n : ℕ} → Stands room row s r → r ≡ Crunching.Refused n → s ≡ refused n
+refused-for (stops e) h = cc
+refused-for (ends e wrote pairs) h = let z : _≡_ {A = ℕ} 0 1 = cc in absurd (omega arith)
+refused-for (goes e wrote pairs) h = let z : _≡_ {A = ℕ} 0 1 = cc in absurd (omega arith)
+
+-- the points written, where the work goes on or has ended
+record Standing (room : ℕ) (row : Points) (s : State) (state : Points → ℕ → State) (p : Progress) : Type 0 where
+  pub points : Points
+  pub is : s ≡ state points (p .pairs)
+  pub wrote : Wrote row (p .w) (written room points)
+
+standing : {room : ℕ} {row : Points} {p q : Progress} {n : ℕ} (state : Points → ℕ → State) (ps : Points) → Wrote row (q .w) (written room ps) → q .pairs ≡ n → q ≡ p →
+    Standing room row (state ps n) state p
+standing {room} {row} state ps wrote pairs same =
+    record {
+      points = ps;
+      is = ap (state ps) (sym pairs ∙ ap (λ (x : Progress). x .pairs) same);
+      wrote = subst (λ (x : Progress). Wrote row (x .w) (written room ps)) same wrote;
+    }
+
+ended-for : {room : ℕ} {row : Points} {s : State} {r : C.Crunching} {p : Progress} → Stands room row s r → r ≡ Crunching.Ended p → Standing room row s ended p
+ended-for (stops e) h = let z : _≡_ {A = ℕ} 0 1 = cc in absurd (omega arith)
+ended-for (ends {ps = ps} e wrote pairs) h = standing ended ps wrote pairs cc
+ended-for (goes e wrote pairs) h = let z : _≡_ {A = ℕ} 0 1 = cc in absurd (omega arith)
+
+going-for : {room : ℕ} {row : Points} {s : State} {r : C.Crunching} {p : Progress} → Stands room row s r → r ≡ Crunching.Going p → Standing room row s going p
+going-for (stops e) h = let z : _≡_ {A = ℕ} 0 1 = cc in absurd (omega arith)
+going-for (ends e wrote pairs) h = let z : _≡_ {A = ℕ} 0 1 = cc in absurd (omega arith)
+going-for (goes {ps = ps} e wrote pairs) h = standing going ps wrote pairs cc
+
+-- ---- the loop, from the rows' contents at its start to those of now
+
+module _ (xs ys : List ℤ) (fs corners : List ℕ) (settings : Settings) (s₀ b₀ a₀ : List (List Float)) (l₀ : List ℕ) (points₀ : Points) (p₀ : Progress) where
+  abbrev rooms : Rooms
+  rooms = roomsOf (work s₀ b₀ a₀ l₀)
+
+  abbrev along : List Span → State → State
+  along rs s = crunchAll rooms settings xs ys fs rs s
+
+  -- once refused, or ended, a state stays
+  stays-refused : (rs : List Span) (n : ℕ) → along rs (refused n) ≡ refused n
+  unfolding crunchAll
+  stays-refused [] n = refl
+  stays-refused (r ∷ rs) n = stays-refused rs n
+
+  stays-ended : (rs : List Span) (ps : Points) (n : ℕ) → along rs (ended ps n) ≡ ended ps n
+  unfolding crunchAll
+  stays-ended [] ps n = refl
+  stays-ended (r ∷ rs) ps n = stays-ended rs ps n
+
+  none-left : {rs : List Span} (s : State) → rs ≡ [] → along rs s ≡ s
+  unfolding crunchAll
+  none-left s e = rw e refl
+
+  one-more : {rs rest : List Span} (r : Span) (ps : Points) (n : ℕ) → rs ≡ r ∷ rest → along rs (going ps n) ≡ along rest (afterRun rooms settings xs ys fs r ps n)
+  unfolding crunchAll
+  one-more r ps n e = rw e refl
+
+  -- all that there is to do, after the points ps
+  abbrev whole : Points → State
+  whole ps = along (between corners) (going ps (p₀ .pairs))
+
+  abbrev Whole : Points → C.Crunching → Type 0
+  Whole points c = (ps : Points) → Wrote points₀ (p₀ .w) (written (length points₀) ps) → Stands (length points₀) points (whole ps) c
+
+  -- what is left from run k on
+  pub record Reached (points : Points) (p : Progress) (k : ℕ) (end : State) : Type 0 where
+    pub sofar : Points
+    pub wrote : Wrote points (p .w) (written (length points₀) sofar)
+    pub left : end ≡ along (drop k (between corners)) (going sofar (p .pairs))
+
+  pub record Running (s b a : List (List Float)) (l : List ℕ) (points : Points) (p : Progress) (k : ℕ) : Type 0 where
+    pub samples : length s ≡ length s₀
+    pub breaks : length b ≡ length b₀
+    pub answers : length a ≡ length a₀
+    pub links : length l ≡ length l₀
+    pub long : length points ≡ length points₀
+    pub upto : k ≤ length corners
+    pub few : p .pairs ≤ k * mostPairs
+    pub reach : (ps : Points) → Wrote points₀ (p₀ .w) (written (length points₀) ps) → Reached points p k (whole ps)
+
+  pub running-start : p₀ .pairs ≡ 0 → Running s₀ b₀ a₀ l₀ points₀ p₀ 0
+  running-start none =
+      record {
+        samples = refl;
+        breaks = refl;
+        answers = refl;
+        links = refl;
+        long = refl;
+        upto = omega arith;
+        few = omega arith;
+        reach = λ ps wrote. record { sofar = ps; wrote = wrote; left = refl };
+      }
+
+  module _ {s b a : List (List Float)} {l : List ℕ} {points : Points} {p : Progress} {k : ℕ} (now : Running s b a l points p k) where
+    -- no sum of pairs is too large
+    pub running-few : k < length corners → length corners ≤ 1024 → p .pairs ≤ 4294967296
+    running-few h few = omega (arith, now .few)
+
+    finished : drop k (between corners) ≡ [] → Whole points (Crunching.Going p)
+    finished e ps wrote =
+        let there = now .reach ps wrote in
+        rw (there .left, none-left (going (there .sofar) (p .pairs)) e) (goes refl (there .wrote) refl)
+
+    pub no-more : {r : Run} → r ≡ runAt (between corners) k → r ≡ Nothing → Whole points (Crunching.Going p)
+    no-more is e = finished (run-none (between corners) k (sym is ∙ e))
+
+    pub all-seen : length corners ≤ k → Whole points (Crunching.Going p)
+    all-seen h = finished (runs-end corners k h)
+
+    -- one run: what it leaves in the rows
+    module _ {r : Run} (at : r ≡ runAt (between corners) k) {first count : ℕ} (is : r ≡ Between first count) {points' : Points} {c : C.Crunching}
+        (then : (ps : Points) → Wrote points (p .w) (written (length points) ps) →
+        Stands (length points) points' (afterRun (roomsOf (work s b a l)) settings xs ys fs (record { first = first; count = count }) ps (p .pairs)) c) where
+      abbrev run : Span
+      run = record { first = first; count = count }
+
+      rooms-same : roomsOf (work s b a l) ≡ rooms
+      rooms-same = rw (now .samples, now .breaks, now .answers, now .links) refl
+
+      module _ (ps : Points) (wrote : Wrote points₀ (p₀ .w) (written (length points₀) ps)) where
+        there : Reached points p k (whole ps)
+        there = now .reach ps wrote
+
+        abbrev after : State
+        after = afterRun rooms settings xs ys fs run (there .sofar) (p .pairs)
+
+        after-left : whole ps ≡ along (drop (suc k) (between corners)) after
+        after-left = there .left ∙ one-more run (there .sofar) (p .pairs) (run-here (between corners) k (sym at ∙ is))
+
+        after-stands : Stands (length points₀) points' after c
+        after-stands =
+            subst (λ (n : ℕ). Stands n points' after c) (now .long)
+            (subst (λ (x : Rooms). Stands (length points) points' (afterRun x settings xs ys fs run (there .sofar) (p .pairs)) c) rooms-same
+            (then (there .sofar) (subst (λ (n : ℕ). Wrote points (p .w) (written n (there .sofar))) (sym (now .long)) (there .wrote))))
+
+      pub run-refused : {n : ℕ} → c ≡ Crunching.Refused n → Whole points' (Crunching.Refused n)
+      run-refused {n} h ps wrote =
+          let so : after ps wrote ≡ refused n = refused-for (after-stands ps wrote) h in
+          rw (after-left ps wrote, so, stays-refused (drop (suc k) (between corners)) n) (stops refl)
+
+      pub run-ended : {q : Progress} → c ≡ Crunching.Ended q → Whole points' (Crunching.Ended q)
+      run-ended {q} h ps wrote =
+          let so = ended-for (after-stands ps wrote) h in
+          rw (after-left ps wrote, so .is, stays-ended (drop (suc k) (between corners)) (so .points) (q .pairs)) (ends refl (so .wrote) refl)
+
+      pub run-on : {s' b' a' : List (List Float)} {l' : List ℕ} {q : Progress} → c ≡ Crunching.Going q → pairsIn c ≤ p .pairs + mostPairs → k < length corners →
+          length s' ≡ length s → length b' ≡ length b → length a' ≡ length a → length l' ≡ length l → length points' ≡ length points → Running s' b' a' l' points' q (k + 1)
+      run-on {q = q} h few more ks kb ka kl kp =
+          record {
+            samples = ks ∙ now .samples;
+            breaks = kb ∙ now .breaks;
+            answers = ka ∙ now .answers;
+            links = kl ∙ now .links;
+            long = kp ∙ now .long;
+            upto = omega arith;
+            few = omega (arith, few, now .few, ap pairsIn h);
+            reach = λ ps wrote.
+                let so = going-for (after-stands ps wrote) h in
+                record { sofar = so .points; wrote = so .wrote; left = rw add-one (after-left ps wrote ∙ ap (along (drop (suc k) (between corners))) (so .is)) };
+          }
+
+-- ---- `crunch_points`: the runs between the corners, after the start point
+
+pub points-stand : (rooms : Rooms) (settings : Settings) (xs ys : List ℤ) (fs : List ℕ) {corners : List ℕ} → corners ≡ cornerList xs ys fs →
+    {row row' : Points} {room : ℕ} {w : Written} {c : C.Crunching} → length row ≡ room → Wrote row w (written room (startPoint xs ys ∷ [])) →
+    ((ps : Points) → Wrote row w (written (length row) ps) → Stands (length row) row' (crunchAll rooms settings xs ys fs (between corners) (going ps 0)) c) →
+    Stands room row' (crunchRuns rooms settings xs ys fs) c
+unfolding crunchRuns runsOf
+points-stand rooms settings xs ys fs {corners} listed {row} {row'} {room} {w} {c} long wrote then =
+    let start = startPoint xs ys ∷ [] in
+    let there = then start (subst (λ (n : ℕ). Wrote row w (written n start)) (sym long) wrote) in
+    let all = subst (λ (l : List ℕ). Stands (length row) row' (crunchAll rooms settings xs ys fs (between l) (going start 0)) c) listed there in
+    subst (λ (n : ℕ). Stands n row' (crunchAll rooms settings xs ys fs (between (cornerList xs ys fs)) (going start 0)) c) long all
+
+pub listed-few : {row list : List ℕ} {n : ℕ} → Listed row n list → length row ≤ 1024 → length (take n row) ≤ 1024
+listed-few {row} {n = n} listed few = omega (arith, length-take-le n row (listed .within), listed .within)

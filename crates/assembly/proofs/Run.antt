@@ -1,0 +1,128 @@
+-- One run more: what stands in the row for points after it, of what the work on it leaves. Assumes nothing.
+use Prim.Native.Nat.{ℕ, _+_, _≤_}
+use native.Mathlib.Omega.{arith}
+use mathlib.Core.Bool.{Bool, true, false}
+use mathlib.Core.List.{List}
+use mathlib.Core.Path.{_≡_, refl, sym, ap, subst, _∙_}
+use lib.Ieee.{Float}
+use lib.IntN.{ℤ}
+use lib.ListN.{length, take}
+use Rattle.breaks.specs.Breaks.{Row}
+use Rattle.breaks.specs.declared.Grid.{Grid}
+use Rattle.corners.specs.Segments.{startOf, segFrom}
+use Rattle.corners.specs.declared.Seg.{Seg}
+use Rattle.runs.specs.Runs.{Span, copiedFrom}
+use Rattle.samples.specs.Samples.{Sample}
+use Rattle.optimize.specs.Answers.{Answer}
+use Rattle.optimize.specs.Laws.{mostPairs}
+use Rattle.optimize.specs.Stored.{Anywhere, Holds}
+use Rattle.survey.specs.Survey.{surveyOf, surveyIn}
+use Rattle.survey.specs.declared.Surveyed as Y
+use Rattle.settings.specs.declared.Settings.{Settings}
+use Rattle.edition.specs.Edition.{Result, Rooms, editionOf, afterSurvey, workOf, Works}
+use Rattle.edition.specs.Edition as E
+use Rattle.edition.specs.Laws.{pairsOf, pairsIn, works-pairs, works-refused, works-unchanged}
+use Rattle.edition.specs.declared.Worked as W
+use Rattle.edition.specs.declared.Worked.the-variants as Worked
+use Rattle.pieces.specs.Slots.{quadsOf, Stored}
+use Rattle.pieces.proofs.Within.{solved-within}
+use Rattle.contour.specs.Points.{Points, pointsOf, piecesPoints, unchangedPoints}
+use Rattle.contour.specs.Writing.{Wrote, Appended, written}
+use Rattle.contour.specs.Laws.{wrote-after}
+use Rattle.contour.specs.declared.Written.{Written}
+use Rattle.assembly.specs.Assembly.{State, added, resultOf, runIf, afterRun}
+use Rattle.assembly.specs.Stands.{Stands, stops, ends, goes, Onward}
+use Rattle.assembly.specs.declared.Crunching as C
+use Rattle.assembly.specs.declared.Crunching.the-variants as Crunching
+use Rattle.assembly.specs.declared.Progress.{Progress}
+
+-- ---- what the answer of the work says of its result
+
+-- the answer of a solved run, and that its points can be written
+pub record Done (breaks : Row) (answers : List (List Float)) (links : List ℕ) (x : Result) (n k p : ℕ) : Type 0 where
+  pub answer : Answer
+  pub is : x ≡ E.solved answer p
+  pub within : n ≤ length breaks
+  pub held : Holds Anywhere (take n breaks) answers links k answer
+  pub stored : Stored (take n breaks) answers links k
+
+-- with the penalty that was chosen
+pub chosen : (answers links : ℕ) (samples : List Sample) (breaks : Row) {answers' : List (List Float)} {links' : List ℕ} {r : W.Worked} {p q : Float} → p ≡ q →
+    Works p breaks answers' links' (editionOf answers links samples breaks p) r → Works q breaks answers' links' (editionOf answers links samples breaks q) r
+chosen answers links samples breaks {answers'} {links'} {r} e works =
+    subst (λ (p : Float). Works p breaks answers' links' (editionOf answers links samples breaks p) r) e works
+
+module _ {penalty : Float} {breaks : Row} {answers : List (List Float)} {links : List ℕ} where
+  pub done : {x : Result} {r : W.Worked} {n k p : ℕ} → Works penalty breaks answers links x r → r ≡ Worked.Done n k p → Done breaks answers links x n k p
+  done (E.no e) h = let z : _≡_ {A = ℕ} 0 1 = cc in absurd (omega arith)
+  done (E.stays e) h = let z : _≡_ {A = ℕ} 0 1 = cc in absurd (omega arith)
+  done {n = n} {k = k} {p = p} (E.holds {n = n'} {k = k'} {p = p'} {a = a} samples e few fine is held) h =
+      let breaks-so : n' ≡ n = cc in
+      let place-so : k' ≡ k = cc in
+      let pairs-so : p' ≡ p = cc in
+      let inside = solved-within samples (take n' breaks) penalty (fine .some) (fine .fit-x) (fine .fit-y) a p' is in
+      let kept : Stored (take n' breaks) answers links k' = record { answer = a; holds = held; within = inside; few = fine .few } in
+      record {
+        answer = a;
+        is = ap (E.solved a) pairs-so;
+        within = subst (λ (m : ℕ). m ≤ length breaks) breaks-so few;
+        held = rw (breaks-so, place-so) at held;
+        stored = rw (breaks-so, place-so) at kept;
+      }
+
+  -- no sum of pairs is too large
+  pub few : {x : Result} {r s : W.Worked} → Works penalty breaks answers links x r → pairsOf x ≤ mostPairs → r ≡ s → pairsIn s ≤ mostPairs
+  few works h e = subst (λ (k : ℕ). k ≤ mostPairs) (works-pairs works ∙ ap pairsIn e) h
+
+  -- ---- an edition's step
+
+  module _ {x : Result} {r : W.Worked} (works : Works penalty breaks answers links x r) (xs ys : List ℤ) (fs : List ℕ) where
+    pub refused-stands : {k room : ℕ} {row : Points} (ps : Points) (pairs : ℕ) → r ≡ Worked.Refused k → Stands room row (added xs ys fs x ps pairs) (Crunching.Refused k)
+    refused-stands ps pairs h = rw (works-refused works h) (stops refl)
+
+    pub unchanged-stands : {p room : ℕ} {row : Points} {w : Written} (ps : Points) (pairs : ℕ) → r ≡ Worked.Unchanged p → Wrote row w (written room (unchangedPoints xs ys fs)) →
+        Stands room row (added xs ys fs x ps pairs) (Crunching.Ended (record { w = w; pairs = pairs + p }))
+    unchanged-stands ps pairs h wrote = rw (works-unchanged works h) (ends refl wrote refl)
+
+    pub done-stands : {n k p : ℕ} {row₀ row : Points} {w₀ w : Written} (ps : Points) (pairs : ℕ) → r ≡ Worked.Done n k p →
+        ((a : Answer) → Holds Anywhere (take n breaks) answers links k a → Appended row₀ w₀ row w (piecesPoints (quadsOf a))) → Wrote row₀ w₀ (written (length row₀) ps) →
+        Stands (length row₀) row (added xs ys fs x ps pairs) (Crunching.Going (record { w = w; pairs = pairs + p }))
+    done-stands {row₀ = row₀} ps pairs h pushed wrote =
+        let so = done works h in
+        rw (so .is) (goes refl (wrote-after (length row₀) ps (piecesPoints (quadsOf (so .answer))) refl (pushed (so .answer) (so .held)) wrote) refl)
+
+-- ---- a run that is worked, of its survey
+
+module _ (rooms : Rooms) (penalty : Float) (xs ys : List ℤ) (fs : List ℕ) (first count : ℕ) {g h : Grid} (grid : g ≡ h) (samples : List Sample) (breaks : Row) {r s : Y.Surveyed}
+    (survey : surveyOf (rooms .samples) (rooms .breaks) xs ys fs first count g ≡ surveyIn samples breaks r) (is : r ≡ s) where
+  pub worked : workOf rooms h penalty xs ys fs first count ≡ afterSurvey (rooms .answers) (rooms .links) penalty (surveyIn samples breaks s)
+  unfolding workOf
+  worked =
+      ap (afterSurvey (rooms .answers) (rooms .links) penalty)
+      (ap (surveyOf (rooms .samples) (rooms .breaks) xs ys fs first count) (sym grid) ∙ survey ∙ ap (surveyIn samples breaks) is)
+
+pub worked-so : (xs ys : List ℤ) (fs : List ℕ) (ps : Points) (n : ℕ) {x y : Result} {room : ℕ} {row : Points} {c : C.Crunching} → x ≡ y →
+    Stands room row (added xs ys fs y ps n) c → Stands room row (added xs ys fs x ps n) c
+worked-so xs ys fs ps n {room = room} {row = row} {c = c} e stands = subst (λ (z : Result). Stands room row (added xs ys fs z ps n) c) (sym e) stands
+
+-- ---- a run, copied or worked
+
+module _ (rooms : Rooms) (settings : Settings) (xs ys : List ℤ) (fs : List ℕ) (run : Span) {a : ℕ} (place : a ≡ startOf fs (run .first))
+    {copied : Bool} (test : copied ≡ copiedFrom xs ys fs a (run .count)) where
+  tested : {b : Bool} → copied ≡ b → copiedFrom xs ys fs (startOf fs (run .first)) (run .count) ≡ b
+  tested e = ap (λ (at : ℕ). copiedFrom xs ys fs at (run .count)) (sym place) ∙ sym test ∙ e
+
+  pub copied-stands : copied ≡ true → {seg : Seg} → seg ≡ segFrom xs ys fs a → {row₀ row : Points} {w₀ w : Written} (ps : Points) (pairs : ℕ) →
+      Appended row₀ w₀ row w (pointsOf seg) → Wrote row₀ w₀ (written (length row₀) ps) →
+      Stands (length row₀) row (afterRun rooms settings xs ys fs run ps pairs) (Crunching.Going (record { w = w; pairs = pairs }))
+  unfolding afterRun
+  copied-stands test-so {seg} is {row₀} {row} {w₀} {w} ps pairs pushed wrote =
+      let segment : seg ≡ segFrom xs ys fs (startOf fs (run .first)) = is ∙ ap (segFrom xs ys fs) place in
+      let there = wrote-after (length row₀) ps (pointsOf (segFrom xs ys fs (startOf fs (run .first)))) refl (subst (λ (s : Seg). Appended row₀ w₀ row w (pointsOf s)) segment pushed) wrote in
+      subst (λ (b : Bool). Stands (length row₀) row (runIf rooms settings xs ys fs b run ps pairs) (Crunching.Going (record { w = w; pairs = pairs }))) (sym (tested test-so)) (goes refl there refl)
+
+  pub worked-stands : copied ≡ false → {room : ℕ} {row : Points} {c : C.Crunching} (ps : Points) (pairs : ℕ) →
+      Stands room row (added xs ys fs (resultOf rooms settings xs ys fs run) ps pairs) c → Stands room row (afterRun rooms settings xs ys fs run ps pairs) c
+  unfolding afterRun
+  worked-stands test-so {room} {row} {c} ps pairs stands =
+      subst (λ (b : Bool). Stands room row (runIf rooms settings xs ys fs b run ps pairs) c) (sym (tested test-so)) stands

@@ -1,0 +1,34 @@
+-- How the code's progress, with the row for points, stands for a state of the definition. Definitions only.
+use Prim.Native.Nat.{ℕ, _+_, _≤_}
+use mathlib.Core.Path.{_≡_}
+use lib.IntN.{ℤ}
+use mathlib.Core.List.{List}
+use Rattle.rows.specs.Lent.{Lent, before, after, room}
+use Rattle.contour.specs.Points.{Points}
+use Rattle.contour.specs.Writing.{Wrote, written}
+use Rattle.optimize.specs.Laws.{mostPairs}
+use Rattle.assembly.specs.Assembly.{State, refused, ended, going}
+use Rattle.assembly.specs.declared.Crunching as C
+use Rattle.assembly.specs.declared.Crunching.the-variants as Crunching
+use Rattle.assembly.specs.declared.Progress.{Progress}
+
+pub data Stands (room : ℕ) (row : Points) : State → C.Crunching → Type 0 where
+  stops : {r : C.Crunching} {k : ℕ} → r ≡ Crunching.Refused k → Stands room row (refused k) r
+  ends : {r : C.Crunching} {p : Progress} {ps : Points} {n : ℕ} → r ≡ Crunching.Ended p → Wrote row (p .w) (written room ps) → p .pairs ≡ n →
+      Stands room row (ended ps n) r
+  goes : {r : C.Crunching} {p : Progress} {ps : Points} {n : ℕ} → r ≡ Crunching.Going p → Wrote row (p .w) (written room ps) → p .pairs ≡ n →
+      Stands room row (going ps n) r
+
+abbrev pub pairsIn : C.Crunching → ℕ
+pairsIn (Crunching.Refused k) = 0
+pairsIn (Crunching.Ended p) = p .pairs
+pairsIn (Crunching.Going p) = p .pairs
+
+-- after whatever points stood in the row, with the pairs so far, a state
+abbrev pub Onward : (Points → ℕ → State) → Points → Points → Progress → ℕ → C.Crunching → Type 0
+Onward state old new p long r = (ps : Points) → Wrote old (p .w) (written long ps) → Stands long new (state ps (p .pairs)) r
+
+-- what a function that adds one run's points to the row leaves
+pub record Adds (state : Points → ℕ → State) (row : Lent (List ℤ)) (p : Progress) (r : C.Crunching) : Type 0 where
+  pub stands : Onward state (before row) (after row) p (room row) r
+  pub pairs : pairsIn r ≤ p .pairs + mostPairs

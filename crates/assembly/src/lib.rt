@@ -1,0 +1,243 @@
+// A contour's runs, worked in order into the scratch row for points.
+use contour::Written;
+use edition::Worked;
+use runs::Run;
+use settings::Settings;
+use survey::Surveyed;
+ghost use mathlib.Core.Path.{_≡_};
+ghost use Prim.Native.Nat.{_≤_};
+ghost use lib.ListN.{length};
+ghost use Rattle.rows.specs.Lent.{before, after, room};
+ghost use Rattle.runs.specs.Runs.{between};
+ghost use Rattle.settings.specs.Settings.{penaltyOf};
+ghost use Rattle.edition.specs.Edition.{editionOf, Found};
+ghost use Rattle.edition.specs.Scratch.{roomsIn};
+ghost use Rattle.assembly.specs.Assembly.{going, added, resultOf, afterRun, crunchAll, crunchRuns};
+ghost use Rattle.assembly.specs.Stands.{Stands, Onward, Adds};
+
+// The points written, and the pairs tried.
+pub struct Progress {
+    pub w: Written,
+    pub pairs: usize,
+}
+
+pub enum Crunching {
+    // the number of a refusal
+    Refused(u8),
+    // a run left the contour unchanged: later runs are not seen
+    Ended(Progress),
+    Going(Progress),
+}
+
+// One edition's step on a surveyed run: the answers, then the points of the pieces after those so far.
+pub fn step(
+    xs: &[i16],
+    ys: &[i16],
+    flags: &[u8],
+    settings: Settings,
+    p: Progress,
+    samples: &[[f64; 4]],
+    breaks: &[[f64; 5]],
+    answers: &mut [[f64; 3]],
+    links: &mut [u32],
+    points: &mut [[i16; 3]],
+) -> Crunching
+    requires { ⌜ Found (now breaks) × (p .pairs ≤ 4294967296) ⌝ }
+    ensures { λ r. ⌜ Adds (added (before xs) (before ys) (before flags)
+        (editionOf (room answers) (room links) (before samples) (before breaks) (penaltyOf settings))) points p r ⌝ }
+{
+    match edition::edition(samples, breaks, answers, links, settings.per_piece()) {
+        Worked::Refused(k) => Crunching::Refused(k),
+        Worked::Unchanged(pairs) => {
+            let w = contour::unchanged(xs, ys, flags, points);
+            Crunching::Ended(Progress {
+                w,
+                pairs: p.pairs + pairs,
+            })
+        }
+        Worked::Done(n, k, pairs) => {
+            let w = pieces::push_chain(&breaks[..n], answers, links, k, points, p.w);
+            Crunching::Going(Progress {
+                w,
+                pairs: p.pairs + pairs,
+            })
+        }
+    }
+}
+
+// A run that is worked: the survey, then the step on it.
+fn work_run(
+    xs: &[i16],
+    ys: &[i16],
+    flags: &[u8],
+    first: usize,
+    count: usize,
+    settings: Settings,
+    p: Progress,
+    samples: &mut [[f64; 4]],
+    breaks: &mut [[f64; 5]],
+    answers: &mut [[f64; 3]],
+    links: &mut [u32],
+    points: &mut [[i16; 3]],
+) -> Crunching
+    requires { ⌜ p .pairs ≤ 4294967296 ⌝ }
+    ensures { λ r. ⌜ Adds (added (before xs) (before ys) (before flags) (resultOf (roomsIn samples breaks answers links) settings
+        (before xs) (before ys) (before flags) (record { first = first; count = count }))) points p r ⌝ }
+{
+    match survey::survey(
+        xs,
+        ys,
+        flags,
+        first,
+        count,
+        settings.grid(),
+        samples,
+        breaks,
+    ) {
+        Surveyed::Refused(k) => Crunching::Refused(k),
+        Surveyed::Past => {
+            let w = contour::unchanged(xs, ys, flags, points);
+            Crunching::Ended(Progress { w, pairs: p.pairs })
+        }
+        Surveyed::Rows(n, m) => {
+            step(
+                xs,
+                ys,
+                flags,
+                settings,
+                p,
+                &samples[..n],
+                &breaks[..m],
+                answers,
+                links,
+                points,
+            )
+        }
+    }
+}
+
+// The run of `count` segments from segment `first` on: a line is copied.
+fn crunch_run(
+    xs: &[i16],
+    ys: &[i16],
+    flags: &[u8],
+    first: usize,
+    count: usize,
+    settings: Settings,
+    p: Progress,
+    samples: &mut [[f64; 4]],
+    breaks: &mut [[f64; 5]],
+    answers: &mut [[f64; 3]],
+    links: &mut [u32],
+    points: &mut [[i16; 3]],
+) -> Crunching
+    requires { ⌜ p .pairs ≤ 4294967296 ⌝ }
+    ensures { λ r. ⌜ Adds (afterRun (roomsIn samples breaks answers links) settings
+        (before xs) (before ys) (before flags) (record { first = first; count = count })) points p r ⌝ }
+{
+    let a = corners::start_of(flags, first);
+    if runs::is_copied_from(xs, ys, flags, a, count) {
+        let w = contour::push_seg(points, p.w, corners::read_from(xs, ys, flags, a));
+        return Crunching::Going(Progress { w, pairs: p.pairs });
+    }
+    work_run(
+        xs,
+        ys,
+        flags,
+        first,
+        count,
+        settings,
+        p,
+        samples,
+        breaks,
+        answers,
+        links,
+        points,
+    )
+}
+
+// The runs between listed corners, in order.
+fn crunch_runs(
+    xs: &[i16],
+    ys: &[i16],
+    flags: &[u8],
+    corners: &[usize],
+    settings: Settings,
+    from: Progress,
+    samples: &mut [[f64; 4]],
+    breaks: &mut [[f64; 5]],
+    answers: &mut [[f64; 3]],
+    links: &mut [u32],
+    points: &mut [[i16; 3]],
+) -> Crunching
+    requires { ⌜ (length (now corners) ≤ 1024) × (from .pairs ≡ 0) ⌝ }
+    ensures { λ r. ⌜ Onward (λ ps pairs. crunchAll (roomsIn samples breaks answers links) settings (before xs) (before ys) (before flags)
+        (between (before corners)) (going ps pairs)) (before points) (after points) from (room points) r ⌝ }
+{
+    let mut p = from;
+    let mut k = 0;
+    while k < corners.len() {
+        let Run::Between(first, count) = runs::run_at(corners, k) else {
+            return Crunching::Going(p);
+        };
+        match crunch_run(
+            xs,
+            ys,
+            flags,
+            first,
+            count,
+            settings,
+            p,
+            samples,
+            breaks,
+            answers,
+            links,
+            points,
+        ) {
+            Crunching::Going(q) => {
+                p = q;
+            }
+            Crunching::Ended(q) => {
+                return Crunching::Ended(q);
+            }
+            Crunching::Refused(n) => {
+                return Crunching::Refused(n);
+            }
+        }
+        k += 1;
+    }
+    Crunching::Going(p)
+}
+
+// The points of a contour that none of refusals 1 to 5 is given for, in the scratch row.
+pub fn crunch_points(
+    xs: &[i16],
+    ys: &[i16],
+    flags: &[u8],
+    settings: Settings,
+    samples: &mut [[f64; 4]],
+    breaks: &mut [[f64; 5]],
+    answers: &mut [[f64; 3]],
+    links: &mut [u32],
+    points: &mut [[i16; 3]],
+) -> Crunching
+    ensures { λ r. ⌜ Stands (room points) (after points)
+        (crunchRuns (roomsIn samples breaks answers links) settings (before xs) (before ys) (before flags)) r ⌝ }
+{
+    let mut list = [0usize; 1024];
+    let n = runs::list_corners(xs, ys, flags, &mut list);
+    let w = contour::start(xs, ys, points);
+    crunch_runs(
+        xs,
+        ys,
+        flags,
+        &list[..n],
+        settings,
+        Progress { w, pairs: 0 },
+        samples,
+        breaks,
+        answers,
+        links,
+        points,
+    )
+}

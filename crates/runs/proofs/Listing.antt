@@ -1,0 +1,70 @@
+-- The corners listed, one mark after the other; and run k between listed corners. Assumes nothing.
+use Prim.Native.Nat.{ℕ, zero, suc, _+_, _-_, _≤_, _<_}
+use native.Mathlib.Numerals.{add-one}
+use native.Mathlib.Omega.{arith}
+use mathlib.Core.Bool.{Bool, true, false}
+use mathlib.Core.List.{List, [], _∷_, _++_, append-assoc, append-nil}
+use mathlib.Core.Path.{_≡_, refl, sym, ap, _∙_}
+use lib.ListN.{length, getD, take, drop, set, length-set, drop-of-length-le}
+use lib.Seq.{drop-cons, take-suc-set}
+use Rattle.runs.specs.Runs.{marksFrom, between, runAt, Listed}
+use Rattle.runs.specs.declared.Run.the-variants.{Between, Nothing}
+
+-- what is listed after i marks, of which n were set, and what is left to list
+pub record Listing (marks : List Bool) (long : ℕ) (row : List ℕ) (n i : ℕ) : Type 0 where
+  pub kept : length row ≡ long
+  pub upto : i ≤ length marks
+  pub few : n ≤ i
+  pub rest : marksFrom marks 0 ≡ take n row ++ marksFrom (drop i marks) i
+
+module _ (marks : List Bool) where
+  pub listing-start : (row : List ℕ) → Listing marks (length row) row 0 0
+  listing-start row = record { kept = refl; upto = omega arith; few = omega arith; rest = refl }
+
+  module _ {long : ℕ} {row : List ℕ} {n i : ℕ} (now : Listing marks long row n i) where
+    pub listing-mark : i < length marks → length marks ≤ long → getD marks i false ≡ true → Listing marks long (set row n i) (n + 1) (i + 1)
+    unfolding marksFrom
+    listing-mark h fits e =
+        let here : n < length row = omega (arith, now .kept, now .few) in
+        record {
+          kept = length-set row n i ∙ now .kept;
+          upto = omega arith;
+          few = omega (arith, now .few);
+          rest =
+              let split : marksFrom (drop i marks) i ≡ i ∷ marksFrom (drop (suc i) marks) (i + 1) = rw (drop-cons marks i false h, e) refl in
+              now .rest ∙ ap (λ (l : List ℕ). take n row ++ l) split ∙ sym (rw (add-one n, take-suc-set row n i here, append-assoc, add-one i) refl);
+        }
+
+    pub listing-pass : i < length marks → getD marks i false ≡ false → Listing marks long row n (i + 1)
+    unfolding marksFrom
+    listing-pass h e =
+        record {
+          kept = now .kept;
+          upto = omega arith;
+          few = omega (arith, now .few);
+          rest = now .rest ∙ rw (drop-cons marks i false h, e) (ap (λ (k : ℕ). take n row ++ marksFrom (drop k marks) (i + 1)) (sym (add-one i)));
+        }
+
+    pub listed : length marks ≤ i → length marks ≤ long → Listed row n (marksFrom marks 0)
+    unfolding marksFrom
+    listed h fits =
+        record {
+          within = omega (arith, now .kept, now .few, now .upto);
+          are = sym (now .rest ∙ rw (drop-of-length-le marks h) (append-nil (take n row)));
+        }
+
+-- ---- run k
+
+pub run-is : (corners : List ℕ) (k : ℕ) → k < length corners - 1 → runAt (between corners) k ≡ Between (getD corners k 0) (getD corners (suc k) 0 - getD corners k 0)
+unfolding runAt between
+run-is [] k h = absurd (omega arith)
+run-is (a ∷ []) k h = absurd (omega arith)
+run-is (a ∷ b ∷ corners) zero h = refl
+run-is (a ∷ b ∷ corners) (suc k) h = run-is (b ∷ corners) k (omega arith)
+
+pub run-past : (corners : List ℕ) (k : ℕ) → length corners - 1 ≤ k → runAt (between corners) k ≡ Nothing
+unfolding runAt between
+run-past [] k h = refl
+run-past (a ∷ []) k h = refl
+run-past (a ∷ b ∷ corners) zero h = absurd (omega arith)
+run-past (a ∷ b ∷ corners) (suc k) h = run-past (b ∷ corners) k (omega arith)
