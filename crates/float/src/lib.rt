@@ -1,6 +1,9 @@
-// Float helpers: what Rust's f64 methods and saturating casts give. Each contract equates the result
-// with a definition of specs/Float.antt or of `lib.Ieee`, on the values of `lib.Ieee`, and asks nothing.
-// The steps of the root (specs/Steps.antt) serve the crate quickroot too, and may ask.
+// Float helpers: what Rust's f64 methods and saturating casts give. The contracts of abs, is_close,
+// to_index, to_i16, trunc, floor, round, fract, bits, of_bits and root equate the result with a
+// definition of specs/Float.antt or of `lib.Ieee`, on the values of `lib.Ieee`, and ask nothing. The
+// other functions are steps of these: their contracts speak in the words of specs/Steps.antt, and may
+// ask. The steps of the root are public, for the crates quickroot and rootsteps. docs/ROOT.md goes
+// through them on paper.
 ghost use mathlib.Core.Path.{_≡_};
 ghost use Prim.Native.Nat.{_+_, _*_, _/_, _^_, _<_, _≤_};
 ghost use lib.Ieee as Ieee;
