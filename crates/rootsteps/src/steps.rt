@@ -136,22 +136,16 @@ fn put_steps(out: &mut [u8], at: usize, x: f64) -> Stepped
     }
 }
 
-// The root's own bits.
-fn put_result(out: &mut [u8], at: usize, root: f64) -> usize {
-    let a = lines::put_all(out, at, b"result    ");
-    let b = lines::put_bits(out, a, root);
-    lines::put_byte(out, b, b'\n')
-}
-
 // All that becomes of x. The root is that of the crate float.
 pub fn put_root(out: &mut [u8], at: usize, x: f64) -> Stepped
     ensures { λ r. ⌜ r .root ≡ rootOf x ⌝ }
 {
     let a = put_fields(out, at, float::bits(x));
     let t = put_steps(out, a, x);
-    let b = put_result(out, t.at, t.root);
+    let b = lines::put_all(out, t.at, b"result    ");
+    let c = lines::put_bits(out, b, t.root);
     Stepped {
-        at: b,
+        at: lines::put_byte(out, c, b'\n'),
         root: t.root,
     }
 }

@@ -1,24 +1,17 @@
 // Numbers in columns. Each function gives the next place, as the put functions of lines do.
-ghost use Prim.Native.Nat.{_<_, _≤_};
+ghost use Prim.Native.Nat.{_≤_};
 
-// The digit of n that counts units; a blank in front of n's first digit.
-fn column(n: u64, unit: u64) -> u8
-    requires { ⌜ 0 < unit ⌝ }
-{
-    if n < unit {
-        if 1 < unit {
-            return 32;
-        }
-    }
-    48 + ((n / unit % 10) as u8)
-}
-
-// n in decimal, as wide as top, a power of ten.
+// n in decimal, as wide as top, a power of ten: blanks stand in front of n's first digit.
 pub fn put_wide(out: &mut [u8], at: usize, n: u64, top: u64) -> usize {
     let mut a = at;
     let mut unit = top;
     while 0 < unit {
-        a = lines::put_byte(out, a, column(n, unit));
+        let digit = if n < unit && 1 < unit {
+            32
+        } else {
+            48 + ((n / unit % 10) as u8)
+        };
+        a = lines::put_byte(out, a, digit);
         unit = unit / 10;
     }
     a

@@ -1,10 +1,10 @@
 -- `rootsteps::steps::put_scaled` meets its contract, as `float::root` does: 53 turns, the rounding, the digits put together. Assumes nothing.
-use mathlib.Core.Path.{_≡_, _∙_}
+use mathlib.Core.Path.{_≡_, refl, _∙_}
+use lib.Dec.{lit≤}
 use Prim.Native.Nat.{_*_, _^_}
 use Rattle.float.specs.Float.{rootNear}
 use Rattle.float.proofs.Squares.{near-word}
 use Rattle.float.proofs.Scaled.{root-in}
-use borrow.Author.Needs.{needs}
 use Rattle.rootsteps.proofs.steps.put_scaled.Statement.{statement}
 use Rattle.rootsteps.proofs.steps.put_scaled.Tie as tie
 
@@ -12,13 +12,13 @@ digits : (c : tie.After-rounded) → c .rounded .result ≡ rootNear 53 (c .befo
 digits c = c .rounded .ensures ∙ near-word _ _ _ (c .before .before .before .before .before .before .before .before .before .before .before .before .before .before .before .before .before .before .before .before .fits .word .fits) (c .before .before .before .before .before .before .before .put-turns .ensures)
 
 slice-aggregate-put-digits : tie.Need-slice-aggregate-put-digits
-slice-aggregate-put-digits c = search needs
+slice-aggregate-put-digits c = refl
 
 put-digits-requires : tie.Need-put-digits-requires
-put-digits-requires c κs = search needs
+put-digits-requires c κs = lit≤ tt
 
 slice-aggregate-put-named : tie.Need-slice-aggregate-put-named
-slice-aggregate-put-named c = search needs
+slice-aggregate-put-named c = refl
 
 put-named-requires : tie.Need-put-named-requires
 put-named-requires c κs = tt
@@ -38,7 +38,9 @@ from-digits-requires c κs =
     rw (digits c) (p .0, p .1, c .before .before .before .before .before .before .before .before .before .before .before .before .before .before .before .before .before .before .before .before .pre .1)
 
 same-length : tie.Need-same-length
-same-length c = search needs
+same-length c =
+    c .before .before .before .before .put-rounding .kept .0 ∙ c .before .before .before .before .before .before .before .before .put-turns .kept .0 ∙ c .before .before .before .before .before .before .before .before .before .before .before .before .put-named .kept .0
+    ∙ c .before .before .before .before .before .before .before .before .before .before .before .before .before .before .before .before .before .put-digits .kept .0
 
 returns : tie.Need-returns
 returns c = c .from-digits .ensures ∙ rw (digits (c .before))

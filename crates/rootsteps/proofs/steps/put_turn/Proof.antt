@@ -1,5 +1,6 @@
 -- `rootsteps::steps::put_turn` meets its contract: each call keeps the row's length. Assumes nothing.
-use mathlib.Core.Path.{_∙_}
+use mathlib.Core.Path.{refl, _∙_}
+use lib.Dec.{lit≤}
 use borrow.Author.Needs.{needs}
 use Rattle.rootsteps.proofs.steps.put_turn.Statement.{statement}
 use Rattle.rootsteps.proofs.steps.put_turn.Tie as tie
@@ -8,13 +9,13 @@ put-wide-requires : tie.Need-put-wide-requires
 put-wide-requires c κs = tt
 
 slice-aggregate-put-all : tie.Need-slice-aggregate-put-all
-slice-aggregate-put-all c = search needs
+slice-aggregate-put-all c = refl
 
 put-all-requires : tie.Need-put-all-requires
 put-all-requires c κs = tt
 
 put-binary-requires : tie.Need-put-binary-requires
-put-binary-requires c κs = search needs
+put-binary-requires c κs = lit≤ tt
 
 in-hand-requires : tie.Need-in-hand-requires
 in-hand-requires c κs = search needs

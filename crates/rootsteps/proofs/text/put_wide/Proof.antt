@@ -14,8 +14,14 @@ abbrev μ-loop : tie.MeasureT-loop
 loop-holds : tie.Need-loop-holds Inv-loop μ-loop
 loop-holds c = refl
 
-column-requires : tie.Need-column-requires Inv-loop μ-loop
-column-requires c κs = omega arith
+div-digit : tie.Need-div-digit Inv-loop μ-loop
+div-digit c = omega arith
+
+cast-digit : tie.Need-cast-digit Inv-loop μ-loop
+cast-digit c = omega arith
+
+add-digit : tie.Need-add-digit Inv-loop μ-loop
+add-digit c = omega arith
 
 put-byte-requires : tie.Need-put-byte-requires Inv-loop μ-loop
 put-byte-requires c κs = tt
@@ -39,7 +45,9 @@ put-wide-spec =
     Inv-loop
     μ-loop
     loop-holds
-    column-requires
+    div-digit
+    cast-digit
+    add-digit
     put-byte-requires
     loop-less
     loop-again
