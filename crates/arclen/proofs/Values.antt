@@ -6,7 +6,7 @@ use Prim.Native.Nat.{ℕ}
 use lib.Ieee as Ieee
 use lib.Ieee.{Float, binary64, round, ofBits}
 use Rattle.float.specs.Float.{rootDown, rootNear, rootUnits, rootOf}
-use Rattle.float.proofs.Decimals.{Decimal, decimal, value, nearest}
+use Rattle.float.specs.Decimals.{Decimal, decimal, value, nearest}
 use Rattle.geometry.specs.declared.Point.{Point}
 use Rattle.geometry.specs.declared.Quad.{Quad}
 use Rattle.arclen.specs.Rk4.{moved, grownAll, rk4, walk}

@@ -6,7 +6,7 @@ use lib.IntN.{pos}
 use lib.Ieee as Ieee
 use lib.Ieee.{binary64}
 use Rattle.float.specs.Float.{absOf, tiny, closeTo, rootDown, rootNear, rootUnits, rootOf}
-use Rattle.float.proofs.Decimals.{Decimal, decimal, value, nearest}
+use Rattle.float.specs.Decimals.{Decimal, decimal, value, nearest}
 use Rattle.corners.specs.Segments.{countOf, endOf, placeAfter, segFrom}
 use Rattle.corners.specs.Corners.{fiftieth, marked, stateAt, cornersOf}
 

@@ -1,43 +1,14 @@
--- Named constants: each is the f64 nearest to its decimal, n / d. A crate lists its own as `Decimal`s, proves `map value list ≡ map nearest list` by `refl`, and has
--- each one's equation from `is-nearest`. Assumes nothing.
+-- The named constants of this crate are the f64s nearest to their decimals, and each one's own equation follows. Assumes nothing.
 use mathlib.Core.Path.{_≡_, refl}
-use mathlib.Core.List.{List, [], _∷_, map, List·Memᴰ}
-use mathlib.Core.Bool.{false}
-use Prim.Native.Nat.{ℕ, _^_}
-use lib.Ieee.{Float, binary64, ofBits, round}
-use Rattle.float.specs.Numbers.{nil, half, one, two, three, four, five, six, ten, hundred}
+use mathlib.Core.List.{List, List·Memᴰ}
+use lib.Ieee.{ofBits, round}
 use Rattle.float.specs.Float.{tiny}
+use Rattle.float.specs.Decimals.{Decimal, value, nearest, AreNearest, NumbersAreNearest}
 use Rattle.float.proofs.Table.{each}
 
--- a constant, and the n and d of its decimal
-pub data Decimal : Type 0 where
-  decimal : Float → ℕ → ℕ → Decimal
-
-abbrev pub value : Decimal → Float
-value (decimal x n d) = x
-
-abbrev pub nearest : Decimal → Float
-nearest (decimal x n d) = round binary64 false n d
-
-pub is-nearest : (list : List Decimal) → map value list ≡ map nearest list → (c : Decimal) → List·Memᴰ c list → value c ≡ nearest c
+pub is-nearest : (list : List Decimal) → AreNearest list → (c : Decimal) → List·Memᴰ c list → value c ≡ nearest c
 is-nearest list e c m = each value nearest list e c m
 
--- ---- the constants of this crate
-abbrev pub numbers : List Decimal
-numbers =
-    decimal nil 0 1
-    ∷ decimal half 1 2
-    ∷ decimal one 1 1
-    ∷ decimal two 2 1
-    ∷ decimal three 3 1
-    ∷ decimal four 4 1
-    ∷ decimal five 5 1
-    ∷ decimal six 6 1
-    ∷ decimal ten 10 1
-    ∷ decimal hundred 100 1
-    ∷ decimal tiny 1 (10 ^ 8)
-    ∷ []
-
-pub numbers-are-nearest : map value numbers ≡ map nearest numbers
+pub numbers-are-nearest : NumbersAreNearest
 unfolding ofBits round tiny
 numbers-are-nearest = refl

@@ -1,5 +1,5 @@
 -- The mathematics of the proofs, on plain values. Each function's own proof stands in its folder.
--- `Nearest`, `Values` and `Decimals` are theorems on the definitions, for a reader: no proof of a function uses them.
+-- `Exact`, `Nearest`, `Values` and `Decimals` have the theorems for a reader, whose statements are types of specs/: Rounding, Worked, Decimals.
 pub mod Number
 mod Sign
 mod Saturate

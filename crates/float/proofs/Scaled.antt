@@ -19,7 +19,7 @@ use Rattle.float.proofs.Squares.{Root, root-down}
 pow-lt-back : (a b : ℕ) → 2 ^ a < 2 ^ b → a < b
 pow-lt-back a b h = lt-of-not-le (λ (g : b ≤ a). not-le-of-lt h (pow-mono g))
 
-four-pow : (h : ℕ) → 4 ^ h ≡ 2 ^ (h + h)
+pub four-pow : (h : ℕ) → 4 ^ h ≡ 2 ^ (h + h)
 four-pow zero = refl
 four-pow (suc h) = pow-suc 4 h ∙ ap (λ (a : ℕ). a * 4) (four-pow h) ∙ sym (pow-add 2 (h + h) 2) ∙ ap (λ (k : ℕ). 2 ^ k) (two-more h)
   where

@@ -64,7 +64,7 @@ roundOf x = wholeBy toNearest x
 abbrev pub fractOf : Float → Float
 fractOf x = Ieee.sub binary64 x (truncOf x)
 
--- ---- the square root, by whole-number squares. That `rootOf x` is the f64 nearest to the root of x, and that there is never a tie, is `root-nearest` of proofs/Nearest.antt
+-- ---- the square root, by whole-number squares. That no f64 is as near to the root of x as `rootOf x` is `RootIsNearest` of specs/Rounding
 
 -- q, or q + 1 where its square is no more than n
 abbrev pub withBit : ℕ → ℕ → ℕ

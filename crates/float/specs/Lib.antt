@@ -1,3 +1,6 @@
 pub mod Numbers
 pub mod Float
 pub mod Steps
+pub mod Rounding
+pub mod Worked
+pub mod Decimals

@@ -1,10 +1,12 @@
 -- What the steps of a function hand to each other. Definitions only.
 use mathlib.Core.Path.{_≡_}
-use Prim.Native.Nat.{ℕ, zero, suc, _+_, _-_, _*_, _%_, _^_, _<_, _≤_}
-use mathlib.Core.Bool.{false}
+use Prim.Native.Nat.{ℕ, zero, suc, _+_, _-_, _*_, _/_, _%_, _^_, _<_, _≤_}
+use mathlib.Core.Bool.{false, cond}
+use lib.Dec.{ltb}
 use lib.Ieee as Ieee
 use lib.Ieee.{Float, nan, inf, fin, binary64}
 use Rattle.float.specs.Float.{rootNear}
+use Rattle.float.specs.declared.Underway.{Underway}
 use Rattle.float.specs.declared.Radicand.{Radicand}
 use Rattle.float.specs.declared.Radicand.the-variants.{Answer, Scaled}
 
@@ -23,6 +25,18 @@ withSign n (fin s (suc m) e) = Ieee.round binary64 s n 1
 pub record Rooted (n q rest : ℕ) : Type 0 where
   pub sum : q * q + rest ≡ n
   pub within : rest ≤ 2 * q
+
+-- One turn of a root under way, from s to r: what was taken in is four times as much and the two digits at the top of what is left; the root has
+-- one digit more, and is the root of that, rounded down.
+pub record Turned (s r : Underway) : Type 0 where
+  pub sum : r .root * r .root + r .rest ≡ 4 * (s .root * s .root + s .rest) + s .left / 2 ^ 62
+  pub within : r .rest ≤ 2 * r .root
+  pub digit : r .root / 2 ≡ s .root
+  pub left : r .left ≡ s .left * 4 % 2 ^ 64
+
+-- the nearest whole number to the root of q * q + rest
+abbrev pub upIfMore : ℕ → ℕ → ℕ
+upIfMore q rest = cond (ltb q rest) (q + 1) q
 
 -- w has 63 or 64 binary digits, of which only the leading 53 may be ones, so the root of w * 2 ^ 42 has 53 digits, also where it is rounded up
 pub record Normal (w : ℕ) : Type 0 where

@@ -1,11 +1,14 @@
-// Float helpers: what Rust's f64 methods and saturating casts give. Each contract equates the result
-// with a definition of specs/Float.antt or of `lib.Ieee`, on the values of `lib.Ieee`, and asks nothing.
-// The steps of the root (specs/Steps.antt) serve the crate quickroot too, and may ask.
+// Float helpers: what Rust's f64 methods and saturating casts give. The contracts of abs, is_close,
+// to_index, to_i16, trunc, floor, round, fract, bits, of_bits and root equate the result with a
+// definition of specs/Float.antt or of `lib.Ieee`, on the values of `lib.Ieee`, and ask nothing. The
+// other functions are steps of these: their contracts speak in the words of specs/Steps.antt, and may
+// ask. The steps of the root are public, for the crates quickroot and rootsteps. docs/ROOT.md goes
+// through them on paper.
 ghost use mathlib.Core.Path.{_≡_};
-ghost use Prim.Native.Nat.{_*_, _/_, _^_, _<_, _≤_};
+ghost use Prim.Native.Nat.{_+_, _*_, _/_, _^_, _<_, _≤_};
 ghost use lib.Ieee as Ieee;
 ghost use Rattle.float.specs.Float.{absOf, closeTo, truncOf, floorOf, roundOf, fractOf, rootOf, rootUnits, rootNear};
-ghost use Rattle.float.specs.Steps.{withSign, Rooted, scaled, Leaves};
+ghost use Rattle.float.specs.Steps.{withSign, Rooted, Turned, upIfMore, scaled, Leaves};
 
 // |x|. A zero comes out as +0.
 pub fn abs(x: f64) -> f64
@@ -140,31 +143,83 @@ pub struct WholeRoot {
     pub rest: u64,
 }
 
+// A root under way: root * root + rest is what was taken in of a number's digits, and left has the
+// digits that were not, from its top.
+pub struct Underway {
+    pub root: u64,
+    pub rest: u64,
+    pub left: u64,
+}
+
+// What a turn has in hand: the rest, with the next two digits written behind it.
+pub fn in_hand(s: Underway) -> u64
+    requires { ⌜ s .rest < 2 ^ 54 ⌝ }
+    ensures { λ r. ⌜ r ≡ s .rest * 4 + s .left / 2 ^ 62 ⌝ }
+{
+    s.rest * 4 + (s.left >> 62)
+}
+
+// What a one as the root's next digit takes of it: (2 * root + 1)^2 is 4 * root^2 and 4 * root + 1.
+pub fn trial(s: Underway) -> u64
+    requires { ⌜ s .root < 2 ^ 53 ⌝ }
+    ensures { λ r. ⌜ r ≡ s .root * 4 + 1 ⌝ }
+{
+    s.root * 4 + 1
+}
+
+// One turn: two digits are taken in, and the root gets one. It is a one where the trial can be taken.
+pub fn turn(s: Underway) -> Underway
+    requires { ⌜ (s .root < 2 ^ 53) × (s .rest ≤ 2 * s .root) ⌝ }
+    ensures { λ r. ⌜ Turned s r ⌝ }
+{
+    let r = in_hand(s);
+    let t = trial(s);
+    let left = s.left << 2;
+    let root = s.root * 2;
+    if t <= r {
+        Underway {
+            root: root + 1,
+            rest: r - t,
+            left,
+        }
+    } else {
+        Underway {
+            root,
+            rest: r,
+            left,
+        }
+    }
+}
+
 // The root of the leading 2 * turns binary digits of w, with zeros after the last: each turn takes in
-// two of them and gives one digit of the root. q * q + rest is what was taken in so far, and left is
-// what is not.
+// two of them and gives one digit of the root.
 pub fn by_digits(w: u64, turns: u64) -> WholeRoot
     requires { ⌜ turns ≤ 53 ⌝ }
     ensures { λ r. ⌜ Rooted (w * 4 ^ turns / 2 ^ 64) (r .root) (r .rest) ⌝ }
 {
-    let mut left = w;
-    let mut rest = 0u64;
-    let mut q = 0u64;
+    let mut s = Underway {
+        root: 0,
+        rest: 0,
+        left: w,
+    };
     let mut i = 0u64;
     while i < turns {
-        let r = rest * 4 + (left >> 62);
-        let t = q * 4 + 1;
-        left = left << 2;
-        if t <= r {
-            rest = r - t;
-            q = q * 2 + 1;
-        } else {
-            rest = r;
-            q = q * 2;
-        }
+        s = turn(s);
         i += 1;
     }
-    WholeRoot { root: q, rest }
+    WholeRoot {
+        root: s.root,
+        rest: s.rest,
+    }
+}
+
+// The nearest whole number to the root: one up where the rest is more than the root, since
+// (root + 1/2)^2 is root^2 + root + 1/4, which no whole number is.
+pub fn rounded(d: WholeRoot) -> u64
+    ensures { λ r. ⌜ r ≡ upIfMore (d .root) (d .rest) ⌝ }
+{
+    let q = d.root;
+    if q < d.rest { q + 1 } else { q }
 }
 
 // The whole number nearest to the root of w * 2^42.
@@ -172,8 +227,7 @@ fn root_digits(w: u64) -> u64
     ensures { λ r. ⌜ r ≡ rootNear 53 (w * 2 ^ 42) ⌝ }
 {
     let d = by_digits(w, 53);
-    let q = d.root;
-    if q < d.rest { q + 1 } else { q }
+    rounded(d)
 }
 
 // What is left of a root once its x is read: nothing, or the 53 digits of the root of word * 2^42,

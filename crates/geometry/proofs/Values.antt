@@ -8,7 +8,7 @@ use lib.Ieee.{Float, nan, binary64, round, ofBits}
 use Rattle.float.specs.Float.{absOf, tiny, closeTo, wholeBy, rootDown, rootNear, rootUnits, rootOf}
 use Rattle.geometry.specs.Geometry.{isInt, isClose, distanceOf, unitizeOf, lineQuad, isLine, isSmooth, intersectOf, epsilon}
 use Rattle.float.specs.Numbers.{nil, half}
-use Rattle.float.proofs.Decimals.{Decimal, decimal, value, nearest}
+use Rattle.float.specs.Decimals.{Decimal, decimal, value, nearest}
 use Rattle.geometry.specs.declared.Point.{Point}
 use Rattle.geometry.specs.declared.Quad.{Quad}
 use Rattle.geometry.specs.declared.Crossing.the-variants.{At, Nowhere}

@@ -8,7 +8,7 @@ use lib.Ieee as Ieee
 use lib.Ieee.{Float, binary64, round, ofBits}
 use Rattle.float.specs.Numbers.{nil, one, four}
 use Rattle.float.specs.Float.{absOf, tiny, closeTo, wholeBy, rootDown, rootNear, rootUnits, rootOf}
-use Rattle.float.proofs.Decimals.{Decimal, decimal, value, nearest}
+use Rattle.float.specs.Decimals.{Decimal, decimal, value, nearest}
 use Rattle.geometry.specs.declared.Point.{Point}
 use Rattle.geometry.specs.declared.Quad.{Quad}
 use Rattle.arclen.specs.Rk4.{moved, grownAll, rk4, walk}
