@@ -59,7 +59,7 @@ module _ (len : Float) (k : ℕ) (small : k ≤ 2 ^ 22) (w : Within k len) where
 
 -- ---- and is found there, before the last sample
 
-data IsAt : P.Placed → Type 0 where
+pub data IsAt : P.Placed → Type 0 where
   is-at : (b : Break) (dist : Float) → IsAt (Placed.At b dist)
 
 looks : (j : ℕ) (samples : List (List Float)) (s : Float) → toUnsigned 64 s + 1 < length samples →
@@ -115,10 +115,10 @@ result-only (is-so row d) = all row
 result-only is-full = short
 
 -- of a length of at most k, and more than k + 1 samples
-pub breaks-only : (room : ℕ) (samples : List (List Float)) (g : Grid) (len : Float) (k : ℕ) → k ≤ 2 ^ 22 → Within k len → k + 1 < length samples → Only (breaksOf room samples g len)
-unfolding breaksOf
-breaks-only room samples g len k small w more =
-    let n = placesOf len in
-    let few : n < 2 ^ 31 = toUnsigned-lt 31 _ in
-    result-only
-    (walk-sound (suc n) room n (placeOf samples g len) 0 (λ i h. places samples g (lengthAt len n i) (omega (arith, looked len k small w n i h few))) (omega arith) (is-so [] nil))
+module _ (samples : List (List Float)) (g : Grid) (len : Float) (k : ℕ) (small : k ≤ 2 ^ 22) (w : Within k len) (more : k + 1 < length samples) where
+  pub all-places : (i : ℕ) → i ≤ placesOf len → IsAt (placeOf samples g len i)
+  all-places i h = places samples g (lengthAt len (placesOf len) i) (omega (arith, looked len k small w (placesOf len) i h (toUnsigned-lt 31 _)))
+
+  pub breaks-only : (room : ℕ) → Only (breaksOf room samples g len)
+  unfolding breaksOf
+  breaks-only room = result-only (walk-sound (suc (placesOf len)) room (placesOf len) (placeOf samples g len) 0 all-places (omega arith) (is-so [] nil))

@@ -4,4 +4,5 @@ pub mod Bounded
 pub mod Speeds
 pub mod Reach
 pub mod Inside
+pub mod Many
 pub mod Never
