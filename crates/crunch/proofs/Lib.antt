@@ -3,3 +3,4 @@ mod Run
 mod Going
 mod End
 mod Whole
+pub mod Cause

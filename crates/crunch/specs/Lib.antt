@@ -3,3 +3,4 @@ pub mod Entry
 pub mod Stands
 pub mod Determine
 pub mod Laws
+pub mod Cause
