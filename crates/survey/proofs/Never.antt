@@ -13,8 +13,8 @@ use Rattle.breaks.specs.Breaks as Breaks
 use Rattle.breaks.specs.declared.Grid.{Grid}
 use Rattle.samples.specs.Samples.{Sample, Run, thetasOf, quadsOf}
 use Rattle.samples.specs.Samples as Samples
-use Rattle.survey.specs.Survey.{sampleRoom, breakRoom, searched, afterSampling, surveyOf}
-use Rattle.survey.specs.Never.{Sixteen, FindsBreaks, Finds, FindsExactly, Answered, six, seven, found, AlwaysAnswered}
+use Rattle.survey.specs.Survey.{Survey, refused, past, surveyed, sampleRoom, breakRoom, searched, afterSampling, surveyOf}
+use Rattle.survey.specs.Never.{Sixteen, FindsBreaks, Finds, FindsExactly, Answered, six, seven, found, AlwaysAnswered, NeverPast}
 use Rattle.survey.proofs.Speeds.{length-size}
 use Rattle.survey.proofs.Reach.{Reached, run-reaches}
 use Rattle.survey.proofs.Inside.{Only, all, short, all-places, breaks-only}
@@ -71,3 +71,22 @@ finds-exactly sampleRow room xs ys fs first count g samples len sx sy e = finds-
 pub answered : AlwaysAnswered
 unfolding surveyOf
 answered sampleRow breakRow xs ys fs first count g sx sy = sampled-answered sampleRow breakRow xs ys fs first count g sx sy _ refl
+
+-- 8 for those that are ruled out
+abbrev answer : Survey → ℕ
+answer (refused k) = k
+answer past = 8
+answer (surveyed samples row) = 0
+
+answer-below : {s : Survey} → Answered s → answer s < 8
+answer-below six = lit≤ tt
+answer-below seven = lit≤ tt
+answer-below (found samples row) = lit≤ tt
+
+not-answered : {s : Survey} → Answered s → answer s ≡ 8 → ⊥
+not-answered a e = omega (arith, answer-below a)
+
+pub never-past : NeverPast
+never-past sampleRow breakRow xs ys fs first count g sx sy =
+    let a = answered sampleRow breakRow xs ys fs first count g sx sy in
+    (λ h. not-answered a (ap answer h), λ h. not-answered a (ap answer h))

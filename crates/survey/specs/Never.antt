@@ -1,5 +1,5 @@
 -- What cannot happen in a run of a contour in 16 bits that is not given 6: a length past its samples, and an 8 while its breaks are found; and when it is
--- given 7. The theorems, `finds-breaks`, `finds-exactly` and `answered`, stand in proofs/Never.antt. Definitions only.
+-- given 7. The theorems, `finds-breaks`, `finds-exactly`, `answered` and `never-past`, stand in proofs/Never.antt. Definitions only.
 use Prim.Native.Nat.{ℕ, suc, _^_, _≤_, _<_}
 use mathlib.Core.List.{List}
 use mathlib.Core.Path.{_≡_}
@@ -12,7 +12,7 @@ use Rattle.breaks.specs.Breaks as Breaks
 use Rattle.breaks.specs.declared.Grid.{Grid}
 use Rattle.samples.specs.Samples.{Sample, thetasOf, quadsOf}
 use Rattle.samples.specs.Samples as Samples
-use Rattle.survey.specs.Survey.{Survey, refused, surveyed, sampleRoom, breakRoom, surveyOf}
+use Rattle.survey.specs.Survey.{Survey, refused, past, surveyed, sampleRoom, breakRoom, surveyOf}
 
 -- every coordinate has 16 bits: from -2 ^ 15 to 2 ^ 15 - 1
 abbrev pub Sixteen : List ℤ → Type 0
@@ -54,3 +54,9 @@ abbrev pub AlwaysAnswered : Type 0
 AlwaysAnswered =
     (sampleRow breakRow : ℕ) (xs ys : List ℤ) (fs : List ℕ) (first count : ℕ) (g : Grid) → Sixteen xs → Sixteen ys →
     Answered (surveyOf sampleRow breakRow xs ys fs first count g)
+
+-- so no length past the samples, and no 8
+abbrev pub NeverPast : Type 0
+NeverPast =
+    (sampleRow breakRow : ℕ) (xs ys : List ℤ) (fs : List ℕ) (first count : ℕ) (g : Grid) → Sixteen xs → Sixteen ys →
+    (surveyOf sampleRow breakRow xs ys fs first count g ≡ past → ⊥) × (surveyOf sampleRow breakRow xs ys fs first count g ≡ refused 8 → ⊥)
