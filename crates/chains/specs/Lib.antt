@@ -2,3 +2,4 @@ pub mod Chains
 pub mod Determine
 pub mod Entry
 pub mod Steps
+pub mod Good

@@ -4,3 +4,4 @@ pub mod Stands
 pub mod Steps
 pub mod Determine
 pub mod Laws
+pub mod Cause

@@ -1,3 +1,4 @@
 pub mod Edition
 pub mod Laws
 pub mod Scratch
+pub mod Causes

@@ -9,3 +9,6 @@ mod Phases
 mod Solving
 mod Fresh
 pub mod One
+pub mod Compare
+pub mod Good
+pub mod Unchanged
