@@ -27,7 +27,8 @@ pub record Same (r r' : C.Chained) (c c' : Chain) (w w' : Work) : Type 0 where
   pub work : w ≡ w'
 
 -- two outcomes of one order are one, in the chain's rows also beyond the pieces
-pub determined : {i : Inputs} {settings : Settings} {k : ℕ} {c c' : LentChain} {w w' : Scratch} {r r' : C.Chained} → c .entry ≡ c' .entry → w .entry ≡ w' .entry →
+pub determined : {i : Inputs} {settings : Settings} {k : ℕ} {c c' : LentChain} {w w' : Scratch} {r r' : C.Chained} → c .entry ≡ c' .entry →
+    w .entry ≡ w' .entry →
     Promise i settings k c w r → Promise i settings k c' w' r' → Same r r' (c .exit) (c' .exit) (w .exit) (w' .exit)
 determined {i} {settings} {k} {c} {c'} {w} {w'} e f p q =
     let whole : wholeOf i settings k (c .entry) (w .entry) ≡ wholeOf i settings k (c' .entry) (w' .entry) = rw (e, f) refl in

@@ -95,7 +95,8 @@ tested-yes false v e = (refl, e)
 
 module _ (rooms : Rooms) (settings : Settings) (xs ys : List ℤ) (fs : List ℕ) (k : ℕ) (c : Given) where
   surveyed-yes : (first count : ℕ) → judged xs ys fs ≡ Judged.Fine → numberedRun xs ys fs k ≡ Between first count → (s : Survey) →
-      surveyOf (rooms .samples) (rooms .breaks) xs ys fs first count (gridOf settings) ≡ s → ofSurvey (half rooms) (penaltyOf settings) c s ≡ Verdict.Yes → Accepted rooms settings xs ys fs k c
+      surveyOf (rooms .samples) (rooms .breaks) xs ys fs first count (gridOf settings) ≡ s →
+      ofSurvey (half rooms) (penaltyOf settings) c s ≡ Verdict.Yes → Accepted rooms settings xs ys fs k c
   surveyed-yes first count fine run (Survey.refused n) survey e = absurd (omega (arith, ap isYes e))
   surveyed-yes first count fine run Survey.past survey e = absurd (omega (arith, ap isYes e))
   surveyed-yes first count fine run (Survey.surveyed samples breaks) survey e =
@@ -118,7 +119,8 @@ module _ (rooms : Rooms) (settings : Settings) (xs ys : List ℤ) (fs : List ℕ
   run-yes fine (Between first count) run e = surveyed-yes first count fine run _ refl e
 
   judged-yes : (j : Judged) → judged xs ys fs ≡ j →
-      afterJudging j (ofRun (half rooms) settings c (rooms .samples) (rooms .breaks) xs ys fs (numberedRun xs ys fs k)) ≡ Verdict.Yes → Accepted rooms settings xs ys fs k c
+      afterJudging j (ofRun (half rooms) settings c (rooms .samples) (rooms .breaks) xs ys fs (numberedRun xs ys fs k)) ≡ Verdict.Yes →
+      Accepted rooms settings xs ys fs k c
   judged-yes (Judged.Refused n) fine e = absurd (omega (arith, ap isYes e))
   judged-yes Judged.Fine fine e = run-yes fine _ refl e
 
@@ -126,5 +128,7 @@ module _ (rooms : Rooms) (settings : Settings) (xs ys : List ℤ) (fs : List ℕ
 pub accepts-exactly : (xs ys : List ℤ) (fs : List ℕ) (settings : Settings) (k : ℕ) (c : Given) (w : Work) →
     (wholeOf (inputs xs ys fs) settings k c w ≡ Verdict.Yes) ↔ Accepted (roomsOf w) settings xs ys fs k c
 unfolding checkOf
-accepts-exactly xs ys fs settings k c w =
-    (judged-yes (roomsOf w) settings xs ys fs k c _ refl, λ a. rw (a .fine, a .run, a .survey, le-ltb (half (roomsOf w)) (length (a .breaks)) (a .room), a .yes) refl)
+accepts-exactly xs ys fs settings k c w = (
+  judged-yes (roomsOf w) settings xs ys fs k c _ refl,
+  λ a. rw (a .fine, a .run, a .survey, le-ltb (half (roomsOf w)) (length (a .breaks)) (a .room), a .yes) refl,
+)

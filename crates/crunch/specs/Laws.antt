@@ -113,7 +113,8 @@ module _ (rooms rooms' : Rooms) (within : Within rooms rooms') (settings : Setti
   runs-same e = all-same (runsOf xs ys fs) _ _ (λ h. refl) e
 
 module _ (room room' : ℕ) (more : room ≤ room') where
-  over-same : (ps : Points) (pairs : ℕ) (over : Bool) → ltb room (length ps) ≡ over → short (overIf over ps pairs) ≡ false → overIf (ltb room' (length ps)) ps pairs ≡ overIf over ps pairs
+  over-same : (ps : Points) (pairs : ℕ) (over : Bool) → ltb room (length ps) ≡ over → short (overIf over ps pairs) ≡ false →
+      overIf (ltb room' (length ps)) ps pairs ≡ overIf over ps pairs
   over-same ps pairs true t e = let z : _≡_ {A = ℕ} 0 1 = cc in absurd (omega arith)
   over-same ps pairs false t e =
       let few : length ps ≤ room = ltb-false room (length ps) t in

@@ -84,13 +84,7 @@ pub fn crunch_into(
 }
 
 // The first points of the row, to the output rows.
-fn put_out(
-    c: Crunched,
-    points: &[[i16; 3]],
-    ox: &mut [i16],
-    oy: &mut [i16],
-    of: &mut [u8],
-)
+fn put_out(c: Crunched, points: &[[i16; 3]], ox: &mut [i16], oy: &mut [i16], of: &mut [u8])
     requires { ⌜ Fits (now points) (outputs (now ox) (now oy) (now of)) c ⌝ }
     ensures { λ _. ⌜ outputs (after ox) (after oy) (after of) ≡ copied c (before points) (outputs (before ox) (before oy) (before of)) ⌝ }
 {

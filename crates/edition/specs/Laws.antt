@@ -23,7 +23,8 @@ use Rattle.survey.specs.Survey.{Survey, surveyOf, surveyIn}
 use Rattle.survey.specs.Survey as Survey
 use Rattle.survey.specs.declared.Surveyed as Y
 use Rattle.survey.specs.declared.Surveyed.the-variants as Surveyed
-use Rattle.edition.specs.Edition.{Result, refused, unchanged, solved, answerRoom, resultOf, unlessShort, editionOf, afterSurvey, Rooms, workOf, Found, Works, no, stays, holds}
+use Rattle.edition.specs.Edition.{Result, refused, unchanged, solved, answerRoom, resultOf, unlessShort, editionOf}
+use Rattle.edition.specs.Edition.{afterSurvey, Rooms, workOf, Found, Works, no, stays, holds}
 use Rattle.edition.specs.Scratch.{roomsOf, cleared}
 use Rattle.edition.specs.declared.Worked as W
 use Rattle.edition.specs.declared.Worked.the-variants as Worked
@@ -36,7 +37,8 @@ surveyed-found sampleRow breakRow xs ys fs first count g samples breaks e =
     record { some = some; few = surveyed-few sampleRow breakRow xs ys fs first count g samples breaks e; fit-x = fit .0; fit-y = fit .1 }
 
 -- what the edition asks of the breaks that it is lent
-pub found-rows : (sampleRow breakRow : ℕ) (xs ys : List ℤ) (fs : List ℕ) (first count : ℕ) (g : Grid) (samples : List Sample) (breaks : Row) {n m : ℕ} {r : Y.Surveyed} →
+pub found-rows : (sampleRow breakRow : ℕ) (xs ys : List ℤ) (fs : List ℕ) (first count : ℕ) (g : Grid) (samples : List Sample) (breaks : Row)
+    {n m : ℕ} {r : Y.Surveyed} →
     surveyOf sampleRow breakRow xs ys fs first count g ≡ surveyIn samples breaks r → r ≡ Surveyed.Rows n m → Found (take m breaks)
 found-rows sampleRow breakRow xs ys fs first count g samples breaks {n} {m} e h =
     surveyed-found sampleRow breakRow xs ys fs first count g (take n samples) (take m breaks) (e ∙ ap (surveyIn samples breaks) h)
@@ -128,7 +130,8 @@ module _ (rooms : Rooms) (g : Grid) (penalty : Float) (xs ys : List ℤ) (fs : L
   after-few (Survey.refused k) s = omega arith
   after-few Survey.past s = omega arith
   after-few (Survey.surveyed samples breaks) s =
-      edition-pairs samples breaks penalty (surveyed-found (rooms .samples) (rooms .breaks) xs ys fs first count g samples breaks s) (rooms .answers) (rooms .links)
+      edition-pairs samples breaks penalty (surveyed-found (rooms .samples) (rooms .breaks) xs ys fs first count g samples breaks s) (rooms .answers)
+      (rooms .links)
 
   pub work-pairs : pairsOf (workOf rooms g penalty xs ys fs first count) ≤ mostPairs
   unfolding workOf
@@ -186,7 +189,8 @@ module _ (rooms rooms' : Rooms) (h : Within rooms rooms') (g : Grid) (penalty : 
   work-same xs ys fs first count six seven =
       let after = afterSurvey (rooms .answers) (rooms .links) penalty in
       ap (afterSurvey (rooms' .answers) (rooms' .links) penalty)
-      (survey-same (rooms .samples) (rooms .breaks) (rooms' .samples) (rooms' .breaks) (h .samples) (h .breaks) xs ys fs first count g (λ e. six (ap after e)) (λ e. seven (ap after e)))
+      (survey-same (rooms .samples) (rooms .breaks) (rooms' .samples) (rooms' .breaks) (h .samples) (h .breaks) xs ys fs first count g
+      (λ e. six (ap after e)) (λ e. seven (ap after e)))
       ∙ after-same (surveyOf (rooms .samples) (rooms .breaks) xs ys fs first count g) seven
 
 -- ---- rows of equal lengths are cleared to the same

@@ -6,6 +6,7 @@ use survey::Surveyed;
 ghost use mathlib.Core.Path.{_≡_};
 ghost use lib.ListN.{length};
 ghost use Rattle.edition.specs.Edition.{editionOf, workOf, Found, Works};
+ghost use Rattle.edition.specs.Scratch.{roomsIn};
 
 pub enum Worked {
     // 6, 7 or 8
@@ -54,8 +55,7 @@ pub fn work_run(
     links: &mut [u32],
 ) -> Worked
     ensures { λ r. ⌜ Works penalty (now (breaks .exit)) (now (answers .exit)) (now (links .exit))
-        (workOf (record { samples = length (now (samples .entry)); breaks = length (now (breaks .entry)); answers = length (now (answers .entry)); links = length (now (links .entry)) })
-        g penalty (now (xs .entry)) (now (ys .entry)) (now (flags .entry)) first count) r ⌝ }
+        (workOf (roomsIn samples breaks answers links) g penalty (now (xs .entry)) (now (ys .entry)) (now (flags .entry)) first count) r ⌝ }
 {
     match survey::survey(xs, ys, flags, first, count, g, samples, breaks) {
         Surveyed::Refused(k) => Worked::Refused(k),

@@ -58,7 +58,8 @@ pub record ChainSame (r r' : ChainReport) (c c' : Chain) (w w' : Work) : Type 0 
   pub work : w ≡ w'
 
 pub chain-determined : {i : Inputs} {settings : Settings} {k : ℕ} {c c' : Chains.LentChain} {w w' : Scratch} {r r' : ChainReport} →
-    c .entry ≡ c' .entry → w .entry ≡ w' .entry → Shown chainReport (Chains.Promise i settings k c w) r → Shown chainReport (Chains.Promise i settings k c' w') r' →
+    c .entry ≡ c' .entry → w .entry ≡ w' .entry → Shown chainReport (Chains.Promise i settings k c w) r →
+    Shown chainReport (Chains.Promise i settings k c' w') r' →
     ChainSame r r' (c .exit) (c' .exit) (w .exit) (w' .exit)
 chain-determined e f p q =
     let same = ChainsOnce.determined e f (p .promise) (q .promise) in
@@ -84,7 +85,8 @@ pub record CheckSame (r r' : CheckReport) (w w' : Work) : Type 0 where
   pub report : r ≡ r'
   pub work : w ≡ w'
 
-pub check-equal-orders : {i : Inputs} {settings : Settings} {k : ℕ} {c : Given} {w w' : Scratch} {r r' : CheckReport} → roomsOf (w .entry) ≡ roomsOf (w' .entry) →
+pub check-equal-orders : {i : Inputs} {settings : Settings} {k : ℕ} {c : Given} {w w' : Scratch} {r r' : CheckReport} →
+    roomsOf (w .entry) ≡ roomsOf (w' .entry) →
     Shown checkReport (Checks.Promise i settings k c w) r → Shown checkReport (Checks.Promise i settings k c w') r' → CheckSame r r' (w .exit) (w' .exit)
 check-equal-orders rooms p q =
     let same = ChecksOnce.equal-orders rooms (p .promise) (q .promise) in

@@ -21,7 +21,8 @@ use Rattle.measure.specs.declared.Measured.the-variants as Measured
 use Rattle.breaks.specs.Breaks as Breaks
 use Rattle.breaks.specs.Breaks.{halfGrid, onGrid}
 use Rattle.optimize.specs.Answers.{scoreOf, combined}
-use Rattle.optimize.specs.Optimize.{Measure, tryQuad, bent, tryLineQuad, tryAll, splitsFrom, falling, searchFrom, Optimised, refused8, unchanged, solved, optimizeOf}
+use Rattle.optimize.specs.Optimize.{Measure, tryQuad, bent, tryLineQuad, tryAll, splitsFrom}
+use Rattle.optimize.specs.Optimize.{falling, searchFrom, Optimised, refused8, unchanged, solved, optimizeOf}
 use Rattle.edition.specs.Scratch.{fullRooms}
 use Rattle.contour.specs.Points.{Points, pointsTo, piecesPoints}
 use Rattle.contour.specs.Implied.{isImplied, impliedAt, look, dropFrom, dropImplied, cutOf}
@@ -138,7 +139,10 @@ rows =
     ∷ []
 
 pub rows-hold : map (λ (r : Row). evaluate (r .case)) rows ≡ map (λ (r : Row). r .result) rows
-unfolding Corners.marked Corners.stateAt Corners.cornersOf crunchOf judged offNeighbours crunchRuns crunchAll afterRun runsOf cornerList between marksFrom countOf endOf placeAfter segFrom piecesPoints dropFrom look impliedAt isImplied cutOf optimizeOf tryAll tryLineQuad bent tryQuad combined splitsFrom falling searchFrom absOf tiny closeTo wholeBy rootOf rootUnits rootNear rootDown Ieee.toSigned Ieee.ofInt Ieee.ofBits Ieee.round Ieee.size Ieee.add Ieee.sub Ieee.mul Ieee.div Ieee.lt
+unfolding Corners.marked Corners.stateAt Corners.cornersOf crunchOf judged offNeighbours crunchRuns crunchAll afterRun runsOf cornerList between
+    marksFrom countOf endOf placeAfter segFrom piecesPoints dropFrom look impliedAt isImplied cutOf optimizeOf tryAll tryLineQuad bent tryQuad
+    combined splitsFrom falling searchFrom absOf tiny closeTo wholeBy rootOf rootUnits rootNear rootDown Ieee.toSigned Ieee.ofInt Ieee.ofBits
+    Ieee.round Ieee.size Ieee.add Ieee.sub Ieee.mul Ieee.div Ieee.lt
 rows-hold = refl
 
 -- each row by itself

@@ -32,7 +32,11 @@ slotsOf links k = slotsIf (k + 1) (ltb (getD links k 0) 2) links k
 
 -- stored answer k as a piece of a chain
 abbrev pub pieceOf : List (List Float) → List ℕ → ℕ → Piece
-pieceOf answers links k = record { from = fromBreak (getD links k 0); to = k / 2; control = record { x = getD (getD answers k []) 1 nan; y = getD (getD answers k []) 2 nan } }
+pieceOf answers links k = record {
+  from = fromBreak (getD links k 0);
+  to = k / 2;
+  control = record { x = getD (getD answers k []) 1 nan; y = getD (getD answers k []) 2 nan };
+}
 
 -- and as a quad
 abbrev pub quadOf : Row → List (List Float) → List ℕ → ℕ → Quad
