@@ -1,0 +1,2 @@
+// OpenType's simple glyph descriptions, written from rows.
+mod put;
