@@ -1,6 +1,6 @@
 // OpenType's simple glyph descriptions: the layout (specs/Layout), and what is asked of a row of ends.
 ghost use mathlib.Core.Path.{_≡_};
-ghost use Prim.Native.Nat.{_<_};
+ghost use Prim.Native.Nat.{_<_, _≤_};
 ghost use Rattle.glyf.specs.Layout.{countOf, rising};
 
 pub fn wide(v: u16) -> usize
@@ -13,6 +13,7 @@ pub fn wide(v: u16) -> usize
 // How many points: the last end and one, none where there is no contour.
 pub fn count_of(ends: &[u16]) -> usize
     ensures { λ r. ⌜ r ≡ countOf (now (ends .entry)) ⌝ }
+    ensures { λ r. ⌜ r ≤ 65536 ⌝ }
 {
     if ends.len() == 0 {
         return 0;

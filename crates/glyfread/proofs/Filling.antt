@@ -9,7 +9,7 @@ use lib.IntN.{ℤ, pos}
 use lib.ListN.{length, getD, set, drop, length-drop}
 use lib.Seq.{drop-cons}
 use Rattle.glyf.specs.Layout.{Taken, taken, cut, isOn}
-use Rattle.glyfread.specs.Steps.{laid}
+use Rattle.glyf.specs.Layout.{laid}
 use Rattle.glyfread.specs.Walks.{Coords, coords, ahead, fits, xsIn, ysIn, onIn, inFront, Advanced}
 use Rattle.glyfread.specs.declared.walk.Walk.{Walk}
 use Rattle.rows.proofs.Filled.{Filled, start, more}

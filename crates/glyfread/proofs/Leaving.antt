@@ -9,7 +9,8 @@ use lib.Dec.{ltb}
 use lib.IntN.{ℤ}
 use lib.ListN.{length, take, drop}
 use Rattle.glyf.specs.Layout.{refused, refuse, done, described, tooSmall, roomy, readOf}
-use Rattle.glyfread.specs.Steps.{wordsAt, laid}
+use Rattle.glyfread.specs.Steps.{wordsAt}
+use Rattle.glyf.specs.Layout.{laid}
 use Rattle.glyfread.specs.Walks.{startAt, ahead, fits, xsIn, ysIn, onIn, Roomy}
 use Rattle.glyfread.specs.Reads.{pointsAt, glyphAt, Judged, lacking, roomsOf, Leaves}
 use Rattle.glyfread.specs.declared.read.Places.{Places}

@@ -12,7 +12,8 @@ use native.Mathlib.Nat.{le-antisymm}
 use Rattle.rows.proofs.Filled.{Filled, filled}
 use lib.Seq.{drop-cons, getD-take, getD-drop, take-length}
 use Rattle.glyf.specs.Layout.{countOf, rising}
-use Rattle.glyfread.specs.Steps.{wordAt, wordsAt, laid}
+use Rattle.glyfread.specs.Steps.{wordAt, wordsAt}
+use Rattle.glyf.specs.Layout.{laid}
 use Rattle.glyf.proofs.Rises.{rise-end, rise-stops, rise-goes, no-points, some-points}
 
 -- ---- words

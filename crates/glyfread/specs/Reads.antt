@@ -7,7 +7,8 @@ use lib.Dec.{ltb}
 use lib.IntN.{ℤ}
 use lib.ListN.{length, take, drop}
 use Rattle.glyf.specs.Layout.{Glyph, Outcome, done, refused, refuse, Taken, taken, cut, all16, rising, isOn, Rooms, described}
-use Rattle.glyfread.specs.Steps.{wordAt, wordsAt, laid}
+use Rattle.glyfread.specs.Steps.{wordAt, wordsAt}
+use Rattle.glyf.specs.Layout.{laid}
 use Rattle.glyfread.specs.Walks.{Coords, coords, startAt, ahead, fits, xsIn, ysIn, onIn}
 use Rattle.glyfread.specs.declared.read.Places.{Places}
 use Rattle.glyfread.specs.declared.read.Located.{Located}

@@ -25,10 +25,6 @@ unfoldable pub wordsAt : List ℕ → ℕ → ℕ → List ℕ
 wordsAt bs at zero = []
 wordsAt bs at (suc n) = wordAt bs at ∷ wordsAt bs (at + 2) n
 
--- a list at the front of a row
-abbrev pub laid : {A : Type 0} → List A → List A → List A
-laid s row = s ++ drop (length s) row
-
 -- ---- flags
 
 abbrev pub flagIf : Bool → Flag → Flag → Flag

@@ -4,7 +4,8 @@ ghost use mathlib.Core.List.{_++_};
 ghost use Prim.Native.Nat.{_+_, _*_, _<_, _≤_};
 ghost use lib.ListN.{length, take, drop};
 ghost use Rattle.glyf.specs.Layout.{bit, signed, unsigned, in16, countOf, rising};
-ghost use Rattle.glyfread.specs.Steps.{wordAt, wordsAt, laid};
+ghost use Rattle.glyfread.specs.Steps.{wordAt, wordsAt};
+ghost use Rattle.glyf.specs.Layout.{laid};
 ghost use mathlib.Core.Bool.{true};
 
 pub fn word_of(high: u8, low: u8) -> u16

@@ -10,7 +10,8 @@ ghost use lib.IntN.{_+ℤ_, pos, negℤ};
 ghost use lib.ListN.{length, drop};
 ghost use Rattle.glyf.specs.Layout.{flagsOf};
 ghost use Rattle.glyfread.specs.Walks.{startAt, Advances, ahead, fits, Roomy, xsIn, ysIn, onIn};
-ghost use Rattle.glyfread.specs.Steps.{laid, nextFlag, widthOf, shortAt, longAt, deltaAt, movedTo, scanOf, FlagWithin, ScanWithin};
+ghost use Rattle.glyfread.specs.Steps.{nextFlag, widthOf, shortAt, longAt, deltaAt, movedTo, scanOf, FlagWithin, ScanWithin};
+ghost use Rattle.glyf.specs.Layout.{laid};
 
 // The next flag: the place after it, how often it is due after this, and the flag.
 pub enum Flag {

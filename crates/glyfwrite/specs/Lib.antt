@@ -1,1 +1,6 @@
 pub mod Puts
+pub mod Differences
+pub mod Runs
+pub mod Outermost
+pub mod Writes
+pub mod Entry

@@ -1,41 +1,67 @@
-// Words and rows put into a row of bytes, each from a place on; the next place is given.
+// Bytes put into a row from a place on; the place after them is given. What lies past the row's end is
+// not put but counted, so that the same functions measure a description and write it.
 ghost use mathlib.Core.Path.{_≡_};
-ghost use mathlib.Core.List.{map};
-ghost use Prim.Native.Nat.{_+_, _*_, _<_, _≤_};
+ghost use mathlib.Core.List.{[], _∷_, map};
+ghost use Prim.Native.Nat.{_+_, _*_, _/_, _%_, _<_, _≤_};
 ghost use lib.ListN.{length};
 ghost use Rattle.glyf.specs.Layout.{wordBytes, joined};
 ghost use Rattle.glyfwrite.specs.Puts.{Put};
 
-// All of a row's bytes.
-pub fn put_bytes(out: &mut [u8], at: usize, row: &[u8]) -> usize
-    requires { ⌜ at + length (now row) ≤ length (now out) ⌝ }
-    ensures { λ r. ⌜ Put (now (out .entry)) at (now (row .entry)) (now (out .exit)) r ⌝ }
+pub fn put_byte(out: &mut [u8], at: usize, b: u8) -> usize
+    requires { ⌜ at < 4294967296 ⌝ }
+    ensures { λ r. ⌜ Put (now (out .entry)) at (b ∷ []) (now (out .exit)) r ⌝ }
 {
-    let mut i = 0;
-    while i < row.len() {
-        out[at + i] = row[i];
-        i += 1;
+    if out.len() <= at {
+        return at + 1;
     }
-    at + i
+    out[at] = b;
+    at + 1
+}
+
+fn high(v: u16) -> u8
+    ensures { λ r. ⌜ r ≡ v / 256 ⌝ }
+{
+    (v / 256) as u8
+}
+
+fn low(v: u16) -> u8
+    ensures { λ r. ⌜ r ≡ v % 256 ⌝ }
+{
+    (v % 256) as u8
 }
 
 pub fn put_word(out: &mut [u8], at: usize, v: u16) -> usize
-    requires { ⌜ at + 1 < length (now out) ⌝ }
+    requires { ⌜ at < 4294967295 ⌝ }
     ensures { λ r. ⌜ Put (now (out .entry)) at (wordBytes v) (now (out .exit)) r ⌝ }
 {
-    out[at] = (v / 256) as u8;
-    out[at + 1] = (v % 256) as u8;
-    at + 2
+    let next = put_byte(out, at, high(v));
+    put_byte(out, next, low(v))
+}
+
+// All of a row's bytes.
+pub fn put_bytes(out: &mut [u8], from: usize, row: &[u8]) -> usize
+    requires { ⌜ (from < 2147483648) × (length (now row) ≤ 65535) ⌝ }
+    ensures { λ r. ⌜ Put (now (out .entry)) from (now (row .entry)) (now (out .exit)) r ⌝ }
+{
+    let mut at = from;
+    let mut i = 0;
+    while i < row.len() {
+        at = put_byte(out, at, row[i]);
+        i += 1;
+    }
+    at
 }
 
 pub fn put_words(out: &mut [u8], from: usize, row: &[u16]) -> usize
-    requires { ⌜ from + 2 * length (now row) ≤ length (now out) ⌝ }
+    requires { ⌜ (from < 2147483648) × (length (now row) ≤ 65535) ⌝ }
     ensures { λ r. ⌜ Put (now (out .entry)) from (joined (map wordBytes (now (row .entry)))) (now (out .exit)) r ⌝ }
+    ensures { λ r. ⌜ r ≤ from + 2 * length (now (row .entry)) ⌝ }
 {
+    let mut at = from;
     let mut i = 0;
     while i < row.len() {
-        put_word(out, from + 2 * i, row[i]);
+        at = put_word(out, at, row[i]);
         i += 1;
     }
-    from + 2 * i
+    at
 }

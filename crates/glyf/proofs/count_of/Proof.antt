@@ -6,7 +6,7 @@ use Rattle.glyf.proofs.count_of.Statement.{statement}
 use Rattle.glyf.proofs.count_of.Tie as tie
 
 returns : tie.Need-returns
-returns c = no-points _ (c .if1 .taken)
+returns c = (no-points _ (c .if1 .taken), omega arith)
 
 sub-wide : tie.Need-sub-wide
 sub-wide c = search needs
@@ -24,7 +24,7 @@ add-result : tie.Need-add-result
 add-result c = omega (arith, c .wide .ensures .1)
 
 returns-2 : tie.Need-returns-2
-returns-2 c = rw (c .wide .ensures .0) (some-points _ (c .before .before .if1 .left))
+returns-2 c = (rw (c .wide .ensures .0) (some-points _ (c .before .before .if1 .left)), omega (arith, c .wide .ensures .1))
 
 pub count-of-spec : {M : Type 1} → statement M
 count-of-spec =
