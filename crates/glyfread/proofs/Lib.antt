@@ -1,4 +1,4 @@
--- What the proofs of the functions share.
+-- What the proofs of the functions share, and what the export states.
 mod Signs
 mod Words
 mod Walking
@@ -7,3 +7,4 @@ mod Filling
 mod Parts
 mod Judging
 mod Leaving
+mod Stated

@@ -6,9 +6,8 @@ use mathlib.Core.Path.{_≡_}
 use lib.Dec.{ltb}
 use lib.IntN.{ℤ}
 use lib.ListN.{length, take, drop}
-use Rattle.glyf.specs.Layout.{Glyph, Outcome, done, refused, refuse, Taken, taken, cut, all16, rising, isOn, Rooms, described}
+use Rattle.glyf.specs.Layout.{Glyph, Outcome, done, refused, refuse, Taken, taken, cut, all16, rising, isOn, described}
 use Rattle.glyfread.specs.Steps.{wordAt, wordsAt}
-use Rattle.glyf.specs.Layout.{laid}
 use Rattle.glyfread.specs.Walks.{Coords, coords, startAt, ahead, fits, xsIn, ysIn, onIn}
 use Rattle.glyfread.specs.declared.read.Places.{Places}
 use Rattle.glyfread.specs.declared.read.Located.{Located}
@@ -77,12 +76,6 @@ Judges bs (L.Refused k) = described bs ≡ refused k
 abbrev pub lacking : Places → ℕ → ℕ → ℕ → ℕ → ℕ → Bool
 lacking p es is xs ys fs = ltb es (p .contours) || (ltb is (p .size) || (ltb xs (p .points) || (ltb ys (p .points) || ltb fs (p .points))))
 
-abbrev pub roomsOf : List ℕ → List ℕ → List ℤ → List ℤ → List ℕ → Rooms
-roomsOf es is xs ys fs = record { ends = length es; instructions = length is; xs = length xs; ys = length ys; flags = length fs }
-
--- the answer and the rows: each part at the front of its row; where refused no row is changed
-abbrev pub Leaves : Outcome Glyph → Read → List ℕ → List ℕ → List ℤ → List ℤ → List ℕ → List ℕ → List ℕ → List ℤ → List ℤ → List ℕ → Type 0
-Leaves (done g) r es₀ is₀ xs₀ ys₀ fs₀ es is xs ys fs =
-    (r ≡ R.Glyph (length (g .ends)) (length (g .flags)) (length (g .instructions))) × (es ≡ laid (g .ends) es₀) × (is ≡ laid (g .instructions) is₀) ×
-    (xs ≡ laid (g .xs) xs₀) × (ys ≡ laid (g .ys) ys₀) × (fs ≡ laid (g .flags) fs₀)
-Leaves (refused k) r es₀ is₀ xs₀ ys₀ fs₀ es is xs ys fs = (r ≡ R.Refused k) × (es ≡ es₀) × (is ≡ is₀) × (xs ≡ xs₀) × (ys ≡ ys₀) × (fs ≡ fs₀)
+abbrev pub answerOf : Outcome Glyph → Read
+answerOf (done g) = R.Glyph (length (g .ends)) (length (g .flags)) (length (g .instructions))
+answerOf (refused k) = R.Refused k

@@ -12,9 +12,11 @@ use glyf::wide;
 ghost use mathlib.Core.Path.{_≡_};
 ghost use Prim.Native.Nat.{_+_, _*_, _<_, _≤_};
 ghost use lib.ListN.{length};
-ghost use Rattle.glyf.specs.Layout.{countOf, readOf};
+ghost use Rattle.glyf.specs.Layout.{countOf};
 ghost use Rattle.glyfread.specs.Steps.{wordAt, wordsAt};
-ghost use Rattle.glyfread.specs.Reads.{Headed, Finds, Stands, Judges, lacking, roomsOf, Leaves};
+ghost use Rattle.glyfread.specs.Reads.{Headed, Finds, Stands, Judges, lacking};
+ghost use Rattle.glyfread.specs.Entry.{filled, Promise};
+ghost use Rattle.rows.specs.Lent.{before};
 
 // How many contours, points and instruction bytes, or the number of a refusal.
 pub enum Read {
@@ -148,9 +150,7 @@ pub fn read_glyph(
     flags: &mut [u8],
     instructions: &mut [u8],
 ) -> Read
-    ensures { λ r. ⌜ Leaves (readOf (roomsOf (now (ends .entry)) (now (instructions .entry)) (now (xs .entry)) (now (ys .entry)) (now (flags .entry))) (now (bytes .entry)))
-        r (now (ends .entry)) (now (instructions .entry)) (now (xs .entry)) (now (ys .entry)) (now (flags .entry))
-        (now (ends .exit)) (now (instructions .exit)) (now (xs .exit)) (now (ys .exit)) (now (flags .exit)) ⌝ }
+    ensures { λ r. ⌜ Promise (before bytes) (filled ends xs ys flags instructions) r ⌝ }
 {
     match judge(bytes) {
         Located::Refused(k) => Read::Refused(k),

@@ -10,9 +10,9 @@ use lib.Dec.{eqb, ltb}
 use lib.IntN.{ℤ, pos}
 use lib.ListN.{length, take, drop, length-take}
 use lib.Seq.{sets, sets-eq, length-take-le}
-use Rattle.glyf.specs.Layout.{Glyph, Outcome, done, refused, refuse, leftIn, wordBytes, joined, bytesOf, countOf, trimmed, rising, rowsDiffer, tooLarge, fitting, writtenOf, all16, steps}
+use Rattle.glyf.specs.Layout.{Glyph, Outcome, done, refused, refuse, laid, leftBy, glyph, wordBytes, joined, bytesOf, countOf, trimmed, rising, rowsDiffer, tooLarge, fitting, writtenOf, all16, steps}
 use Rattle.glyfwrite.specs.Puts.{Put}
-use Rattle.glyfwrite.specs.Writes.{glyph, headText, codeText, pointsText, Counted, Fine, Writes, answerOf}
+use Rattle.glyfwrite.specs.Writes.{headText, codeText, pointsText, Counted, Fine, Writes, answerOf}
 use Rattle.glyfwrite.specs.declared.write.Wrote.{Wrote}
 use Rattle.glyfwrite.specs.declared.write.Wrote.the-variants as W
 use Rattle.glyfwrite.proofs.Putting.{then}
@@ -154,8 +154,8 @@ module _ {out out′ : List ℕ} {r : Wrote} {o p : Outcome (List ℕ)} (wr : Wr
   pub answers : r ≡ answerOf p
   answers = wr .answer ∙ ap answerOf e
 
-  pub leaves : out′ ≡ leftIn (λ bytes. bytes) p out
-  leaves = wr .left ∙ ap (λ (q : Outcome (List ℕ)). leftIn (λ bytes. bytes) q out) e
+  pub leaves : out′ ≡ leftBy laid p out
+  leaves = wr .left ∙ ap (λ (q : Outcome (List ℕ)). leftBy laid q out) e
 
 pub unwritten : (out : List ℕ) (k : ℕ) → Writes (refused k) out out (W.Refused k)
 unwritten out k = record { answer = refl; left = refl }

@@ -3,8 +3,8 @@ use Prim.Native.Nat.{ℕ}
 use mathlib.Core.Path.{_≡_}
 use lib.IntN.{ℤ}
 use Rattle.rows.specs.Lent.{Lent, before, after, room}
-use Rattle.glyf.specs.Layout.{Glyph, leftIn, writtenOf}
-use Rattle.glyfwrite.specs.Writes.{glyph, answerOf}
+use Rattle.glyf.specs.Layout.{Glyph, glyph, laid, leftBy, writtenOf}
+use Rattle.glyfwrite.specs.Writes.{answerOf}
 use Rattle.glyfwrite.specs.declared.write.Wrote.{Wrote}
 
 -- the rows that are read: ends, x, y, flags, instructions
@@ -14,4 +14,4 @@ given ends xs ys flags instructions = glyph (before ends) (before xs) (before ys
 -- the answer, and what the row of bytes holds: the description at its front, or, where refused, what it held
 pub record Promise (g : Glyph) (out : Lent ℕ) (r : Wrote) : Type 0 where
   pub answer : r ≡ answerOf (writtenOf (room out) g)
-  pub left : after out ≡ leftIn (λ bytes. bytes) (writtenOf (room out) g) (before out)
+  pub left : after out ≡ leftBy laid (writtenOf (room out) g) (before out)

@@ -4,3 +4,5 @@ pub mod Runs
 pub mod Outermost
 pub mod Writes
 pub mod Entry
+pub mod Exports
+pub mod Determine

@@ -4,15 +4,12 @@ use mathlib.Core.List.{List, _++_, map}
 use mathlib.Core.Path.{_≡_}
 use lib.IntN.{ℤ, pos}
 use lib.ListN.{length}
-use Rattle.glyf.specs.Layout.{Glyph, Outcome, done, refused, leftIn, countOf, trimmed, fitting, bytesOf, writtenOf, wordBytes, signedBytes, boxOf, joined}
+use Rattle.glyf.specs.Layout.{Glyph, Outcome, done, refused, leftBy, laid, countOf, trimmed, fitting, bytesOf, writtenOf, wordBytes, signedBytes, boxOf, joined}
 use Rattle.glyf.specs.Layout.{packedFlags, codedFlags, steps, codeOf}
 use Rattle.glyfwrite.specs.declared.write.Judged.{Judged}
 use Rattle.glyfwrite.specs.declared.write.Judged.the-variants as J
 use Rattle.glyfwrite.specs.declared.write.Wrote.{Wrote}
 use Rattle.glyfwrite.specs.declared.write.Wrote.the-variants as W
-
-abbrev pub glyph : List ℕ → List ℤ → List ℤ → List ℕ → List ℕ → Glyph
-glyph es xs ys fs is = record { ends = es; instructions = is; xs = xs; ys = ys; flags = fs }
 
 -- ---- the texts of the parts
 
@@ -60,4 +57,4 @@ answerOf (refused k) = W.Refused k
 -- the bytes at the front of the row; where refused it is not changed
 pub record Writes (o : Outcome (List ℕ)) (out out′ : List ℕ) (r : Wrote) : Type 0 where
   pub answer : r ≡ answerOf o
-  pub left : out′ ≡ leftIn (λ bytes. bytes) o out
+  pub left : out′ ≡ leftBy laid o out

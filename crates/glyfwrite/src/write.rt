@@ -14,10 +14,10 @@ ghost use mathlib.Core.List.{[], map, _++_};
 ghost use Prim.Native.Nat.{_+_, _*_, _<_, _≤_};
 ghost use lib.IntN.{pos};
 ghost use lib.ListN.{length};
-ghost use Rattle.glyf.specs.Layout.{wordBytes, signedBytes, boxOf, joined, packedFlags, codedFlags, steps, codeOf, tooLarge, bytesOf, fitting};
+ghost use Rattle.glyf.specs.Layout.{glyph, wordBytes, signedBytes, boxOf, joined, packedFlags, codedFlags, steps, codeOf, tooLarge, bytesOf, fitting};
 ghost use Rattle.glyfwrite.specs.Puts.{Put};
 ghost use Rattle.glyfwrite.specs.Entry.{given, Promise};
-ghost use Rattle.glyfwrite.specs.Writes.{glyph, headText, codeText, pointsText, Counted, Judges, Writes};
+ghost use Rattle.glyfwrite.specs.Writes.{headText, codeText, pointsText, Counted, Judges, Writes};
 
 // How many bytes, or the number of a refusal.
 pub enum Wrote {
