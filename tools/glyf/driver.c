@@ -35,7 +35,7 @@ enum { MARK = 0xA5 };
 
 /* A block of its own, never null. */
 static void *row(size_t places, size_t size) {
-    void *p = malloc(places * size ? places * size : 1);
+    void *p = malloc(places > 0 ? places * size : 1);
     if (!p)
         exit(3);
     memset(p, MARK, places * size);
