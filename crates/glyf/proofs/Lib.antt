@@ -3,3 +3,4 @@ pub mod Rises
 pub mod Codes
 pub mod Unpacked
 pub mod Back
+pub mod Again
