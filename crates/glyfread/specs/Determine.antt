@@ -3,13 +3,15 @@
 use mathlib.Core.List.{List}
 use mathlib.Core.Path.{_≡_, refl, sym, ap, _∙_}
 use Prim.Native.Nat.{ℕ}
+use native.Mathlib.Omega.{arith}
 use denote.Triple.Both.{Both}
 use Rattle.rows.specs.Lent.{Shown}
-use Rattle.glyf.specs.Layout.{Glyph, Outcome, Rooms, laidIn, leftBy, roomsOf, readOf}
+use Rattle.glyf.specs.Layout.{Glyph, Outcome, done, refused, Rooms, laidIn, leftBy, roomsOf, readOf}
 use Rattle.glyfread.specs.Reads.{answerOf}
 use Rattle.glyfread.specs.Entry.{Promise}
 use Rattle.glyfread.specs.Exports.{report}
 use Rattle.glyfread.specs.declared.read.Read.{Read}
+use Rattle.glyfread.specs.declared.read.Read.the-variants as R
 use Rattle.glyfread.specs.declared.export.GlyphReadReport.{GlyphReadReport}
 
 -- all that is handed back and left is equal
@@ -40,6 +42,15 @@ equal-orders {bytes} {w} {w′} e p p′ = record {
   left = p .left;
   left′ = p′ .left ∙ ap (λ (rooms : Rooms). leftBy laidIn (readOf rooms bytes) (w′ .entry)) (sym e);
 }
+
+-- ---- a refusal changes no row
+
+unless-done : (o : Outcome Glyph) (v : Glyph) (k : ℕ) → R.Refused k ≡ answerOf o → leftBy laidIn o v ≡ v
+unless-done (done g) v k e = absurd (let z : _≡_ {A = ℕ} 0 1 = cc in omega arith)
+unless-done (refused j) v k e = refl
+
+pub refused-leaves : {bytes : List ℕ} {w : Both Glyph Glyph} {k : ℕ} → Promise bytes w (R.Refused k) → w .exit ≡ w .entry
+refused-leaves {bytes} {w} {k} p = p .left ∙ unless-done (readOf (roomsOf (w .entry)) bytes) (w .entry) k (p .answer)
 
 -- ---- the export
 

@@ -3,13 +3,15 @@
 use mathlib.Core.List.{List}
 use mathlib.Core.Path.{_≡_, refl, sym, ap, _∙_}
 use Prim.Native.Nat.{ℕ}
+use native.Mathlib.Omega.{arith}
 use Rattle.rows.specs.Lent.{Lent, before, after, room, Shown}
 use lib.ListN.{length}
-use Rattle.glyf.specs.Layout.{Glyph, Outcome, laid, leftBy, writtenOf}
+use Rattle.glyf.specs.Layout.{Glyph, Outcome, done, refused, laid, leftBy, writtenOf}
 use Rattle.glyfwrite.specs.Writes.{answerOf}
 use Rattle.glyfwrite.specs.Entry.{Promise}
 use Rattle.glyfwrite.specs.Exports.{report}
 use Rattle.glyfwrite.specs.declared.write.Wrote.{Wrote}
+use Rattle.glyfwrite.specs.declared.write.Wrote.the-variants as W
 use Rattle.glyfwrite.specs.declared.export.GlyphWriteReport.{GlyphWriteReport}
 
 -- all that is handed back and left is equal
@@ -38,6 +40,15 @@ equal-orders {g} {out} {out′} e p p′ = record {
   left = p .left;
   left′ = p′ .left ∙ ap (λ (n : ℕ). leftBy laid (writtenOf n g) (before out′)) (sym e);
 }
+
+-- ---- a refusal writes nothing
+
+unless-done : (o : Outcome (List ℕ)) (row : List ℕ) (k : ℕ) → W.Refused k ≡ answerOf o → leftBy laid o row ≡ row
+unless-done (done bytes) row k e = absurd (let z : _≡_ {A = ℕ} 0 1 = cc in omega arith)
+unless-done (refused j) row k e = refl
+
+pub refused-leaves : {g : Glyph} {out : Lent ℕ} {k : ℕ} → Promise g out (W.Refused k) → after out ≡ before out
+refused-leaves {g} {out} {k} p = p .left ∙ unless-done (writtenOf (room out) g) (before out) k (p .answer)
 
 -- ---- the export
 

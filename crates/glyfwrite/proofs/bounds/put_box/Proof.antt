@@ -1,4 +1,5 @@
 -- `glyfwrite::bounds::put_box` meets its contract. Assumes nothing.
+use Rattle.glyfwrite.proofs.Putting.{same-row}
 use native.Mathlib.Omega.{arith}
 use borrow.Author.Needs.{sfits-of}
 use mathlib.Core.Path.{_∙_}
@@ -9,31 +10,31 @@ use Rattle.glyfwrite.proofs.bounds.put_box.Statement.{statement}
 use Rattle.glyfwrite.proofs.bounds.put_box.Tie as tie
 
 outermost-of-requires : tie.Need-outermost-of-requires
-outermost-of-requires c κs = search needs
+outermost-of-requires c κs = tt
 
 put-signed-requires : tie.Need-put-signed-requires
 put-signed-requires c κs = search needs
 
 outermost-of-requires-2 : tie.Need-outermost-of-requires-2
-outermost-of-requires-2 c κs = search needs
+outermost-of-requires-2 c κs = tt
 
 put-signed-requires-2 : tie.Need-put-signed-requires-2
 put-signed-requires-2 c κs = search needs
 
 outermost-of-requires-3 : tie.Need-outermost-of-requires-3
-outermost-of-requires-3 c κs = search needs
+outermost-of-requires-3 c κs = tt
 
 put-signed-requires-3 : tie.Need-put-signed-requires-3
 put-signed-requires-3 c κs = search needs
 
 outermost-of-requires-4 : tie.Need-outermost-of-requires-4
-outermost-of-requires-4 c κs = search needs
+outermost-of-requires-4 c κs = tt
 
 put-signed-requires-4 : tie.Need-put-signed-requires-4
 put-signed-requires-4 c κs = search needs
 
 same-length : tie.Need-same-length
-same-length c = search needs
+same-length c = same-row (c .before .before .put-signed4 .ensures) ∙ same-row (c .before .before .before .before .before .before .before .put-signed3 .ensures) ∙ same-row (c .before .before .before .before .before .before .before .before .before .before .before .before .put-signed2 .ensures) ∙ same-row (c .before .before .before .before .before .before .before .before .before .before .before .before .before .before .before .before .before .put-signed .ensures)
 
 returns : tie.Need-returns
 returns c = let p = c .before .before .before .before .before .before .before .before .before .before .before .before .before .before .before .before .before .put-signed .ensures in

@@ -7,10 +7,10 @@ use Rattle.glyfwrite.proofs.bounds.put_signed.Statement.{statement}
 use Rattle.glyfwrite.proofs.bounds.put_signed.Tie as tie
 
 between-requires : tie.Need-between-requires
-between-requires c κs = search needs
+between-requires c κs = tt
 
 long-requires : tie.Need-long-requires
-long-requires c κs = search needs
+long-requires c κs = tt
 
 put-word-requires : tie.Need-put-word-requires
 put-word-requires c κs = search needs

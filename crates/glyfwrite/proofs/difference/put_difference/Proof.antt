@@ -26,7 +26,7 @@ returns-2 c = let put = c .before .before .put-byte .ensures in
     (rw (is-small (c .before .before .before .before .before .before .before .before .before .before .args .d) (c .before .before .before .before .before .before .before .if1 .left) (c .before .before .before .before .before .if2 .taken), ← c .before .before .before .short .ensures) put, omega (arith, put .next))
 
 long-requires : tie.Need-long-requires
-long-requires c κs = search needs
+long-requires c κs = tt
 
 put-word-requires : tie.Need-put-word-requires
 put-word-requires c κs = search needs

@@ -6,7 +6,7 @@ use Rattle.glyfwrite.proofs.flags.next_run.Statement.{statement}
 use Rattle.glyfwrite.proofs.flags.next_run.Tie as tie
 
 goes-on-requires : tie.Need-goes-on-requires
-goes-on-requires c κs = search needs
+goes-on-requires c κs = tt
 
 add-t6 : tie.Need-add-t6
 add-t6 c = search needs

@@ -5,13 +5,13 @@ use Rattle.glyfwrite.proofs.put.put_word.Statement.{statement}
 use Rattle.glyfwrite.proofs.put.put_word.Tie as tie
 
 high-requires : tie.Need-high-requires
-high-requires c κs = search needs
+high-requires c κs = tt
 
 put-byte-requires : tie.Need-put-byte-requires
 put-byte-requires c κs = search needs
 
 low-requires : tie.Need-low-requires
-low-requires c κs = search needs
+low-requires c κs = tt
 
 put-byte-requires-2 : tie.Need-put-byte-requires-2
 put-byte-requires-2 c κs = search needs

@@ -14,13 +14,13 @@ returns-2 : tie.Need-returns-2
 returns-2 c = unlike-f _ _ _ _ _ (c .if2 .taken)
 
 count-of-requires : tie.Need-count-of-requires
-count-of-requires c κs = search needs
+count-of-requires c κs = tt
 
 returns-3 : tie.Need-returns-3
 returns-3 c = too-few _ _ _ _ _ (c .before .before .before .if1 .left) (c .before .before .if2 .left) (c .before .count-of .ensures .0) (c .if3 .taken)
 
 ends-rise-requires : tie.Need-ends-rise-requires
-ends-rise-requires c κs = search needs
+ends-rise-requires c κs = tt
 
 slice-aggregate-too-large : tie.Need-slice-aggregate-too-large
 slice-aggregate-too-large c = sym (length-take-le (c .before .before .before .before .count-of .result) (c .before .before .before .before .before .before .before .before .before .before .args .xs .now) (omega arith))
@@ -29,7 +29,7 @@ slice-aggregate-too-large-2 : tie.Need-slice-aggregate-too-large-2
 slice-aggregate-too-large-2 c = sym (length-take-le (c .before .before .before .before .before .count-of .result) (c .before .before .before .before .before .before .before .before .before .before .before .args .ys .now) (omega arith))
 
 too-large-requires : tie.Need-too-large-requires
-too-large-requires c κs = search needs
+too-large-requires c κs = tt
 
 returns-4 : tie.Need-returns-4
 returns-4 c = large _ _ _ _ _ (c .before .before .before .before .before .before .before .before .before .if1 .left) (c .before .before .before .before .before .before .before .before .if2 .left) (c .before .before .before .before .before .before .before .count-of .ensures .0)

@@ -1,6 +1,7 @@
 -- `glyfwrite::write::put_code` meets its contract. Assumes nothing.
+use mathlib.Core.Path.{_∙_}
 use native.Mathlib.Omega.{arith}
-use Rattle.glyfwrite.proofs.Putting.{then}
+use Rattle.glyfwrite.proofs.Putting.{then, same-row}
 use borrow.Author.Needs.{needs}
 use Rattle.glyfwrite.proofs.write.put_code.Statement.{statement}
 use Rattle.glyfwrite.proofs.write.put_code.Tie as tie
@@ -15,7 +16,7 @@ put-bytes-requires : tie.Need-put-bytes-requires
 put-bytes-requires c κs = search needs
 
 same-length : tie.Need-same-length
-same-length c = search needs
+same-length c = same-row (c .before .before .put-bytes .ensures) ∙ same-row (c .before .before .before .before .before .before .put-word .ensures)
 
 returns : tie.Need-returns
 returns c = let a = c .before .before .before .before .before .before .put-word .ensures in

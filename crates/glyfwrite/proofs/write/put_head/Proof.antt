@@ -1,6 +1,7 @@
 -- `glyfwrite::write::put_head` meets its contract. Assumes nothing.
+use mathlib.Core.Path.{_∙_}
 use native.Mathlib.Omega.{arith}
-use Rattle.glyfwrite.proofs.Putting.{then}
+use Rattle.glyfwrite.proofs.Putting.{then, same-row}
 use borrow.Author.Needs.{needs}
 use Rattle.glyfwrite.proofs.write.put_head.Statement.{statement}
 use Rattle.glyfwrite.proofs.write.put_head.Tie as tie
@@ -18,7 +19,7 @@ put-words-requires : tie.Need-put-words-requires
 put-words-requires c κs = (omega (arith, c .before .before .before .put-box .ensures .1), omega arith)
 
 same-length : tie.Need-same-length
-same-length c = search needs
+same-length c = same-row (c .before .before .put-words .ensures .0) ∙ same-row (c .before .before .before .before .before .before .put-box .ensures .0) ∙ same-row (c .before .before .before .before .before .before .before .before .before .before .put-word .ensures)
 
 returns : tie.Need-returns
 returns c = let a = c .before .before .before .before .before .before .before .before .before .before .put-word .ensures in

@@ -1,5 +1,7 @@
 -- `glyfwrite::write::put_points` meets its contract. Assumes nothing.
-use Rattle.glyfwrite.proofs.Putting.{then}
+use mathlib.Core.Path.{_∙_}
+use native.Mathlib.Omega.{arith}
+use Rattle.glyfwrite.proofs.Putting.{then, same-row}
 use borrow.Author.Needs.{needs}
 use Rattle.glyfwrite.proofs.write.put_points.Statement.{statement}
 use Rattle.glyfwrite.proofs.write.put_points.Tie as tie
@@ -14,7 +16,7 @@ put-steps-requires-2 : tie.Need-put-steps-requires-2
 put-steps-requires-2 c κs = search needs
 
 same-length : tie.Need-same-length
-same-length c = search needs
+same-length c = same-row (c .before .before .put-steps2 .ensures .0) ∙ same-row (c .before .before .before .before .before .before .put-steps .ensures .0) ∙ same-row (c .before .before .before .before .before .before .before .before .before .before .put-flags .ensures .0)
 
 returns : tie.Need-returns
 returns c = then (c .before .before .before .before .before .before .before .before .before .before .put-flags .ensures .0) (then (c .before .before .before .before .before .before .put-steps .ensures .0) (c .before .before .put-steps2 .ensures .0))

@@ -9,7 +9,7 @@ use Rattle.glyfwrite.proofs.write.write_glyph.Statement.{statement}
 use Rattle.glyfwrite.proofs.write.write_glyph.Tie as tie
 
 judge-requires : tie.Need-judge-requires
-judge-requires c κs = search needs
+judge-requires c κs = tt
 
 enum-known-k : tie.Need-enum-known-k
 enum-known-k c = search needs
