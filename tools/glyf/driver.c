@@ -12,24 +12,7 @@
 #include <stdlib.h>
 #include <string.h>
 
-typedef struct GlyphReadReport {
-    uint32_t number;
-    size_t contours;
-    size_t points;
-    size_t instructions;
-} GlyphReadReport;
-
-typedef struct GlyphWriteReport {
-    uint32_t number;
-    size_t bytes;
-} GlyphWriteReport;
-
-GlyphReadReport fontcrunch_read_glyph(const uint8_t *bytes, size_t bytes_len, uint16_t *ends, size_t ends_len, int16_t *xs, size_t xs_len,
-                                      int16_t *ys, size_t ys_len, uint8_t *flags, size_t flags_len, uint8_t *instructions,
-                                      size_t instructions_len);
-GlyphWriteReport fontcrunch_write_glyph(const uint16_t *ends, size_t ends_len, const int16_t *xs, size_t xs_len, const int16_t *ys, size_t ys_len,
-                                        const uint8_t *flags, size_t flags_len, const uint8_t *instructions, size_t instructions_len, uint8_t *out,
-                                        size_t out_len);
+#include "fontcrunch.h"
 
 enum { MARK = 0xA5 };
 
