@@ -3,4 +3,5 @@ pub mod Rises
 pub mod Codes
 pub mod Unpacked
 pub mod Back
+pub mod Box
 pub mod Again
