@@ -6,15 +6,15 @@ use mathlib.Core.Path.{_≡_, refl, sym, ap, _∙_}
 use native.Mathlib.Omega.{arith}
 use native.Mathlib.Numerals.{add-one}
 use lib.IntN.{ℤ, pos}
-use lib.ListN.{length, getD, set, drop, length-drop}
+use lib.ListN.{length, getD, set, drop, length-drop, length-set}
 use lib.Seq.{drop-cons}
 use Rattle.glyf.specs.Layout.{Taken, taken, cut, isOn}
 use Rattle.glyf.specs.Layout.{laid}
-use Rattle.glyfread.specs.Walks.{Coords, coords, ahead, fits, xsIn, ysIn, onIn, inFront, Advanced}
+use Rattle.glyfread.specs.Walks.{Coords, coords, ahead, fits, xsIn, ysIn, onIn, inFront, Advanced, Roomy, Walked}
 use Rattle.glyfread.specs.declared.walk.Walk.{Walk}
 use Rattle.rows.proofs.Filled.{Filled, start, more}
 use Rattle.glyfread.proofs.Words.{laid-all}
-use Rattle.glyfread.proofs.Advancing.{fit-starts, fit-stops, fit-goes, goes, ends}
+use Rattle.glyfread.proofs.Advancing.{fit-starts, fit-stops, fit-goes, fit-ends, goes, ends}
 
 -- ---- the next of what is left
 
@@ -112,3 +112,56 @@ module _ {bs : List ℕ} {count : ℕ} {whole : Taken Coords} {xs₀ ys₀ : Lis
 
     pub filled-fs : fs ≡ laid (onIn whole) fs₀
     filled-fs = laid-all (f .in-fs) (none-after (onIn whole) i (sym (ap onIn last) ∙ f .left-fs))
+
+-- ---- a walk into rows that may be too short
+
+-- whether the points left fit is whether all do; where they do and have room, i of them are in the rows
+pub record Walking (bs : List ℕ) (count : ℕ) (from : Walk) (xs₀ ys₀ : List ℤ) (fs₀ : List ℕ) (xs ys : List ℤ) (fs : List ℕ) (w : Walk) (i : ℕ) : Type 0 where
+  pub same-xs : length xs ≡ length xs₀
+  pub same-ys : length ys ≡ length ys₀
+  pub same-fs : length fs ≡ length fs₀
+  pub passed : i ≤ count
+  pub fit : fits (ahead count bs from) ≡ fits (ahead (count - i) bs w)
+  pub filling : fits (ahead count bs from) ≡ true → Roomy count (length xs₀) (length ys₀) (length fs₀) →
+      Filling bs count (ahead count bs from) xs₀ ys₀ fs₀ xs ys fs w i
+
+pub walk-starts : (bs : List ℕ) (w : Walk) (count : ℕ) (xs ys : List ℤ) (fs : List ℕ) → Walking bs count w xs ys fs xs ys fs w 0
+walk-starts bs w count xs ys fs = record {
+  same-xs = refl;
+  same-ys = refl;
+  same-fs = refl;
+  passed = omega arith;
+  fit = ap fits (fit-starts bs w count);
+  filling = λ h r. fill-starts bs w count xs ys fs h;
+}
+
+module _ {bs : List ℕ} {count : ℕ} {from : Walk} {xs₀ ys₀ : List ℤ} {fs₀ : List ℕ} {xs ys : List ℤ} {fs : List ℕ} {w : Walk} {i : ℕ}
+    (k : Walking bs count from xs₀ ys₀ fs₀ xs ys fs w i) where
+  pub walk-stops : i < count → ((n : ℕ) → fits (ahead (suc n) bs w) ≡ false) → false ≡ fits (ahead count bs from)
+  walk-stops h out = sym (k .fit ∙ fit-stops bs w count i h out)
+
+  pub walk-goes : (h : i < count) {v : Walk} → Advanced bs w v → {x y : ℤ} {o : ℕ} → x ≡ v .x → y ≡ v .y → o ≡ isOn (v .flag) →
+      {xs′ ys′ : List ℤ} {fs′ : List ℕ} → xs′ ≡ set xs i x → ys′ ≡ set ys i y → fs′ ≡ set fs i o → Walking bs count from xs₀ ys₀ fs₀ xs′ ys′ fs′ v (i + 1)
+  walk-goes h {v} a {x} {y} {o} ex ey eo {xs′} {ys′} {fs′} px py pf = rw (px, py, pf) (record {
+    same-xs = length-set xs i x ∙ k .same-xs;
+    same-ys = length-set ys i y ∙ k .same-ys;
+    same-fs = length-set fs i o ∙ k .same-fs;
+    passed = omega arith;
+    fit = k .fit ∙ fit-goes bs w count i h a;
+    filling = λ f r.
+        fill-goes (k .filling f r) h a (omega (arith, k .same-xs, r .for-xs)) (omega (arith, k .same-ys, r .for-ys)) (omega (arith, k .same-fs, r .for-flags)) ex ey eo;
+  })
+
+  module _ (h : count ≤ i) where
+    pub walk-fits : true ≡ fits (ahead count bs from)
+    walk-fits = sym (k .fit ∙ fit-ends bs w count i h)
+
+    pub walked : Walked (ahead count bs from) count xs₀ ys₀ fs₀ xs ys fs
+    walked = record { in-xs = λ f r. filled-xs (k .filling f r) h; in-ys = λ f r. filled-ys (k .filling f r) h; in-fs = λ f r. filled-fs (k .filling f r) h }
+
+  pub walked-none : false ≡ fits (ahead count bs from) → Walked (ahead count bs from) count xs₀ ys₀ fs₀ xs ys fs
+  walked-none e = record {
+    in-xs = λ f r. absurd (false≢true (e ∙ f));
+    in-ys = λ f r. absurd (false≢true (e ∙ f));
+    in-fs = λ f r. absurd (false≢true (e ∙ f));
+  }

@@ -5,7 +5,7 @@ use mathlib.Core.List.{List, [], _∷_, map}
 use mathlib.Core.Path.{_≡_}
 use lib.IntN.{ℤ, pos}
 use lib.ListN.{length, drop}
-use Rattle.glyf.specs.Layout.{in16, all16, Taken, taken, cut, next, flagsOf, differences, sums, isOn}
+use Rattle.glyf.specs.Layout.{in16, all16, Taken, taken, cut, next, flagsOf, differences, sums, isOn, laid}
 use Rattle.glyfread.specs.declared.walk.Walk.{Walk}
 use Rattle.glyfread.specs.declared.walk.Step.{Step}
 use Rattle.glyfread.specs.declared.walk.Step.the-variants as P
@@ -63,3 +63,9 @@ pub record Roomy (n xs ys fs : ℕ) : Type 0 where
   pub for-xs : n ≤ xs
   pub for-ys : n ≤ ys
   pub for-flags : n ≤ fs
+
+-- points walked into rows: where they fit and have room, each row has its part at its front
+pub record Walked (t : Taken Coords) (n : ℕ) (xs₀ ys₀ : List ℤ) (fs₀ : List ℕ) (xs ys : List ℤ) (fs : List ℕ) : Type 0 where
+  pub in-xs : fits t ≡ true → Roomy n (length xs₀) (length ys₀) (length fs₀) → xs ≡ laid (xsIn t) xs₀
+  pub in-ys : fits t ≡ true → Roomy n (length xs₀) (length ys₀) (length fs₀) → ys ≡ laid (ysIn t) ys₀
+  pub in-fs : fits t ≡ true → Roomy n (length xs₀) (length ys₀) (length fs₀) → fs ≡ laid (onIn t) fs₀

@@ -2,7 +2,7 @@
 ghost use mathlib.Core.Path.{_≡_};
 ghost use mathlib.Core.List.{_++_};
 ghost use Prim.Native.Nat.{_+_, _*_, _<_, _≤_};
-ghost use lib.ListN.{length, take, drop};
+ghost use lib.ListN.{length, set, take, drop};
 ghost use Rattle.glyf.specs.Layout.{bit, signed, unsigned, in16, countOf, rising};
 ghost use Rattle.glyfread.specs.Steps.{wordAt, wordsAt};
 ghost use Rattle.glyf.specs.Layout.{laid};
@@ -72,5 +72,22 @@ pub fn copy_bytes(bytes: &[u8], from: usize, row: &mut [u8], n: usize)
     while i < n {
         row[i] = bytes[from + i];
         i += 1;
+    }
+}
+
+// A place of a row; past its end nothing is stored.
+pub fn store_i16(row: &mut [i16], i: usize, v: i16)
+    ensures { λ _. ⌜ now (row .exit) ≡ set (now (row .entry)) i v ⌝ }
+{
+    if i < row.len() {
+        row[i] = v;
+    }
+}
+
+pub fn store_u8(row: &mut [u8], i: usize, v: u8)
+    ensures { λ _. ⌜ now (row .exit) ≡ set (now (row .entry)) i v ⌝ }
+{
+    if i < row.len() {
+        row[i] = v;
     }
 }

@@ -2,6 +2,8 @@
 // one in the y differences. No row is lent for flags, so the walk says how often the last flag is due.
 use crate::row::bit_of;
 use crate::row::signed_of;
+use crate::row::store_i16;
+use crate::row::store_u8;
 use crate::row::word_at;
 ghost use mathlib.Core.Path.{_≡_};
 ghost use mathlib.Core.Bool.{true};
@@ -9,7 +11,7 @@ ghost use Prim.Native.Nat.{_≤_};
 ghost use lib.IntN.{_+ℤ_, pos, negℤ};
 ghost use lib.ListN.{length, drop};
 ghost use Rattle.glyf.specs.Layout.{flagsOf};
-ghost use Rattle.glyfread.specs.Walks.{startAt, Advances, ahead, fits, Roomy, xsIn, ysIn, onIn};
+ghost use Rattle.glyfread.specs.Walks.{startAt, Advances, ahead, fits, Roomy, Walked, xsIn, ysIn, onIn};
 ghost use Rattle.glyfread.specs.Steps.{nextFlag, widthOf, shortAt, longAt, deltaAt, movedTo, scanOf, FlagWithin, ScanWithin};
 ghost use Rattle.glyf.specs.Layout.{laid};
 
@@ -219,9 +221,18 @@ fn advance(bytes: &[u8], w: Walk) -> Step
     })
 }
 
-// Whether every coordinate is in 16 bits.
-pub fn points_fit(bytes: &[u8], from: Walk, count: usize) -> bool
+// The points into their rows, as far as these go, and whether every coordinate is in 16 bits.
+fn walk_points(
+    bytes: &[u8],
+    from: Walk,
+    count: usize,
+    xs: &mut [i16],
+    ys: &mut [i16],
+    flags: &mut [u8],
+) -> bool
     ensures { λ r. ⌜ r ≡ fits (ahead count (now (bytes .entry)) from) ⌝ }
+    ensures { λ _. ⌜ Walked (ahead count (now (bytes .entry)) from) count
+        (now (xs .entry)) (now (ys .entry)) (now (flags .entry)) (now (xs .exit)) (now (ys .exit)) (now (flags .exit)) ⌝ }
 {
     let mut w = from;
     let mut i = 0;
@@ -229,10 +240,30 @@ pub fn points_fit(bytes: &[u8], from: Walk, count: usize) -> bool
         let Step::To(v) = advance(bytes, w) else {
             return false;
         };
+        store_i16(xs, i, v.x);
+        store_i16(ys, i, v.y);
+        store_u8(flags, i, v.flag % 2);
         w = v;
         i += 1;
     }
     true
+}
+
+// Whether every coordinate is in 16 bits: a walk into rows of no places, so that `advance` has one caller.
+pub fn points_fit(bytes: &[u8], from: Walk, count: usize) -> bool
+    ensures { λ r. ⌜ r ≡ fits (ahead count (now (bytes .entry)) from) ⌝ }
+{
+    let mut xs: [i16; 1] = [0; 1];
+    let mut ys: [i16; 1] = [0; 1];
+    let mut flags: [u8; 1] = [0; 1];
+    walk_points(
+        bytes,
+        from,
+        count,
+        &mut xs[..0],
+        &mut ys[..0],
+        &mut flags[..0],
+    )
 }
 
 // The points into their rows.
@@ -250,18 +281,5 @@ pub fn fill_points(
     ensures { λ _. ⌜ now (ys .exit) ≡ laid (ysIn (ahead count (now (bytes .entry)) from)) (now (ys .entry)) ⌝ }
     ensures { λ _. ⌜ now (flags .exit) ≡ laid (onIn (ahead count (now (bytes .entry)) from)) (now (flags .entry)) ⌝ }
 {
-    let mut w = from;
-    let mut i = 0;
-    while i < count {
-        let Step::To(v) = advance(bytes, w) else {
-            return;
-        };
-        let x = v.x;
-        let y = v.y;
-        xs[i] = x;
-        ys[i] = y;
-        flags[i] = v.flag % 2;
-        w = v;
-        i += 1;
-    }
+    walk_points(bytes, from, count, xs, ys, flags);
 }
