@@ -7,7 +7,8 @@ use lib.Dec.{ltb}
 use lib.IntN.{ℤ, pos}
 use lib.Signed.{leZ}
 use lib.ListN.{length, getD, drop}
-use Rattle.glyf.specs.Layout.{Glyph, glyph, Outcome, done, isOn, all16, signed, Taken, taken, next, word, several, least, greatest, boxOf, trimmed, fitting, bytesOf, described, writtenOf}
+use Rattle.glyf.specs.Layout.{Glyph, glyph, Outcome, done, isOn, all16, signed, Taken, taken, next, word, several, least, greatest, boxOf}
+use Rattle.glyf.specs.Layout.{trimmed, fitting, bytesOf, described, writtenOf}
 
 -- the coordinates are of 16 bits, as rows of i16 hold them
 pub record Held (g : Glyph) : Type 0 where
@@ -34,7 +35,8 @@ WrittenReadBack = (room : ℕ) (g : Glyph) (bytes : List ℕ) → Held g → wri
 -- its box is that of the points
 abbrev pub BoxWritten : Type 0
 BoxWritten =
-    (room : ℕ) (g : Glyph) (bytes : List ℕ) → Held g → writtenOf room g ≡ done bytes → boxIn bytes ≡ taken (boxOf (trimmed g .xs) (trimmed g .ys)) (drop 10 bytes)
+    (room : ℕ) (g : Glyph) (bytes : List ℕ) → Held g → writtenOf room g ≡ done bytes →
+    boxIn bytes ≡ taken (boxOf (trimmed g .xs) (trimmed g .ys)) (drop 10 bytes)
 
 -- a number stands in a row
 pub record Stands (xs : List ℤ) (v : ℤ) : Type 0 where

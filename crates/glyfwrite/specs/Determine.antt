@@ -20,7 +20,8 @@ pub record Same {A : Type 0} (r r′ : A) (out out′ : List ℕ) : Type 0 where
   pub left : out ≡ out′
 
 -- two outcomes of one order are one
-pub determined : {g : Glyph} {out out′ : Lent ℕ} {r r′ : Wrote} → before out ≡ before out′ → Promise g out r → Promise g out′ r′ → Same r r′ (after out) (after out′)
+pub determined : {g : Glyph} {out out′ : Lent ℕ} {r r′ : Wrote} → before out ≡ before out′ →
+    Promise g out r → Promise g out′ r′ → Same r r′ (after out) (after out′)
 determined {g} e p p′ = record {
   answer = p .answer ∙ ap (λ (row : List ℕ). answerOf (writtenOf (length row) g)) e ∙ sym (p′ .answer);
   left = p .left ∙ ap (λ (row : List ℕ). leftBy laid (writtenOf (length row) g) row) e ∙ sym (p′ .left);
