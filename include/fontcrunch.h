@@ -112,7 +112,16 @@ enum {
        ends, cxs and cys has places */
     FONTCRUNCH_OUTPUT_TOO_SHORT = 9,
     /* fontcrunch_chain and fontcrunch_check: there is no such run, or it is one copied line */
-    FONTCRUNCH_NO_SUCH_RUN = 10
+    FONTCRUNCH_NO_SUCH_RUN = 10,
+    /* a glyph description ends too soon, or its point rows are shorter than the last end says */
+    FONTCRUNCH_CUT_SHORT = 12,
+    /* the ends of a glyph's contours do not rise; equal ones do not */
+    FONTCRUNCH_ENDS_NOT_RISING = 13,
+    /* a coordinate that is read is outside 16 bits; or a difference or a count that is to be written is too
+       large for its field */
+    FONTCRUNCH_TOO_LARGE = 14,
+    /* the glyph is composite */
+    FONTCRUNCH_COMPOSITE = 15
 };
 
 typedef struct CrunchReport {
@@ -203,6 +212,56 @@ static inline double fontcrunch_score(ChainReport report)
     memcpy(&score, &report.score_bits, sizeof score);
     return score;
 }
+
+/*
+ * GLYPH DESCRIPTIONS
+ *
+ * A simple glyph description is what OpenType's glyf table holds of a glyph that is not composite: the number of
+ * contours, a box, the number of each contour's last point (its end), the instructions, and the points as flags
+ * and differences. Here a glyph is five rows: `ends`, the points of all contours in `xs`, `ys` and `flags`, and
+ * `instructions`. There are as many points as the last end says and one, and none where there is no contour.
+ *
+ * What is written reads back the same, and what is read can be written again: both are proved. The bytes may
+ * differ from those that were read, since each difference gets its shortest coding, a flag that stands three
+ * times or more a repeat, and the box is that of the points. Bits 6 and 7 of the flags are lost.
+ */
+
+typedef struct GlyphReadReport {
+    uint32_t number;     /* of the refusal, or 0 */
+    size_t contours;     /* ends read; 0 where refused */
+    size_t points;       /* points read; 0 where refused */
+    size_t instructions; /* instruction bytes read; 0 where refused */
+} GlyphReadReport;
+
+typedef struct GlyphWriteReport {
+    uint32_t number; /* of the refusal, or 0 */
+    size_t bytes;    /* bytes written; 0 where refused */
+} GlyphWriteReport;
+
+/*
+ * Reads a description into the first places of the rows, flags 1 or 0; no other place is touched. The box and
+ * bytes after the last coordinate are not looked at, and a repeat that runs past the last point is used as far
+ * as there are points.
+ *
+ * Refusals, each tested over the whole description before the next: 15 (as soon as two bytes stand), 12, 13, 14,
+ * and last 9, a row too short for what is read. A refusal changes no row.
+ */
+GlyphReadReport fontcrunch_read_glyph(const uint8_t *bytes, size_t bytes_len, uint16_t *ends, size_t ends_len,
+                                      int16_t *xs, size_t xs_len, int16_t *ys, size_t ys_len, uint8_t *flags,
+                                      size_t flags_len, uint8_t *instructions, size_t instructions_len);
+
+/*
+ * Writes the description to the first places of `out`; no other place is touched. Points after the last end are
+ * not written. 12 + 2 * ends_len + instructions_len + 5 * points places always suffice.
+ *
+ * Refusals, in this order: 1 (xs, ys and flags differ in length), 12, 13, 14 (a difference outside 16 bits, more
+ * than 32,767 contours, more than 65,535 instruction bytes), and last 9, `out` too short. A refusal writes
+ * nothing.
+ */
+GlyphWriteReport fontcrunch_write_glyph(const uint16_t *ends, size_t ends_len, const int16_t *xs, size_t xs_len,
+                                        const int16_t *ys, size_t ys_len, const uint8_t *flags, size_t flags_len,
+                                        const uint8_t *instructions, size_t instructions_len, uint8_t *out,
+                                        size_t out_len);
 
 #ifdef __cplusplus
 }

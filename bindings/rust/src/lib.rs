@@ -38,6 +38,7 @@
 
 mod cruncher;
 mod entries;
+pub mod glyph;
 mod refusal;
 mod rows;
 

@@ -31,6 +31,15 @@ pub enum Refusal {
     OutputTooShort,
     /// 10: there is no such run, or it is one copied line.
     NoSuchRun,
+    /// 12: a glyph description ends too soon, or there are fewer points than the last end says.
+    CutShort,
+    /// 13: the ends of a glyph's contours do not rise.
+    EndsNotRising,
+    /// 14: a coordinate that is read, or a difference or a count that is to be written, is too large for its
+    /// field.
+    TooLarge,
+    /// 15: the glyph is composite.
+    Composite,
     /// A number that this crate has no name for: the library is newer than the crate.
     Other(u32),
 }
@@ -49,6 +58,10 @@ impl Refusal {
             Refusal::PastLastSample => 8,
             Refusal::OutputTooShort => 9,
             Refusal::NoSuchRun => 10,
+            Refusal::CutShort => 12,
+            Refusal::EndsNotRising => 13,
+            Refusal::TooLarge => 14,
+            Refusal::Composite => 15,
             Refusal::Other(number) => number,
         }
     }
@@ -67,6 +80,10 @@ impl Refusal {
             8 => Refusal::PastLastSample,
             9 => Refusal::OutputTooShort,
             10 => Refusal::NoSuchRun,
+            12 => Refusal::CutShort,
+            13 => Refusal::EndsNotRising,
+            14 => Refusal::TooLarge,
+            15 => Refusal::Composite,
             other => Refusal::Other(other),
         })
     }
@@ -91,6 +108,12 @@ impl Refusal {
             }
             Refusal::OutputTooShort => "the result has more points than there is room for",
             Refusal::NoSuchRun => "there is no such run, or it is one line, which is copied",
+            Refusal::CutShort => {
+                "the glyph description ends too soon, or there are fewer points than the last end says"
+            }
+            Refusal::EndsNotRising => "the ends of the glyph's contours do not rise",
+            Refusal::TooLarge => "a coordinate, a difference or a count is too large for its field",
+            Refusal::Composite => "the glyph is composite",
             Refusal::Other(_) => "the library gives a reason that this version has no words for",
         }
     }
@@ -110,7 +133,7 @@ mod tests {
 
     #[test]
     fn numbers_and_names_belong_together() {
-        for number in 1..=12 {
+        for number in 1..=16 {
             let refusal = Refusal::from_number(number).unwrap();
             assert_eq!(refusal.number(), number);
         }
@@ -122,9 +145,11 @@ mod tests {
 
     #[test]
     fn each_says_its_number_and_a_reason_of_its_own() {
-        let said: Vec<String> = (1..=11).map(|n| Refusal::from_number(n).unwrap().to_string()).collect();
-        for (i, text) in said.iter().enumerate() {
-            assert!(text.starts_with(&format!("refused {}: ", i + 1)), "{text}");
+        let numbers = (1..=10).chain(12..=16);
+        let said: Vec<String> =
+            numbers.clone().map(|n| Refusal::from_number(n).unwrap().to_string()).collect();
+        for (number, text) in numbers.zip(&said) {
+            assert!(text.starts_with(&format!("refused {number}: ")), "{text}");
             let reason = |t: &str| t.split_once(": ").unwrap().1.to_owned();
             assert!(said.iter().filter(|t| reason(t) == reason(text)).count() == 1, "{text}");
         }

@@ -80,6 +80,7 @@ const USAGE: &str = "\
 Crunches TrueType contours: puts fewer quadratic pieces between their corners.
 
 usage: fontcrunch [--svg PICTURE] [FILE...]
+       fontcrunch glyph read|write    glyph descriptions; see fontcrunch glyph --help
 
 FILE           contours, one a line; standard input where there is none, or for -
 --svg PICTURE  draws each contour before and after, to a file

@@ -2,6 +2,7 @@
 
 mod arguments;
 mod contour_line;
+mod glyph;
 mod picture;
 mod service;
 mod stream;
@@ -14,7 +15,11 @@ use arguments::Request;
 use service::Status;
 
 fn main() -> ExitCode {
-    let status = match arguments::read(env::args_os().skip(1)) {
+    let words: Vec<_> = env::args_os().skip(1).collect();
+    if words.first().is_some_and(|word| word == "glyph") {
+        return ExitCode::from(glyph::run(&words[1..]) as u8);
+    }
+    let status = match arguments::read(words) {
         Ok(Request::Help) => print(&arguments::help()),
         Ok(Request::Version) => print(&arguments::version()),
         Ok(Request::Crunch(job)) => service::run(&job),

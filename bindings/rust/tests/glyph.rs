@@ -1,0 +1,68 @@
+//! Glyph descriptions through the crate: round trips and refusals.
+
+use fontcrunch::glyph::{self, Glyph};
+use fontcrunch::{Point, Refusal};
+
+fn square() -> Glyph {
+    Glyph {
+        ends: vec![3],
+        points: vec![Point::on(0, 0), Point::on(0, 300), Point::off(-40, 300), Point::on(-32768, -1)],
+        instructions: vec![0xb0, 0x03],
+    }
+}
+
+#[test]
+fn written_and_read_back() {
+    for glyph in [square(), Glyph::default(), Glyph { points: vec![], ends: vec![], instructions: vec![7] }] {
+        assert_eq!(glyph::read(&glyph.to_bytes().unwrap()), Ok(glyph));
+    }
+}
+
+#[test]
+fn the_bytes_of_one_point() {
+    let glyph = Glyph { ends: vec![0], points: vec![Point::on(5, -5)], instructions: vec![] };
+    let bytes = glyph.to_bytes().unwrap();
+    // a contour; the box; its end; no instructions; on the curve, both short, x upward; 5; 5
+    assert_eq!(bytes, [0, 1, 0, 5, 255, 251, 0, 5, 255, 251, 0, 0, 0, 0, 0x17, 5, 5]);
+}
+
+#[test]
+fn points_after_the_last_end_are_not_written() {
+    let mut longer = square();
+    longer.points.push(Point::on(9, 9));
+    assert_eq!(glyph::read(&longer.to_bytes().unwrap()), Ok(square()));
+    assert_eq!(longer.contours().map(<[Point]>::len).collect::<Vec<_>>(), [4]);
+}
+
+#[test]
+fn refusals_of_reading() {
+    let bytes = square().to_bytes().unwrap();
+    for n in 0..bytes.len() {
+        assert_eq!(glyph::read(&bytes[..n]), Err(Refusal::CutShort), "{n}");
+    }
+    assert_eq!(glyph::read(&[0xff, 0xff]), Err(Refusal::Composite));
+    assert_eq!(glyph::read(&[0xff]), Err(Refusal::CutShort));
+    let mut twice = square();
+    twice.ends = vec![1, 3];
+    let mut falling = twice.to_bytes().unwrap();
+    falling[11] = 3;
+    assert_eq!(glyph::read(&falling), Err(Refusal::EndsNotRising));
+    // cut short and falling: cut short comes first
+    falling.pop();
+    assert_eq!(glyph::read(&falling), Err(Refusal::CutShort));
+}
+
+#[test]
+fn refusals_of_writing() {
+    let with = |ends: Vec<u16>| Glyph { ends, ..square() }.to_bytes();
+    assert_eq!(with(vec![4]), Err(Refusal::CutShort));
+    assert_eq!(with(vec![2, 2]), Err(Refusal::EndsNotRising));
+    let far = Glyph {
+        ends: vec![1],
+        points: vec![Point::on(-32768, 0), Point::on(32767, 0)],
+        instructions: vec![],
+    };
+    assert_eq!(far.to_bytes(), Err(Refusal::TooLarge));
+    let long = Glyph { instructions: vec![0; 65_536], ..square() };
+    assert_eq!(long.to_bytes(), Err(Refusal::TooLarge));
+}
