@@ -1,14 +1,15 @@
 /*
  * fontcrunch.h: crunch TrueType contours from C and C++.
  *
- * A contour comes in, and goes out with fewer quadratic pieces between its corners. The three functions
- * below are proved to do what their definitions in crates/fontcrunch say, on every input that the rules
- * on this page allow. They are in libfontcrunch.a, for x86-64 Linux:
+ * A contour comes in, and goes out with fewer quadratic pieces between its corners. The functions below are
+ * proved to do what their definitions in crates/fontcrunch, crates/clean, crates/glyfread and
+ * crates/glyfwrite say, on every input that the rules on this page allow. They are in libfontcrunch.a, for
+ * x86-64 Linux:
  *
- *     rt staticlib fontcrunch                      writes target/staticlib/libfontcrunch.a
- *     cc -Iinclude program.c -Ltarget/staticlib -lfontcrunch
+ *     tools/library                                writes build/libfontcrunch.a
+ *     cc -Iinclude program.c -Lbuild -lfontcrunch
  *
- * examples/c has a program that calls all three.
+ * examples/c has a program that calls the first three.
  *
  *
  * ROWS
@@ -121,7 +122,19 @@ enum {
        large for its field */
     FONTCRUNCH_TOO_LARGE = 14,
     /* the glyph is composite */
-    FONTCRUNCH_COMPOSITE = 15
+    FONTCRUNCH_COMPOSITE = 15,
+    /* fontcrunch_clean: there are more drops than list has places */
+    FONTCRUNCH_LIST_TOO_SHORT = 18
+};
+
+/* Why a point was dropped: the second number of a place of a list. */
+enum {
+    /* an on-curve point equal to the on-curve point before it */
+    FONTCRUNCH_FOR_BEFORE = 1,
+    /* an off-curve point equal to both neighbours, going round */
+    FONTCRUNCH_FOR_BOTH = 2,
+    /* a last on-curve point equal to the first point */
+    FONTCRUNCH_FOR_FIRST = 3
 };
 
 typedef struct CrunchReport {
@@ -141,6 +154,17 @@ typedef struct CheckReport {
     uint32_t number;   /* of the refusal, or 0 */
     uint32_t accepted; /* 1: the chain is accepted; 0: it is not, or nothing was checked */
 } CheckReport;
+
+typedef struct CleanReport {
+    uint32_t number; /* of the refusal, or 0 */
+    size_t kept;     /* points written; 0 where refused */
+    size_t dropped;  /* places of list written; 0 where refused */
+} CleanReport;
+
+typedef struct PutReport {
+    uint32_t number; /* of the refusal, or 0 */
+    size_t points;   /* points written; 0 where refused */
+} PutReport;
 
 /*
  * Crunches a contour. Its points are written to the first places of ox, oy and of, and no other place of
@@ -204,6 +228,45 @@ CheckReport fontcrunch_check(
     double (*breaks)[5], size_t breaks_len,
     double (*answers)[3], size_t answers_len,
     uint32_t *links, size_t links_len);
+
+/*
+ * Cleans a contour: points that repeat their neighbours are dropped, lowest place first, until none remains.
+ * Before and neighbours are those of the row as it is then; place 0 always stays. Equal means x and y. The
+ * points kept are written to the first places of ox, oy and of, in order, their flags as 1 or 0. Each drop is
+ * written to list, in the order of dropping: the point's place in the contour as it came, and why. No other
+ * place is touched, and a refusal writes nothing.
+ *
+ * Refused by 1 to 5; then by 18, list too short for the drops; last by 9, an output row too short for the
+ * points kept. Rows as long as the contour always suffice. No scratch is needed.
+ *
+ * What is left is refused by none of 1 to 5, and cleaning it again drops nothing.
+ */
+CleanReport fontcrunch_clean(
+    const int16_t *xs, size_t xs_len,
+    const int16_t *ys, size_t ys_len,
+    const uint8_t *flags, size_t flags_len,
+    int16_t *ox, size_t ox_len,
+    int16_t *oy, size_t oy_len,
+    uint8_t *of, size_t of_len,
+    uint32_t (*list)[2], size_t list_len);
+
+/*
+ * Puts back what fontcrunch_clean dropped: of the points kept and its list, the contour as it came, with flags
+ * 1 or 0. The last drop is put back first: for before and both a copy of the point before it, at its number
+ * less the drops before it in the list; for first a copy of the first point, at the end. Any list is put back
+ * by this rule, also one that no cleaning gave.
+ *
+ * Refused by 1, rows of the points kept that differ in length; 2, none; 3, more than FONTCRUNCH_POINTS_IN with
+ * those of the list; last by 9, an output row too short. A refusal writes nothing.
+ */
+PutReport fontcrunch_put_back(
+    const int16_t *xs, size_t xs_len,
+    const int16_t *ys, size_t ys_len,
+    const uint8_t *flags, size_t flags_len,
+    const uint32_t (*list)[2], size_t list_len,
+    int16_t *ox, size_t ox_len,
+    int16_t *oy, size_t oy_len,
+    uint8_t *of, size_t of_len);
 
 /* The score of a chain. All NaNs have one bit pattern in a report. */
 static inline double fontcrunch_score(ChainReport report)

@@ -1,4 +1,4 @@
-//! Links libfontcrunch.a, which `rt staticlib fontcrunch` writes at the repository's top.
+//! Links libfontcrunch.a, which `tools/library` writes to the repository's folder build.
 
 use std::env;
 use std::path::{Path, PathBuf};
@@ -20,7 +20,7 @@ fn main() {
 fn library_folder() -> PathBuf {
     match env::var_os(FOLDER_VARIABLE) {
         Some(folder) => PathBuf::from(folder),
-        None => Path::new(&variable("CARGO_MANIFEST_DIR")).join("../../target/staticlib"),
+        None => Path::new(&variable("CARGO_MANIFEST_DIR")).join("../../build"),
     }
 }
 
@@ -32,7 +32,7 @@ fn stop_unless_linkable(folder: &Path) {
     if !folder.join(LIBRARY).is_file() {
         stop(&format!(
             "there is no {LIBRARY} in {}\n\
-             `rt staticlib fontcrunch`, run at the repository's top, writes it to target/staticlib.\n\
+             `tools/library`, run at the repository's top, writes it to build.\n\
              If it is elsewhere, set {FOLDER_VARIABLE} to its folder, as an absolute path.",
             folder.display()
         ));

@@ -5,7 +5,7 @@ use std::fmt;
 use crate::entries;
 use crate::refusal::Refusal;
 use crate::rows::{ChainRows, Contour, Output, Scratch};
-use crate::rows::{MOST_PIECES, MOST_POINTS_IN, USUAL_POINT_ROOM};
+use crate::rows::{MOST_PIECES, USUAL_POINT_ROOM};
 
 /// A point of a contour.
 #[derive(Clone, Copy, Debug, Default, PartialEq, Eq, Hash)]
@@ -124,15 +124,8 @@ impl Cruncher {
         Ok(report.accepted != 0)
     }
 
-    /// One point more than may be is enough to have a contour refused by 3, which looks at no point.
     fn take_contour(&mut self, points: &[Point]) {
-        let rows = &mut self.contour;
-        rows.clear();
-        for point in points.iter().take(MOST_POINTS_IN + 1) {
-            rows.xs.push(point.x);
-            rows.ys.push(point.y);
-            rows.flags.push(u8::from(point.on_curve));
-        }
+        self.contour.take(points);
     }
 
     fn take_chain(&mut self, pieces: &[Piece]) {
@@ -172,7 +165,7 @@ impl fmt::Debug for Cruncher {
     }
 }
 
-fn unless_refused(number: u32) -> Result<(), Refusal> {
+pub(crate) fn unless_refused(number: u32) -> Result<(), Refusal> {
     match Refusal::from_number(number) {
         None => Ok(()),
         Some(refusal) => Err(refusal),

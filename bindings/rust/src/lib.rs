@@ -28,20 +28,27 @@
 //! [`Chain`] of a run leads over pieces from its first break to its last. Anyone can have a chain checked
 //! with [`Cruncher::check`], which measures it anew and seeks nothing.
 //!
+//! # Cleaning
+//!
+//! Old uploads hold repeated points, which make needless corners. [`clean`] drops them and lists each with why;
+//! [`put_back`] gives the upload's points again.
+//!
 //! # Linking
 //!
-//! `rt staticlib fontcrunch`, run at the repository's top, writes the library where this crate looks for
+//! `tools/library`, run at the repository's top, writes the library where this crate looks for
 //! it. The environment variable `FONTCRUNCH_LIB_DIR` names another folder.
 
 #![deny(missing_docs)]
 #![deny(unsafe_op_in_unsafe_fn)]
 
+mod cleaning;
 mod cruncher;
 mod entries;
 pub mod glyph;
 mod refusal;
 mod rows;
 
+pub use cleaning::{clean, put_back, Cleaned, Dropped, Why};
 pub use cruncher::{Chain, Crunched, Cruncher, Piece, Point};
 pub use refusal::Refusal;
 pub use rows::{ANSWER_ROOM, BREAK_ROOM, MOST_PIECES, MOST_POINTS_IN, SAMPLE_ROOM, USUAL_POINT_ROOM};

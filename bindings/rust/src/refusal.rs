@@ -40,6 +40,8 @@ pub enum Refusal {
     TooLarge,
     /// 15: the glyph is composite.
     Composite,
+    /// 18: there are more drops than the list has places. This crate's functions always lend enough.
+    ListTooShort,
     /// A number that this crate has no name for: the library is newer than the crate.
     Other(u32),
 }
@@ -62,6 +64,7 @@ impl Refusal {
             Refusal::EndsNotRising => 13,
             Refusal::TooLarge => 14,
             Refusal::Composite => 15,
+            Refusal::ListTooShort => 18,
             Refusal::Other(number) => number,
         }
     }
@@ -84,6 +87,7 @@ impl Refusal {
             13 => Refusal::EndsNotRising,
             14 => Refusal::TooLarge,
             15 => Refusal::Composite,
+            18 => Refusal::ListTooShort,
             other => Refusal::Other(other),
         })
     }
@@ -114,6 +118,7 @@ impl Refusal {
             Refusal::EndsNotRising => "the ends of the glyph's contours do not rise",
             Refusal::TooLarge => "a coordinate, a difference or a count is too large for its field",
             Refusal::Composite => "the glyph is composite",
+            Refusal::ListTooShort => "there are more dropped points than the list has places",
             Refusal::Other(_) => "the library gives a reason that this version has no words for",
         }
     }
@@ -133,7 +138,7 @@ mod tests {
 
     #[test]
     fn numbers_and_names_belong_together() {
-        for number in 1..=16 {
+        for number in 1..=20 {
             let refusal = Refusal::from_number(number).unwrap();
             assert_eq!(refusal.number(), number);
         }

@@ -1,6 +1,8 @@
 //! The rows that are lent to the library. Rows of one kind stand together and have one length, so that a
 //! row too many or too short is no case for callers.
 
+use crate::cruncher::Point;
+
 /// A contour of more points is refused by 3.
 pub const MOST_POINTS_IN: usize = 1024;
 
@@ -28,6 +30,22 @@ pub(crate) struct Contour {
 }
 
 impl Contour {
+    /// One point more than may be is enough to have a contour refused by 3, which looks at no point.
+    pub fn of(points: &[Point]) -> Contour {
+        let mut rows = Contour::default();
+        rows.take(points);
+        rows
+    }
+
+    pub fn take(&mut self, points: &[Point]) {
+        self.clear();
+        for point in points.iter().take(MOST_POINTS_IN + 1) {
+            self.xs.push(point.x);
+            self.ys.push(point.y);
+            self.flags.push(u8::from(point.on_curve));
+        }
+    }
+
     pub fn clear(&mut self) {
         self.xs.clear();
         self.ys.clear();
@@ -70,6 +88,24 @@ impl Output {
             flags: vec![0; room].into(),
             points: vec![[0; 3]; room].into(),
         }
+    }
+}
+
+/// The points that come out of cleaning.
+pub(crate) struct PointRows {
+    pub xs: Box<[i16]>,
+    pub ys: Box<[i16]>,
+    pub flags: Box<[u8]>,
+}
+
+impl PointRows {
+    pub fn of_room(room: usize) -> PointRows {
+        PointRows { xs: vec![0; room].into(), ys: vec![0; room].into(), flags: vec![0; room].into() }
+    }
+
+    /// The first of them.
+    pub fn points(&self, count: usize) -> Vec<Point> {
+        (0..count).map(|i| Point { x: self.xs[i], y: self.ys[i], on_curve: self.flags[i] & 1 == 1 }).collect()
     }
 }
 

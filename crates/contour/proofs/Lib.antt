@@ -1,9 +1,9 @@
--- What the proofs share. From `Values` on: theorems on the definitions, for a reader, which no proof of a function uses.
+-- What the proofs share; those that are `pub`, with other crates too. From `Values` on: theorems on the definitions, for a reader, which no proof of a function uses.
 mod Pushing
 mod Reversal
-mod Sixteen
+pub mod Sixteen
 mod Dropping
-mod Copying
+pub mod Copying
 mod Values
 mod Modulo
 mod Came

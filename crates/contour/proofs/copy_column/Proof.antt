@@ -1,7 +1,7 @@
 -- `contour::copy_column` meets its contract, by the law of proofs/Copying.antt. Assumes nothing.
 use Prim.Native.Nat.{_-_}
 use native.Mathlib.Omega.{arith}
-use mathlib.Core.List.{List}
+use mathlib.Core.List.{List, []}
 use lib.IntN.{ℤ}
 use lib.ListN.{take}
 use mir.Facts.{toZ-ofZ}
@@ -50,7 +50,7 @@ loop-again : tie.Need-loop-again Inv-loop μ-loop
 loop-again c =
     let turning = c .before in
     let start = turning .before .before in
-    copy-more (λ (p : List ℤ). number p (start .args .k)) (start .args .points .now) (start .args .n) (start .pre .0) (turning .before .loop .inv) (turning .loop-test .taken) (start .pre .1)
+    copy-more [] (λ (p : List ℤ). number p (start .args .k)) (start .args .points .now) (start .args .n) (start .pre .0) (turning .before .loop .inv) (turning .loop-test .taken) (start .pre .1)
     (toZ-ofZ (sfits-of (c .out .given)))
 
 same-length : tie.Need-same-length Inv-loop μ-loop
@@ -59,7 +59,7 @@ same-length c = c .before .loop .inv .same
 returns : tie.Need-returns Inv-loop μ-loop
 returns c =
     let start = c .before .before in
-    copy-all (λ (p : List ℤ). number p (start .args .k)) (start .args .points .now) (start .args .n) (start .pre .0) (c .before .loop .inv) (c .loop-test .left)
+    copy-all [] (λ (p : List ℤ). number p (start .args .k)) (start .args .points .now) (start .args .n) (start .pre .0) (c .before .loop .inv) (c .loop-test .left)
 
 pub copy-column-spec : {M : Type 1} → statement M
 copy-column-spec =

@@ -1,6 +1,7 @@
 -- `contour::copy_flags` meets its contract, by the law of proofs/Copying.antt. Assumes nothing.
 use Prim.Native.Nat.{_-_}
 use native.Mathlib.Omega.{arith}
+use mathlib.Core.List.{[]}
 use lib.ListN.{take}
 use Rattle.rows.proofs.Filled.{Filled, start}
 use Rattle.contour.specs.Output.{flagOf, flags}
@@ -39,7 +40,7 @@ loop-again : tie.Need-loop-again Inv-loop μ-loop
 loop-again c =
     let turning = c .before .before in
     let start = turning .before .before .before in
-    copy-more flagOf (start .args .points .now) (start .args .n) (start .pre .0) (turning .before .loop .inv) (turning .loop-test .taken) (start .pre .1) (c .flag .ensures)
+    copy-more [] flagOf (start .args .points .now) (start .args .n) (start .pre .0) (turning .before .loop .inv) (turning .loop-test .taken) (start .pre .1) (c .flag .ensures)
 
 same-length : tie.Need-same-length Inv-loop μ-loop
 same-length c = c .before .loop .inv .same
@@ -47,7 +48,7 @@ same-length c = c .before .loop .inv .same
 returns : tie.Need-returns Inv-loop μ-loop
 returns c =
     let start = c .before .before .before in
-    copy-all flagOf (start .args .points .now) (start .args .n) (start .pre .0) (c .before .loop .inv) (c .loop-test .left)
+    copy-all [] flagOf (start .args .points .now) (start .args .n) (start .pre .0) (c .before .loop .inv) (c .loop-test .left)
 
 pub copy-flags-spec : {M : Type 1} → statement M
 copy-flags-spec =

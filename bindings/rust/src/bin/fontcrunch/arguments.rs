@@ -12,11 +12,32 @@ pub enum Request {
     Crunch(Job),
 }
 
-/// Contours to crunch, and where to draw them.
+/// What to do with contours, and where to draw them.
 #[derive(Debug, Default, PartialEq, Eq)]
 pub struct Job {
+    pub tool: Tool,
     pub inputs: Vec<Input>,
     pub picture: Option<PathBuf>,
+}
+
+/// What is done with each contour. A first word that names a tool asks for it; without one, contours are crunched.
+#[derive(Clone, Copy, Debug, Default, PartialEq, Eq)]
+pub enum Tool {
+    #[default]
+    Crunch,
+    Clean {
+        /// and then crunch
+        crunch: bool,
+    },
+}
+
+impl Tool {
+    fn named(word: &OsStr) -> Option<Tool> {
+        match word.to_str() {
+            Some("clean") => Some(Tool::Clean { crunch: false }),
+            _ => None,
+        }
+    }
 }
 
 #[derive(Debug, PartialEq, Eq)]
@@ -27,13 +48,18 @@ pub enum Input {
 
 /// A request, or what is wrong with the words.
 pub fn read(words: impl IntoIterator<Item = OsString>) -> Result<Request, String> {
-    let mut words = words.into_iter();
+    let mut words = words.into_iter().peekable();
     let mut job = Job::default();
+    if let Some(tool) = words.peek().and_then(|word| Tool::named(word)) {
+        job.tool = tool;
+        words.next();
+    }
     while let Some(word) = words.next() {
         match word.to_str() {
             Some("--help" | "-h") => return Ok(Request::Help),
             Some("--version" | "-V") => return Ok(Request::Version),
             Some("--svg") => job.draw_to(words.next())?,
+            Some("--crunch") => job.then_crunch()?,
             Some("--") => {
                 job.inputs.extend(words.by_ref().map(|name| Input::File(name.into())));
             }
@@ -52,7 +78,18 @@ pub fn read(words: impl IntoIterator<Item = OsString>) -> Result<Request, String
 }
 
 impl Job {
+    fn then_crunch(&mut self) -> Result<(), String> {
+        match &mut self.tool {
+            Tool::Clean { crunch } => *crunch = true,
+            Tool::Crunch => return Err("--crunch is an option of clean".to_owned()),
+        }
+        Ok(())
+    }
+
     fn draw_to(&mut self, name: Option<OsString>) -> Result<(), String> {
+        if self.tool != Tool::Crunch {
+            return Err("--svg draws crunched contours alone".to_owned());
+        }
         let name = name.filter(|name| !name.is_empty()).ok_or("--svg needs a file to write")?;
         if self.picture.replace(name.into()).is_some() {
             return Err("--svg is given twice".to_owned());
@@ -81,9 +118,12 @@ Crunches TrueType contours: puts fewer quadratic pieces between their corners.
 
 usage: fontcrunch [--svg PICTURE] [FILE...]
        fontcrunch glyph read|write    glyph descriptions; see fontcrunch glyph --help
+       fontcrunch clean [--crunch] [FILE...]
 
 FILE           contours, one a line; standard input where there is none, or for -
 --svg PICTURE  draws each contour before and after, to a file
+clean          drops repeated points instead; a file of that name is ./clean
+--crunch       cleans, then crunches what is left
 --help         this text
 --version      the version
 
@@ -96,6 +136,11 @@ A line out, for each line in:
   ok PAIRS x y f ...  the points that came out, in reverse order; PAIRS of breaks
                       were tried
   refused K           nothing came out; the reason goes to standard error
+  ok x y f ... | k:why ...
+                      clean: the points kept, and each dropped place k of the line,
+                      counted from 0, in the order of dropping; why is before (equal
+                      to the on-curve point before it), both (off-curve, equal to both
+                      neighbours) or first (last, and equal to the first)
   malformed           the line is no such list, or has more than 65536 bytes; what
                       is wrong goes to standard error
 ";
@@ -114,7 +159,7 @@ mod tests {
     }
 
     fn job(inputs: Vec<Input>, picture: Option<&str>) -> Result<Request, String> {
-        Ok(Request::Crunch(Job { inputs, picture: picture.map(PathBuf::from) }))
+        Ok(Request::Crunch(Job { tool: Tool::Crunch, inputs, picture: picture.map(PathBuf::from) }))
     }
 
     fn file(name: &str) -> Input {
@@ -132,6 +177,19 @@ mod tests {
     fn a_picture() {
         assert_eq!(asked(&["--svg", "p", "a"]), job(vec![file("a")], Some("p")));
         assert_eq!(asked(&["a", "--svg=p"]), job(vec![file("a")], Some("p")));
+    }
+
+    #[test]
+    fn cleaning() {
+        let cleaned = |inputs, crunch| Ok(Request::Crunch(Job { tool: Tool::Clean { crunch }, inputs, picture: None }));
+        assert_eq!(asked(&["clean"]), cleaned(vec![Input::Standard], false));
+        assert_eq!(asked(&["clean", "--crunch", "a"]), cleaned(vec![file("a")], true));
+        assert_eq!(asked(&["clean", "clean"]), cleaned(vec![file("clean")], false));
+        // only the first word names a tool
+        assert_eq!(asked(&["a", "clean"]), job(vec![file("a"), file("clean")], None));
+        assert_eq!(asked(&["--", "clean"]), job(vec![file("clean")], None));
+        assert!(asked(&["--crunch"]).unwrap_err().contains("option of clean"));
+        assert!(asked(&["clean", "--svg", "p"]).unwrap_err().contains("--svg"));
     }
 
     #[test]

@@ -1,6 +1,7 @@
 //! The command fontcrunch: contours in, one a line; a line out for each. `fontcrunch --help` tells all.
 
 mod arguments;
+mod cleaning;
 mod contour_line;
 mod glyph;
 mod picture;

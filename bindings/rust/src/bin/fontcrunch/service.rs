@@ -6,7 +6,8 @@ use std::path::Path;
 
 use fontcrunch::{Crunched, Cruncher, Point, Refusal};
 
-use crate::arguments::{Input, Job};
+use crate::arguments::{Input, Job, Tool};
+use crate::cleaning;
 use crate::contour_line;
 use crate::picture::Picture;
 use crate::stream::{Lines, Stopped};
@@ -21,6 +22,7 @@ pub enum Status {
 
 pub fn run(job: &Job) -> Status {
     let mut service = Service {
+        tool: job.tool,
         cruncher: Cruncher::new(),
         answers: BufWriter::new(io::stdout().lock()),
         drawing: None,
@@ -44,6 +46,7 @@ pub fn complain(message: &str) {
 }
 
 struct Service<W> {
+    tool: Tool,
     cruncher: Cruncher,
     answers: W,
     drawing: Option<Drawing>,
@@ -112,15 +115,24 @@ impl<W: Write> Service<W> {
             self.wrong(&format!("{}:{}: malformed: {fault}", source.name, source.line));
             return self.answers.write_all(b"malformed\n");
         }
-        let result = self.cruncher.crunch(points);
-        self.draw(source, points, &result);
-        match result {
-            Ok(crunched) => write_crunched(&mut self.answers, &crunched),
+        let answer = match self.tool {
+            Tool::Crunch => self.crunch(source, points),
+            Tool::Clean { crunch: false } => cleaning::clean(points),
+            Tool::Clean { crunch: true } => cleaning::clean_and_crunch(&mut self.cruncher, points),
+        };
+        match answer {
+            Ok(text) => writeln!(self.answers, "{text}"),
             Err(refusal) => {
                 self.refused(source, refusal);
                 writeln!(self.answers, "refused {}", refusal.number())
             }
         }
+    }
+
+    fn crunch(&mut self, source: &Source, points: &[Point]) -> Result<String, Refusal> {
+        let result = self.cruncher.crunch(points);
+        self.draw(source, points, &result);
+        result.map(|crunched| crunched_text(&crunched))
     }
 
     fn refused(&mut self, source: &Source, refusal: Refusal) {
@@ -182,10 +194,11 @@ fn is_same_file(input: &Input, path: &Path) -> bool {
     }
 }
 
-fn write_crunched(out: &mut impl Write, crunched: &Crunched) -> io::Result<()> {
-    write!(out, "ok {}", crunched.pairs)?;
-    for point in &crunched.points {
-        write!(out, " {} {} {}", point.x, point.y, u8::from(point.on_curve))?;
-    }
-    writeln!(out)
+pub fn crunched_text(crunched: &Crunched) -> String {
+    format!("ok {}{}", crunched.pairs, points_text(&crunched.points))
+}
+
+/// A blank before each number.
+pub fn points_text(points: &[Point]) -> String {
+    points.iter().map(|point| format!(" {} {} {}", point.x, point.y, u8::from(point.on_curve))).collect()
 }

@@ -1,0 +1,34 @@
+-- The contracts of the exports, as the check reads them off src/lib.rt: nothing is asked of a caller; and what is promised fixes the report and
+-- what is written, of the contour and of the lengths of the rows alone. Assumes nothing.
+use mathlib.Core.Path.{_≡_}
+use Rattle.contour.specs.Output.{outputs}
+use Rattle.clean.specs.Entry.{rows}
+use Rattle.clean.specs.Determine.{Same, placesOf, firstOf, shown-equal-orders, pointPlaces, firstPoints, put-shown-orders}
+use Rattle.clean.proofs.fontcrunch_clean.Reads as clean
+use Rattle.clean.proofs.fontcrunch_put_back.Reads as put
+
+pub clean-asks-nothing : (κs : _) (a : _) → clean.Pre κs a
+clean-asks-nothing κs a = tt
+
+pub clean-says : (κs κs' xs ys flags ox ox' oy oy' of of' list list' r r' x x' : _) →
+    (s : clean.Post κs (xs, (ys, (flags, (ox, (oy, (of, (list, tt))))))) r x) →
+    (s' : clean.Post κs' (xs, (ys, (flags, (ox', (oy', (of', (list', tt))))))) r' x') →
+    placesOf (rows (outputs (ox .now) (oy .now) (of .now)) (list .now)) ≡ placesOf (rows (outputs (ox' .now) (oy' .now) (of' .now)) (list' .now)) →
+    let w = x .1 .1 .1 in
+    let w' = x' .1 .1 .1 in
+    Same r r' (firstOf (s .answer) (rows (outputs (w .0 .now) (w .1 .0 .now) (w .1 .1 .0 .now)) (w .1 .1 .1 .0 .now)))
+    (firstOf (s' .answer) (rows (outputs (w' .0 .now) (w' .1 .0 .now) (w' .1 .1 .0 .now)) (w' .1 .1 .1 .0 .now)))
+clean-says κs κs' xs ys flags ox ox' oy oy' of of' list list' r r' x x' s s' places = shown-equal-orders places s s'
+
+pub put-asks-nothing : (κs : _) (a : _) → put.Pre κs a
+put-asks-nothing κs a = tt
+
+pub put-says : (κs κs' xs ys flags list ox ox' oy oy' of of' r r' x x' : _) →
+    (s : put.Post κs (xs, (ys, (flags, (list, (ox, (oy, (of, tt))))))) r x) →
+    (s' : put.Post κs' (xs, (ys, (flags, (list, (ox', (oy', (of', tt))))))) r' x') →
+    pointPlaces (outputs (ox .now) (oy .now) (of .now)) ≡ pointPlaces (outputs (ox' .now) (oy' .now) (of' .now)) →
+    let w = x .1 .1 .1 .1 in
+    let w' = x' .1 .1 .1 .1 in
+    Same r r' (firstPoints (s .answer) (outputs (w .0 .now) (w .1 .0 .now) (w .1 .1 .0 .now)))
+    (firstPoints (s' .answer) (outputs (w' .0 .now) (w' .1 .0 .now) (w' .1 .1 .0 .now)))
+put-says κs κs' xs ys flags list ox ox' oy oy' of of' r r' x x' s s' places = put-shown-orders places s s'

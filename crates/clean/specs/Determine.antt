@@ -1,0 +1,230 @@
+-- The statement of `clean_contour` determines the answer and every lent row; and the answer and what is written are those of the contour and of
+-- the lengths of the rows alone, whatever the rows held. Assumes nothing.
+use Prim.Native.Nat.{ℕ, zero, suc, min, _+_, _-_}
+use native.Mathlib.Omega.{arith}
+use mathlib.Core.Bool.{Bool, true, false}
+use mathlib.Core.List.{List, [], _∷_, map}
+use mathlib.Core.Path.{_≡_, refl, sym, ap, _∙_}
+use lib.Dec.{eqb, ltb}
+use lib.IntN.{ℤ}
+use lib.ListN.{length, getD, take, drop, length-map, length-append}
+use lib.Seq.{take-at}
+use denote.Triple.Both.{Both}
+use Rattle.refusals.specs.Refusals.{rowsDiffer, noPoint}
+use Rattle.refusals.specs.declared.Judged.{Judged}
+use Rattle.refusals.specs.declared.Judged.the-variants as Judged
+use Rattle.rows.specs.Lent.{Inputs, inputs, Shown}
+use Rattle.contour.specs.Output.{Outputs, outputs, front}
+use Rattle.clean.specs.Clean.{Cleaning, cleaned, upFrom}
+use Rattle.clean.specs.PutBack.{numberOf, whyOf, insertAt, putIn, putBack, copiedSpot, keptSpot, spotsOf}
+use Rattle.clean.specs.Entry.{coordinateIn, bitIn, pointsInto, Rows, rows, pointRoom, listRoom, refuseIf, answerIn, cleaningOf, writtenIn, leftBy}
+use Rattle.clean.specs.Entry.{afterJudging, judgedOf, wholeOf, Promise, report}
+use Rattle.clean.specs.Entry.{spotX, spotBit, spotsInto, outputRoom, orRefuse, restoredOf, spotsFor, leftBack, PutPromise, putReport}
+use Rattle.clean.specs.declared.CleanReport.{CleanReport}
+use Rattle.clean.specs.declared.PutReport.{PutReport}
+use Rattle.clean.specs.declared.Restored as R
+use Rattle.clean.specs.declared.Restored.the-variants as Restored
+use Rattle.clean.specs.declared.Cleaned as D
+use Rattle.clean.specs.declared.Cleaned.the-variants as Cleaned
+
+-- ---- two outcomes of one order are one
+
+pub record Same {R W : Type 0} (r r' : R) (w w' : W) : Type 0 where
+  pub answer : r ≡ r'
+  pub left : w ≡ w'
+
+pub determined : {i : Inputs} {w w' : Both Rows Rows} {r r' : D.Cleaned} → w .entry ≡ w' .entry →
+    Promise i w r → Promise i w' r' → Same r r' (w .exit) (w' .exit)
+determined {i} {w} {w'} {r} {r'} e p p' =
+    let answer : r ≡ r' = p .answer ∙ rw e (sym (p' .answer)) in
+    record { answer = answer; left = p .left ∙ rw (answer, e) (sym (p' .left)) }
+
+-- ---- of the lent rows only their lengths count
+
+pub record Places : Type 0 where
+  pub x : ℕ
+  pub y : ℕ
+  pub flags : ℕ
+  pub list : ℕ
+
+abbrev pub placesOf : Rows → Places
+placesOf (rows (outputs ox oy of) list) = record { x = length ox; y = length oy; flags = length of; list = length list }
+
+-- the places that an answer says are written
+abbrev pub firstOf : D.Cleaned → Rows → Rows
+firstOf (Cleaned.Refused k) w = rows (outputs [] [] []) []
+firstOf (Cleaned.Points n m) (rows (outputs ox oy of) list) = rows (outputs (take n ox) (take n oy) (take n of)) (take m list)
+
+-- what stands there: nothing where the contour is refused
+abbrev pub shown : D.Cleaned → Inputs → Cleaning → Rows
+shown (Cleaned.Refused k) i c = rows (outputs [] [] []) []
+shown (Cleaned.Points n m) (inputs xs ys fs) (cleaned kept drops) =
+    rows (outputs (map (coordinateIn xs) kept) (map (coordinateIn ys) kept) (map (bitIn fs) kept)) drops
+
+same-rooms : (w w' : Rows) → placesOf w ≡ placesOf w' → (listRoom w ≡ listRoom w') × (pointRoom w ≡ pointRoom w')
+same-rooms (rows (outputs ox oy of) list) (rows (outputs ox' oy' of') list') e =
+    (ap (λ (p : Places). p .list) e, ap (λ (p : Places). min (min (p .x) (p .y)) (p .flags)) e)
+
+-- what is counted is what there is
+abbrev countsOf : D.Cleaned → ℕ → ℕ → Type 0
+countsOf (Cleaned.Refused k) a b = Unit {0}
+countsOf (Cleaned.Points n m) a b = (n ≡ a) × (m ≡ b)
+
+counted : (s t : Bool) (a b : ℕ) → countsOf (refuseIf 18 s (refuseIf 9 t (Cleaned.Points a b))) a b
+counted true t a b = tt
+counted false true a b = tt
+counted false false a b = (refl, refl)
+
+counts-whole : (j : Judged) (list points : ℕ) (kept : List ℕ) (drops : List (List ℕ)) →
+    countsOf (afterJudging j (answerIn list points (cleaned kept drops))) (length kept) (length drops)
+counts-whole (Judged.Refused k) list points kept drops = tt
+counts-whole Judged.Fine list points kept drops = counted (ltb list (length drops)) (ltb points (length kept)) (length kept) (length drops)
+
+front-first : {A : Type 0} (n : ℕ) (s row : List A) → length s ≡ n → take n (front s row) ≡ s
+front-first n s row e = take-at s (drop (length s) row) n e
+
+first-shown : (r : D.Cleaned) (i : Inputs) (kept : List ℕ) (drops : List (List ℕ)) (w : Rows) → countsOf r (length kept) (length drops) →
+    firstOf r (leftBy r i (cleaned kept drops) w) ≡ shown r i (cleaned kept drops)
+first-shown (Cleaned.Refused k) i kept drops w h = refl
+first-shown (Cleaned.Points n m) (inputs xs ys fs) kept drops (rows (outputs ox oy of) list) h =
+    rw (
+      front-first n (map (coordinateIn xs) kept) ox (length-map kept (coordinateIn xs) ∙ sym (h .0)),
+      front-first n (map (coordinateIn ys) kept) oy (length-map kept (coordinateIn ys) ∙ sym (h .0)),
+      front-first n (map (bitIn fs) kept) of (length-map kept (bitIn fs) ∙ sym (h .0)),
+      front-first m drops list (sym (h .1)),
+    )
+
+promise-shows : {i : Inputs} {w : Both Rows Rows} {r : D.Cleaned} → Promise i w r → (c : Cleaning) → cleaningOf i ≡ c →
+    firstOf r (w .exit) ≡ shown r i (cleaningOf i)
+promise-shows {i} {w} {r} p (cleaned kept drops) e =
+    let counts : countsOf r (length kept) (length drops) =
+    rw (p .answer, e) (counts-whole (judgedOf i) (listRoom (w .entry)) (pointRoom (w .entry)) kept drops) in
+    rw (p .left, e) (first-shown r i kept drops (w .entry) counts)
+
+-- two orders of one contour, in rows of equal lengths: the answer and what is written are equal
+pub equal-orders : {i : Inputs} {w w' : Both Rows Rows} {r r' : D.Cleaned} → placesOf (w .entry) ≡ placesOf (w' .entry) →
+    Promise i w r → Promise i w' r' →
+    Same r r' (firstOf r (w .exit)) (firstOf r' (w' .exit))
+equal-orders {i} {w} {w'} {r} {r'} e p p' =
+    let rooms = same-rooms (w .entry) (w' .entry) e in
+    let answer : r ≡ r' = p .answer ∙ rw (rooms .0, rooms .1) (sym (p' .answer)) in
+    record { answer = answer; left = promise-shows p _ refl ∙ rw answer (sym (promise-shows p' _ refl)) }
+
+-- ---- the export
+
+pub shown-equal-orders : {i : Inputs} {w w' : Both Rows Rows} {r r' : CleanReport} → placesOf (w .entry) ≡ placesOf (w' .entry) →
+    (s : Shown report (Promise i w) r) → (s' : Shown report (Promise i w') r') → Same r r' (firstOf (s .answer) (w .exit)) (firstOf (s' .answer) (w' .exit))
+shown-equal-orders e s s' =
+    let same = equal-orders e (s .promise) (s' .promise) in
+    record { answer = s .is ∙ ap report (same .answer) ∙ sym (s' .is); left = same .left }
+
+pub shown-determined : {i : Inputs} {w w' : Both Rows Rows} {r r' : CleanReport} → w .entry ≡ w' .entry →
+    Shown report (Promise i w) r → Shown report (Promise i w') r' → Same r r' (w .exit) (w' .exit)
+shown-determined e s s' =
+    let same = determined e (s .promise) (s' .promise) in
+    record { answer = s .is ∙ ap report (same .answer) ∙ sym (s' .is); left = same .left }
+
+-- ---- putting back
+
+pub put-determined : {i : Inputs} {list : List (List ℕ)} {w w' : Both Outputs Outputs} {r r' : R.Restored} → w .entry ≡ w' .entry →
+    PutPromise i list w r → PutPromise i list w' r' → Same r r' (w .exit) (w' .exit)
+put-determined {i} {list} {w} {w'} {r} {r'} e p p' =
+    let answer : r ≡ r' = p .answer ∙ rw e (sym (p' .answer)) in
+    record { answer = answer; left = p .left ∙ rw (answer, e) (sym (p' .left)) }
+
+pub record PointPlaces : Type 0 where
+  pub x : ℕ
+  pub y : ℕ
+  pub flags : ℕ
+
+abbrev pub pointPlaces : Outputs → PointPlaces
+pointPlaces (outputs ox oy of) = record { x = length ox; y = length oy; flags = length of }
+
+abbrev pub firstPoints : R.Restored → Outputs → Outputs
+firstPoints (Restored.Refused k) o = outputs [] [] []
+firstPoints (Restored.Points n) (outputs ox oy of) = outputs (take n ox) (take n oy) (take n of)
+
+same-room : (o o' : Outputs) → pointPlaces o ≡ pointPlaces o' → outputRoom o ≡ outputRoom o'
+same-room (outputs ox oy of) (outputs ox' oy' of') e = ap (λ (p : PointPlaces). min (min (p .x) (p .y)) (p .flags)) e
+
+-- as many points come back as are kept and listed
+length-insert : {A : Type 0} (k : ℕ) (v : A) (row : List A) → length (insertAt k v row) ≡ suc (length row)
+unfolding insertAt
+length-insert zero v row = refl
+length-insert (suc k) v [] = refl
+length-insert (suc k) v (p ∷ row) = ap suc (length-insert k v row)
+
+length-in : {A : Type 0} (copied : ℕ → A → A) (past : A) (b : Bool) (place why : ℕ) (row : List A) →
+    length (putIn copied past b place why row) ≡ suc (length row)
+length-in copied past true place why row = length-append row (copied why (getD row 0 past) ∷ []) ∙ omega arith
+length-in copied past false place why row = length-insert place (copied why (getD row (place - 1) past)) row
+
+pub length-back : {A : Type 0} (copied : ℕ → A → A) (past : A) (j : ℕ) (list : List (List ℕ)) (row : List A) →
+    length (putBack copied past j list row) ≡ length row + length list
+unfolding putBack
+length-back copied past j [] row = omega arith
+length-back copied past j (d ∷ list) row =
+    length-in copied past (eqb (whyOf d) 3) (numberOf d - j) (whyOf d) (putBack copied past (j + 1) list row)
+    ∙ ap suc (length-back copied past (j + 1) list row) ∙ omega arith
+
+pub length-up : (k n : ℕ) → length (upFrom k n) ≡ n
+unfolding upFrom
+length-up k zero = refl
+length-up k (suc n) = ap suc (length-up (k + 1) n)
+
+length-spots : (n : ℕ) (list : List (List ℕ)) → length (spotsOf n list) ≡ n + length list
+unfolding spotsOf
+length-spots n list =
+    length-back copiedSpot (keptSpot n) 0 list (map keptSpot (upFrom 0 n))
+    ∙ ap (λ (k : ℕ). k + length list) (length-map (upFrom 0 n) keptSpot ∙ length-up 0 n)
+
+abbrev totalOf : R.Restored → ℕ → Type 0
+totalOf (Restored.Refused k) n = Unit {0}
+totalOf (Restored.Points m) n = m ≡ n
+
+totals : (s t u v : Bool) (n : ℕ) → totalOf (orRefuse 1 s (orRefuse 2 t (orRefuse 3 u (orRefuse 9 v (Restored.Points n))))) n
+totals true t u v n = tt
+totals false true u v n = tt
+totals false false true v n = tt
+totals false false false true n = tt
+totals false false false false n = refl
+
+first-points : (r : R.Restored) (i : Inputs) (list : List (List ℕ)) (o o' : Outputs) → totalOf r (length (spotsFor i list)) →
+    firstPoints r (leftBack r i list o) ≡ firstPoints r (leftBack r i list o')
+first-points (Restored.Refused k) i list o o' h = refl
+first-points (Restored.Points n) (inputs xs ys fs) list (outputs ox oy of) (outputs ox' oy' of') h =
+    let spots = spotsOf (length fs) list in
+    let x = length-map spots (spotX xs) ∙ sym h in
+    let y = length-map spots (spotX ys) ∙ sym h in
+    let f = length-map spots (spotBit fs) ∙ sym h in
+    rw (
+      front-first n (map (spotX xs) spots) ox x,
+      front-first n (map (spotX ys) spots) oy y,
+      front-first n (map (spotBit fs) spots) of f,
+      front-first n (map (spotX xs) spots) ox' x,
+      front-first n (map (spotX ys) spots) oy' y,
+      front-first n (map (spotBit fs) spots) of' f,
+    )
+
+total-of : (i : Inputs) (list : List (List ℕ)) (room : ℕ) → totalOf (restoredOf i (length list) room) (length (spotsFor i list))
+total-of (inputs xs ys fs) list room =
+    rw (length-spots (length fs) list)
+    (totals (rowsDiffer (length xs) (length ys) (length fs)) (noPoint (length fs))
+    (ltb 1024 (length fs + length list)) (ltb room (length fs + length list)) (length fs + length list))
+
+-- two orders of the same points and list, in rows of equal lengths
+pub put-equal-orders : {i : Inputs} {list : List (List ℕ)} {w w' : Both Outputs Outputs} {r r' : R.Restored} →
+    pointPlaces (w .entry) ≡ pointPlaces (w' .entry) →
+    PutPromise i list w r → PutPromise i list w' r' → Same r r' (firstPoints r (w .exit)) (firstPoints r' (w' .exit))
+put-equal-orders {i} {list} {w} {w'} {r} {r'} e p p' =
+    let answer : r ≡ r' = p .answer ∙ rw (same-room (w .entry) (w' .entry) e) (sym (p' .answer)) in
+    let total : totalOf r (length (spotsFor i list)) = rw (p .answer) (total-of i list (outputRoom (w .entry))) in
+    record { answer = answer; left = rw (p .left, p' .left, ← answer) (first-points r i list (w .entry) (w' .entry) total) }
+
+pub put-shown-orders : {i : Inputs} {list : List (List ℕ)} {w w' : Both Outputs Outputs} {r r' : PutReport} →
+    pointPlaces (w .entry) ≡ pointPlaces (w' .entry) →
+    (s : Shown putReport (PutPromise i list w) r) → (s' : Shown putReport (PutPromise i list w') r') →
+    Same r r' (firstPoints (s .answer) (w .exit)) (firstPoints (s' .answer) (w' .exit))
+put-shown-orders e s s' =
+    let same = put-equal-orders e (s .promise) (s' .promise) in
+    record { answer = s .is ∙ ap putReport (same .answer) ∙ sym (s' .is); left = same .left }

@@ -1,0 +1,146 @@
+-- What the cleaning entry hands back and leaves in every lent row. Definitions only.
+use Prim.Native.Nat.{ℕ, min, _+_, _-_, _%_}
+use mathlib.Core.Bool.{Bool, true, false}
+use mathlib.Core.List.{List, map}
+use mathlib.Core.Path.{_≡_}
+use lib.Dec.{ltb}
+use lib.IntN.{ℤ, pos}
+use lib.ListN.{length, getD}
+use denote.Triple.Both.{Both}
+use Rattle.refusals.specs.Refusals.{rowsDiffer, noPoint, judged}
+use Rattle.refusals.specs.declared.Judged.{Judged}
+use Rattle.refusals.specs.declared.Judged.the-variants as Judged
+use Rattle.contour.specs.Output.{Outputs, outputs, front}
+use Rattle.rows.specs.Lent.{Lent, before, after, Inputs, inputs}
+use Rattle.clean.specs.Clean.{Cleaning, cleaned, cleanOf}
+use Rattle.clean.specs.PutBack.{numberOf, whyOf, bitBy, spotsOf}
+use Rattle.clean.specs.declared.CleanReport.{CleanReport}
+use Rattle.clean.specs.declared.PutReport.{PutReport}
+use Rattle.clean.specs.declared.Restored as R
+use Rattle.clean.specs.declared.Restored.the-variants as Restored
+use Rattle.clean.specs.declared.Cleaned as D
+use Rattle.clean.specs.declared.Cleaned.the-variants as Cleaned
+
+-- ---- points by their numbers
+
+abbrev pub coordinateIn : List ℤ → ℕ → ℤ
+coordinateIn row k = getD row k (pos 0)
+
+-- kept flags go out as 1 or 0
+abbrev pub bitIn : List ℕ → ℕ → ℕ
+bitIn row k = getD row k 0 % 2
+
+-- the points of these numbers, in the first places of the output rows; other places stay
+abbrev pub pointsInto : Inputs → List ℕ → Outputs → Outputs
+pointsInto (inputs xs ys fs) ks (outputs ox oy of) =
+    outputs (front (map (coordinateIn xs) ks) ox) (front (map (coordinateIn ys) ks) oy) (front (map (bitIn fs) ks) of)
+
+-- ---- the rows that are written: output rows and list
+
+pub data Rows : Type 0 where
+  rows : Outputs → List (List ℕ) → Rows
+
+abbrev pub lent : Lent ℤ → Lent ℤ → Lent ℕ → Lent (List ℕ) → Both Rows Rows
+lent ox oy of list =
+    record { entry = rows (outputs (before ox) (before oy) (before of)) (before list); exit = rows (outputs (after ox) (after oy) (after of)) (after list) }
+
+-- the shortest output row
+abbrev pub pointRoom : Rows → ℕ
+pointRoom (rows (outputs ox oy of) list) = min (min (length ox) (length oy)) (length of)
+
+abbrev pub listRoom : Rows → ℕ
+listRoom (rows o list) = length list
+
+-- ---- the answer
+
+abbrev pub refuseIf : ℕ → Bool → D.Cleaned → D.Cleaned
+refuseIf k true later = Cleaned.Refused k
+refuseIf k false later = later
+
+-- 18: the list row is too short for the drops; last 9: an output row is too short for the points kept
+abbrev pub answerIn : ℕ → ℕ → Cleaning → D.Cleaned
+answerIn list points (cleaned kept drops) =
+    refuseIf 18 (ltb list (length drops)) (refuseIf 9 (ltb points (length kept)) (Cleaned.Points (length kept) (length drops)))
+
+abbrev pub cleaningOf : Inputs → Cleaning
+cleaningOf (inputs xs ys fs) = cleanOf xs ys fs (length fs - 1)
+
+abbrev pub writtenIn : Inputs → Cleaning → Rows → Rows
+writtenIn i (cleaned kept drops) (rows o list) = rows (pointsInto i kept o) (front drops list)
+
+-- a refusal writes nothing
+abbrev pub leftBy : D.Cleaned → Inputs → Cleaning → Rows → Rows
+leftBy (Cleaned.Refused k) i c r = r
+leftBy (Cleaned.Points n m) i c r = writtenIn i c r
+
+-- of a contour that is cleaned
+pub record Written (i : Inputs) (c : Cleaning) (w : Both Rows Rows) (r : D.Cleaned) : Type 0 where
+  pub answer : r ≡ answerIn (listRoom (w .entry)) (pointRoom (w .entry)) c
+  pub left : w .exit ≡ leftBy r i c (w .entry)
+
+-- 1 to 5 first
+abbrev pub afterJudging : Judged → D.Cleaned → D.Cleaned
+afterJudging (Judged.Refused k) later = Cleaned.Refused k
+afterJudging Judged.Fine later = later
+
+abbrev pub judgedOf : Inputs → Judged
+judgedOf (inputs xs ys fs) = judged xs ys fs
+
+abbrev pub wholeOf : Inputs → ℕ → ℕ → D.Cleaned
+wholeOf i list points = afterJudging (judgedOf i) (answerIn list points (cleaningOf i))
+
+-- the entry's contract: what it hands back, and what it leaves in the rows w
+pub record Promise (i : Inputs) (w : Both Rows Rows) (r : D.Cleaned) : Type 0 where
+  pub answer : r ≡ wholeOf i (listRoom (w .entry)) (pointRoom (w .entry))
+  pub left : w .exit ≡ leftBy r i (cleaningOf i) (w .entry)
+
+-- ---- putting back: kept points and a list
+
+abbrev pub spotX : List ℤ → List ℕ → ℤ
+spotX row s = coordinateIn row (numberOf s)
+
+abbrev pub spotBit : List ℕ → List ℕ → ℕ
+spotBit fs s = bitBy (whyOf s) (bitIn fs (numberOf s))
+
+abbrev pub spotsInto : Inputs → List (List ℕ) → Outputs → Outputs
+spotsInto (inputs xs ys fs) spots (outputs ox oy of) =
+    outputs (front (map (spotX xs) spots) ox) (front (map (spotX ys) spots) oy) (front (map (spotBit fs) spots) of)
+
+abbrev pub lentOutputs : Lent ℤ → Lent ℤ → Lent ℕ → Both Outputs Outputs
+lentOutputs ox oy of = record { entry = outputs (before ox) (before oy) (before of); exit = outputs (after ox) (after oy) (after of) }
+
+abbrev pub outputRoom : Outputs → ℕ
+outputRoom (outputs ox oy of) = min (min (length ox) (length oy)) (length of)
+
+abbrev pub orRefuse : ℕ → Bool → R.Restored → R.Restored
+orRefuse k true later = Restored.Refused k
+orRefuse k false later = later
+
+-- 1: the kept rows differ in length; 2: no point is kept; 3: more than 1,024 points with the drops; last 9: an output row is too short for them
+abbrev pub restoredOf : Inputs → ℕ → ℕ → R.Restored
+restoredOf (inputs xs ys fs) drops room =
+    let n = length fs in
+    orRefuse 1 (rowsDiffer (length xs) (length ys) n)
+    (orRefuse 2 (noPoint n)
+    (orRefuse 3 (ltb 1024 (n + drops)) (orRefuse 9 (ltb room (n + drops)) (Restored.Points (n + drops)))))
+
+abbrev pub spotsFor : Inputs → List (List ℕ) → List (List ℕ)
+spotsFor (inputs xs ys fs) list = spotsOf (length fs) list
+
+abbrev pub leftBack : R.Restored → Inputs → List (List ℕ) → Outputs → Outputs
+leftBack (Restored.Refused k) i list o = o
+leftBack (Restored.Points n) i list o = spotsInto i (spotsFor i list) o
+
+pub record PutPromise (i : Inputs) (list : List (List ℕ)) (w : Both Outputs Outputs) (r : R.Restored) : Type 0 where
+  pub answer : r ≡ restoredOf i (length list) (outputRoom (w .entry))
+  pub left : w .exit ≡ leftBack r i list (w .entry)
+
+abbrev pub putReport : R.Restored → PutReport
+putReport (Restored.Refused k) = record { number = k; points = 0 }
+putReport (Restored.Points n) = record { number = 0; points = n }
+
+-- ---- the export: document 02's values for each answer; the number is 0 where nothing is refused
+
+abbrev pub report : D.Cleaned → CleanReport
+report (Cleaned.Refused k) = record { number = k; kept = 0; dropped = 0 }
+report (Cleaned.Points n m) = record { number = 0; kept = n; dropped = m }

@@ -1,0 +1,5 @@
+pub mod Clean
+pub mod Pass
+pub mod PutBack
+pub mod Entry
+pub mod Determine
