@@ -3,3 +3,4 @@ mod Single
 mod Along
 mod Verdict
 pub mod Examples
+pub mod Rule

@@ -1,2 +1,3 @@
 pub mod Valid
 pub mod Laws
+pub mod Rule

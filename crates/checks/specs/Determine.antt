@@ -23,6 +23,8 @@ use Rattle.samples.specs.Samples.{Sample}
 use Rattle.survey.specs.Survey.{Survey, surveyOf}
 use Rattle.survey.specs.Survey as Survey
 use Rattle.chain.specs.Valid.{checkRows}
+use Rattle.chain.specs.Rule.{Valid}
+use Rattle.chain.proofs.Rule.{valid-exactly}
 use Rattle.chain.specs.declared.Checked.{Checked}
 use Rattle.chain.specs.declared.Checked.the-variants as Checked
 use Rattle.rows.specs.Rows.{Work}
@@ -63,7 +65,7 @@ determined same = equal-orders (ap roomsOf same)
 
 -- ---- what a yes says
 
--- nothing is refused, and the checker of chains says yes of the run's samples and breaks
+-- nothing is refused, the run is there and surveyed, its breaks fit, and the chain obeys the user's rule (chain/specs/Rule.antt)
 pub record Accepted (rooms : Rooms) (settings : Settings) (xs ys : List ℤ) (fs : List ℕ) (k : ℕ) (c : Given) : Type 0 where
   pub first : ℕ
   pub count : ℕ
@@ -73,7 +75,13 @@ pub record Accepted (rooms : Rooms) (settings : Settings) (xs ys : List ℤ) (fs
   pub run : numberedRun xs ys fs k ≡ Between first count
   pub survey : surveyOf (rooms .samples) (rooms .breaks) xs ys fs first count (gridOf settings) ≡ Survey.surveyed samples breaks
   pub room : length breaks ≤ answerRoom (rooms .answers) (rooms .links)
-  pub yes : checkRows samples breaks (penaltyOf settings) (c .starts) (c .ends) (c .xs) (c .ys) (c .score) ≡ Checked.Yes
+  pub valid : Valid samples breaks (penaltyOf settings) (c .starts) (c .ends) (c .xs) (c .ys) (c .score)
+
+-- the checker of chains says yes exactly of these
+obeys : (settings : Settings) (samples : List Sample) (breaks : Row) (c : Given) →
+    (checkRows samples breaks (penaltyOf settings) (c .starts) (c .ends) (c .xs) (c .ys) (c .score) ≡ Checked.Yes)
+    ↔ Valid samples breaks (penaltyOf settings) (c .starts) (c .ends) (c .xs) (c .ys) (c .score)
+obeys settings samples breaks c = valid-exactly samples breaks (penaltyOf settings) (c .starts) (c .ends) (c .xs) (c .ys) (c .score)
 
 abbrev half : Rooms → ℕ
 half rooms = answerRoom (rooms .answers) (rooms .links)
@@ -110,7 +118,7 @@ module _ (rooms : Rooms) (settings : Settings) (xs ys : List ℤ) (fs : List ℕ
         run = run;
         survey = survey;
         room = ltb-false (half rooms) (length breaks) (tested .0);
-        yes = yes-of _ (tested .1);
+        valid = obeys settings samples breaks c .0 (yes-of _ (tested .1));
       }
 
   run-yes : judged xs ys fs ≡ Judged.Fine → (r : Run) → numberedRun xs ys fs k ≡ r →
@@ -130,5 +138,7 @@ pub accepts-exactly : (xs ys : List ℤ) (fs : List ℕ) (settings : Settings) (
 unfolding checkOf
 accepts-exactly xs ys fs settings k c w = (
   judged-yes (roomsOf w) settings xs ys fs k c _ refl,
-  λ a. rw (a .fine, a .run, a .survey, le-ltb (half (roomsOf w)) (length (a .breaks)) (a .room), a .yes) refl,
+  λ a.
+      let yes = obeys settings (a .samples) (a .breaks) c .1 (a .valid) in
+      rw (a .fine, a .run, a .survey, le-ltb (half (roomsOf w)) (length (a .breaks)) (a .room), yes) refl,
 )
