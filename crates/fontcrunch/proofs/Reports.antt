@@ -2,11 +2,27 @@
 use Prim.Native.Nat.{ℕ}
 use mathlib.Core.Path.{_≡_, refl}
 use lib.Ieee as Ieee
-use lib.Ieee.{Float, binary64, toBits}
+use lib.Dec.{T}
+use lib.Ieee.{Float, binary64, toBits, fits}
+use lib.Ieee.Bits.{ofBits-fits}
 use Rattle.float.specs.Numbers.{nil}
+use Rattle.chains.specs.Entry as Chains
 use Rattle.chains.specs.declared.Chained as C
 use Rattle.chains.specs.declared.Chained.the-variants as Chained
 use Rattle.fontcrunch.specs.Exports.{chainReport}
+
+-- 0.0 is a double
+nil-fits : T (fits binary64 nil)
+nil-fits = ofBits-fits binary64 0
+
+pub refused-double : {c : C.Chained} {k : ℕ} → c ≡ Chained.Refused k → T (fits binary64 (Chains.report c .score))
+refused-double e = rw e nil-fits
+
+pub unchanged-double : {c : C.Chained} {p : ℕ} → c ≡ Chained.Unchanged p → T (fits binary64 (Chains.report c .score))
+unchanged-double e = rw e nil-fits
+
+pub pieces-double : {c : C.Chained} {n p : ℕ} {s : Float} → c ≡ Chained.Pieces n s p → T (fits binary64 s) → T (fits binary64 (Chains.report c .score))
+pieces-double e h = rw e h
 
 nil-bits : toBits binary64 nil ≡ 0
 unfolding Ieee.toBits Ieee.ofBits

@@ -14,7 +14,7 @@ use Rattle.chains.specs.Determine as ChainsOnce
 use Rattle.checks.specs.Checks.{Given}
 use Rattle.checks.specs.Entry as Checks
 use Rattle.checks.specs.Determine as ChecksOnce
-use Rattle.fontcrunch.specs.Exports.{crunchReport, chainReport, checkReport}
+use Rattle.fontcrunch.specs.Exports.{crunchReport, ChainShown, checkReport}
 use Rattle.fontcrunch.specs.declared.CrunchReport.{CrunchReport}
 use Rattle.fontcrunch.specs.declared.ChainReport.{ChainReport}
 use Rattle.fontcrunch.specs.declared.CheckReport.{CheckReport}
@@ -58,12 +58,12 @@ pub record ChainSame (r r' : ChainReport) (c c' : Chain) (w w' : Work) : Type 0 
   pub work : w ≡ w'
 
 pub chain-determined : {i : Inputs} {settings : Settings} {k : ℕ} {c c' : Chains.LentChain} {w w' : Scratch} {r r' : ChainReport} →
-    c .entry ≡ c' .entry → w .entry ≡ w' .entry → Shown chainReport (Chains.Promise i settings k c w) r →
-    Shown chainReport (Chains.Promise i settings k c' w') r' →
+    c .entry ≡ c' .entry → w .entry ≡ w' .entry → ChainShown (Chains.Promise i settings k c w) r →
+    ChainShown (Chains.Promise i settings k c' w') r' →
     ChainSame r r' (c .exit) (c' .exit) (w .exit) (w' .exit)
 chain-determined e f p q =
-    let same = ChainsOnce.determined e f (p .promise) (q .promise) in
-    record { report = shown-same p q (same .answer); rows = same .rows; work = same .work }
+    let same = ChainsOnce.determined e f (p .shown .promise) (q .shown .promise) in
+    record { report = shown-same (p .shown) (q .shown) (same .answer); rows = same .rows; work = same .work }
 
 pub record ChainEqual (r r' : ChainReport) (c c' : Chain) (w w' : Work) : Type 0 where
   pub report : r ≡ r'
@@ -73,11 +73,11 @@ pub record ChainEqual (r r' : ChainReport) (c c' : Chain) (w w' : Work) : Type 0
 
 pub chain-equal-orders : {i : Inputs} {settings : Settings} {k : ℕ} {c c' : Chains.LentChain} {w w' : Scratch} {r r' : ChainReport} →
     roomOf (c .entry) ≡ roomOf (c' .entry) → roomsOf (w .entry) ≡ roomsOf (w' .entry) →
-    Shown chainReport (Chains.Promise i settings k c w) r → Shown chainReport (Chains.Promise i settings k c' w') r' →
+    ChainShown (Chains.Promise i settings k c w) r → ChainShown (Chains.Promise i settings k c' w') r' →
     ChainEqual r r' (c .exit) (c' .exit) (w .exit) (w' .exit)
 chain-equal-orders room rooms p q =
-    let same = ChainsOnce.equal-orders room rooms (p .promise) (q .promise) in
-    record { report = shown-same p q (same .answer); written = rw (p .is) (same .places); work = same .work }
+    let same = ChainsOnce.equal-orders room rooms (p .shown .promise) (q .shown .promise) in
+    record { report = shown-same (p .shown) (q .shown) (same .answer); written = rw (p .shown .is) (same .places); work = same .work }
 
 -- ---- the checker's entry
 

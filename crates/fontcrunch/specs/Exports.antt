@@ -1,7 +1,9 @@
 -- The entries as C sees them: the reports in structs of numbers, the score by its bits. Definitions only.
 use Prim.Native.Nat.{ℕ}
 use mathlib.Core.Bool.{Bool, true, false}
-use lib.Ieee.{binary64, toBits}
+use lib.Dec.{T}
+use lib.Ieee.{binary64, toBits, fits}
+use Rattle.rows.specs.Lent.{Shown}
 use Rattle.crunch.specs.Entry as Crunch
 use Rattle.crunch.specs.declared.Crunched.{Crunched}
 use Rattle.chains.specs.Entry as Chains
@@ -30,3 +32,8 @@ bitOf false = 0
 
 abbrev pub checkReport : Verdict → CheckReport
 checkReport v = record { number = Checks.report v .number; accepted = bitOf (Checks.report v .accepted) }
+
+-- the chain export's contract: its entry's, of an answer that the report shows, and whose score is a double
+pub record ChainShown (Promise : Chained → Type 0) (r : ChainReport) : Type 0 where
+  pub shown : Shown chainReport Promise r
+  pub double : T (fits binary64 (Chains.report (shown .answer) .score))

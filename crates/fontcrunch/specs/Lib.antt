@@ -2,3 +2,4 @@ pub mod Exports
 pub mod Determine
 pub mod Accepted
 pub mod Table
+pub mod Handed

@@ -4,13 +4,15 @@ use chains::Chained;
 use checks::Verdict;
 use crunch::Crunched;
 ghost use mathlib.Core.Path.{_≡_};
+ghost use lib.Dec.{T};
+ghost use lib.Ieee.{binary64, fits};
 ghost use Rattle.rows.specs.Lent.{contour, Shown};
 ghost use Rattle.settings.specs.Settings.{crateSettings};
 ghost use Rattle.edition.specs.Scratch.{scratch};
 ghost use Rattle.crunch.specs.Entry as Crunch;
 ghost use Rattle.chains.specs.Entry as Chains;
 ghost use Rattle.checks.specs.Entry as Checks;
-ghost use Rattle.fontcrunch.specs.Exports.{crunchReport, chainReport, checkReport};
+ghost use Rattle.fontcrunch.specs.Exports.{crunchReport, chainReport, checkReport, ChainShown};
 
 // The number of a refusal, or 0; points written; pairs tried.
 #[repr(C)]
@@ -54,7 +56,8 @@ fn crunch_report(c: Crunched) -> CrunchReport
 }
 
 fn chain_report(c: Chained) -> ChainReport
-    ensures { λ r. ⌜ r ≡ chainReport c ⌝ }
+    ensures is { λ r. ⌜ r ≡ chainReport c ⌝ }
+    ensures double { λ r. ⌜ T (fits binary64 (Chains.report c .score)) ⌝ }
 {
     match c {
         Chained::Refused(k) => ChainReport {
@@ -144,7 +147,7 @@ pub extern "C" fn fontcrunch_chain(
     answers: &mut [[f64; 3]],
     links: &mut [u32],
 ) -> ChainReport
-    ensures { λ r. ⌜ Shown chainReport (Chains.Promise (contour xs ys flags) crateSettings k (Chains.chainIn starts ends cxs cys)
+    ensures { λ r. ⌜ ChainShown (Chains.Promise (contour xs ys flags) crateSettings k (Chains.chainIn starts ends cxs cys)
         (scratch samples breaks answers links)) r ⌝ }
 {
     chain_report(chains::chain_of_run(

@@ -33,7 +33,7 @@ same-length-8 : tie.Need-same-length-8
 same-length-8 c = c .before .before .before .before .before .before .before .before .before .before .before .before .before .before .chain-of-run .kept .1 .1 .1 .1 .1 .1 .1 .1 .1 .1 .1 .0
 
 returns : tie.Need-returns
-returns c = record { answer = _; is = c .chain-report .ensures; promise = c .before .before .before .before .before .before .before .before .before .before .before .before .before .before .chain-of-run .ensures }
+returns c = record { shown = record { answer = _; is = c .chain-report .ensures .0; promise = c .before .before .before .before .before .before .before .before .before .before .before .before .before .before .chain-of-run .ensures }; double = c .chain-report .ensures .1 }
 
 pub fontcrunch-chain-spec : {M : Type 1} → statement M
 fontcrunch-chain-spec =

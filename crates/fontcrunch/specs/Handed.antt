@@ -1,0 +1,64 @@
+-- Demand 3, for what C and Rust get: the first `pieces` places of the chain rows that the chain export leaves, with the score read back from its bits,
+-- handed to the check export with scratch rows of the same lengths: number 0, accepted 1. Assumes nothing.
+use Prim.Native.Nat.{ℕ, _<_}
+use native.Mathlib.Omega.{arith}
+use mathlib.Core.List.{List}
+use mathlib.Core.Path.{_≡_, refl, ap, subst, _∙_}
+use lib.Dec.{T}
+use lib.Ieee.{Float, binary64, ofBits, toBits, fits}
+use lib.Ieee.Bits.{ofBits-toBits}
+use lib.ListN.{length}
+use Rattle.rows.specs.Lent.{Inputs, Shown}
+use Rattle.settings.specs.declared.Settings.{Settings}
+use Rattle.edition.specs.Scratch.{Scratch, roomsOf}
+use Rattle.chains.specs.Chains.{Outcome, refused, unchanged, chained}
+use Rattle.chains.specs.Entry as Chains
+use Rattle.chains.specs.Determine.{placesOf}
+use Rattle.chains.specs.declared.Chained.{Chained}
+use Rattle.chains.specs.declared.Chained.the-variants as Chained
+use Rattle.chain.specs.declared.Piece.{Piece}
+use Rattle.checks.specs.Checks.{Given}
+use Rattle.checks.specs.Entry as Checks
+use Rattle.checks.specs.declared.Verdict.the-variants as Verdict
+use Rattle.fontcrunch.specs.Accepted.{givenBy, demand-three}
+use Rattle.fontcrunch.specs.Exports.{checkReport, ChainShown}
+use Rattle.fontcrunch.specs.declared.ChainReport.{ChainReport}
+use Rattle.fontcrunch.specs.declared.CheckReport.{CheckReport}
+
+-- what the checker's export says of them
+pub record Yes (v : CheckReport) : Type 0 where
+  pub number : v .number ≡ 0
+  pub accepted : v .accepted ≡ 1
+
+module _ {i : Inputs} {settings : Settings} {k : ℕ} {c : Chains.LentChain} {w w' : Scratch} {r : ChainReport} {v : CheckReport}
+    (said : ChainShown (Chains.Promise i settings k c w) r) (some : 0 < r .pieces) (same : roomsOf (w .entry) ≡ roomsOf (w' .entry))
+    (asked : Shown checkReport (Checks.Promise i settings k (givenBy (placesOf (r .pieces) (c .exit)) (ofBits binary64 (r .«score_bits»))) w') v) where
+  abbrev pub whole : Outcome
+  whole = Chains.wholeOf i settings k (c .entry) (w .entry)
+
+  pieces-are : (o : Outcome) → whole ≡ o → r .pieces ≡ Chains.report (Chains.answerOf o) .pieces
+  pieces-are o e =
+      ap (λ (x : ChainReport). x .pieces) (said .shown .is) ∙ ap (λ (a : Chained). Chains.report a .pieces) (said .shown .promise .answer ∙ ap Chains.answerOf e)
+
+  accepted-by : (ps : List Piece) (s : Float) (p : ℕ) → whole ≡ chained ps s p → asked .answer ≡ Verdict.Yes
+  accepted-by ps s p e =
+      let answer : said .shown .answer ≡ Chained.Pieces (length ps) s p = said .shown .promise .answer ∙ ap Chains.answerOf e in
+      let fit : T (fits binary64 s) = subst (λ (a : Chained). T (fits binary64 (Chains.report a .score))) answer (said .double) in
+      let bits : r .«score_bits» ≡ toBits binary64 s =
+      ap (λ (x : ChainReport). x .«score_bits») (said .shown .is) ∙ ap (λ (a : Chained). toBits binary64 (Chains.report a .score)) answer in
+      let score : ofBits binary64 (r .«score_bits») ≡ s = ap (ofBits binary64) bits ∙ ofBits-toBits binary64 s fit in
+      let given : givenBy (placesOf (r .pieces) (c .exit)) (ofBits binary64 (r .«score_bits»)) ≡ givenBy (placesOf (length ps) (Chains.rowsOf whole (c .entry))) s =
+      rw (pieces-are (chained ps s p) e, said .shown .promise .rows, score) refl in
+      asked .promise .verdict
+      ∙ ap (λ (g : Given). Checks.wholeOf i settings k g (w' .entry)) given
+      ∙ demand-three i settings k (c .entry) (w .entry) (w' .entry) ps s p same e
+
+  handed-by : (o : Outcome) → whole ≡ o → Yes v
+  handed-by (refused n) e = let none : r .pieces ≡ 0 = pieces-are (refused n) e in absurd (omega arith)
+  handed-by (unchanged p) e = let none : r .pieces ≡ 0 = pieces-are (unchanged p) e in absurd (omega arith)
+  handed-by (chained ps s p) e =
+      let shown : v ≡ checkReport Verdict.Yes = asked .is ∙ ap checkReport (accepted-by ps s p e) in
+      record { number = ap (λ (x : CheckReport). x .number) shown; accepted = ap (λ (x : CheckReport). x .accepted) shown }
+
+  pub handed-back : Yes v
+  handed-back = handed-by whole refl
