@@ -3,3 +3,4 @@ pub mod Determine
 pub mod Accepted
 pub mod Table
 pub mod Handed
+pub mod Wrong
