@@ -2,7 +2,7 @@
  * fontcrunch.h: crunch TrueType contours from C and C++.
  *
  * A contour comes in, and goes out with fewer quadratic pieces between its corners. The functions below are
- * proved to do what their definitions in crates/fontcrunch, crates/clean, crates/glyfread and
+ * proved to do what their definitions in crates/fontcrunch, crates/clean, crates/cubics, crates/glyfread and
  * crates/glyfwrite say, on every input that the rules on this page allow. They are in libfontcrunch.a, for
  * x86-64 Linux:
  *
@@ -123,6 +123,8 @@ enum {
     FONTCRUNCH_TOO_LARGE = 14,
     /* the glyph is composite */
     FONTCRUNCH_COMPOSITE = 15,
+    /* fontcrunch_from_cubics: a rounded point is outside 16 bits */
+    FONTCRUNCH_OUTSIDE_16_BITS = 17,
     /* fontcrunch_clean: there are more drops than list has places */
     FONTCRUNCH_LIST_TOO_SHORT = 18
 };
@@ -165,6 +167,11 @@ typedef struct PutReport {
     uint32_t number; /* of the refusal, or 0 */
     size_t points;   /* points written; 0 where refused */
 } PutReport;
+
+typedef struct CubicReport {
+    uint32_t number; /* of the refusal, or 0 */
+    size_t points;   /* points written; 0 where refused */
+} CubicReport;
 
 /*
  * Crunches a contour. Its points are written to the first places of ox, oy and of, and no other place of
@@ -264,6 +271,28 @@ PutReport fontcrunch_put_back(
     const int16_t *ys, size_t ys_len,
     const uint8_t *flags, size_t flags_len,
     const uint32_t (*list)[2], size_t list_len,
+    int16_t *ox, size_t ox_len,
+    int16_t *oy, size_t oy_len,
+    uint8_t *of, size_t of_len);
+
+/*
+ * Makes quads of a contour of cubics. Its off-curve points stand in pairs, the two controls of a cubic; a last
+ * pair leads back to the start. A cubic is halved until each coordinate of its third difference, p3 - 3 p2 +
+ * 3 p1 - p0, is at most 8 in size; then it is the quad with the control (3 p1 + 3 p2 - p0 - p3) / 4. Each point
+ * is rounded once, halves away from zero. The points are written to the first places of ox, oy and of, in
+ * order; no other place is touched. After a last pair the start is not written again, so that the row ends
+ * off-curve.
+ *
+ * Refused by 1, 2 and 4; by 5, a stretch of off-curve points that is not two long; by 3, more than
+ * FONTCRUNCH_POINTS_IN points after replacement; by 17; last by 9, an output row too short. A refusal writes
+ * nothing. Rows of FONTCRUNCH_POINTS_IN places always suffice. No scratch is needed.
+ *
+ * What is written is refused by none of 1 to 5 by the other functions.
+ */
+CubicReport fontcrunch_from_cubics(
+    const int16_t *xs, size_t xs_len,
+    const int16_t *ys, size_t ys_len,
+    const uint8_t *flags, size_t flags_len,
     int16_t *ox, size_t ox_len,
     int16_t *oy, size_t oy_len,
     uint8_t *of, size_t of_len);

@@ -1,10 +1,11 @@
-//! The library's entries, each called in one place: those for crunching here, those for cleaning in `cleaning`.
+//! The library's entries, each called in one place: those for crunching here, the others in `cleaning` and `cubics`.
 //!
 //! The entries ask only that a row that is written overlaps no other, and that pointers are aligned and not
 //! null. Rust's slices are so, empty ones too, and those lent by `&mut` are apart from all others. So these
 //! functions are safe for every row: of what is in it, and how long it is, nothing is asked.
 
 pub(crate) mod cleaning;
+pub(crate) mod cubics;
 
 use crate::rows::{ChainRows, Contour, Output, Scratch};
 

@@ -33,6 +33,10 @@
 //! Old uploads hold repeated points, which make needless corners. [`clean`] drops them and lists each with why;
 //! [`put_back`] gives the upload's points again.
 //!
+//! # Cubics
+//!
+//! [`from_cubics`] makes quads of a contour of cubics, whose off-curve points stand in pairs.
+//!
 //! # Linking
 //!
 //! `tools/library`, run at the repository's top, writes the library where this crate looks for
@@ -43,6 +47,7 @@
 
 mod cleaning;
 mod cruncher;
+mod cubics;
 mod entries;
 pub mod glyph;
 mod refusal;
@@ -50,5 +55,6 @@ mod rows;
 
 pub use cleaning::{clean, put_back, Cleaned, Dropped, Why};
 pub use cruncher::{Chain, Crunched, Cruncher, Piece, Point};
+pub use cubics::from_cubics;
 pub use refusal::Refusal;
 pub use rows::{ANSWER_ROOM, BREAK_ROOM, MOST_PIECES, MOST_POINTS_IN, SAMPLE_ROOM, USUAL_POINT_ROOM};

@@ -18,7 +18,8 @@ pub enum Refusal {
     TooManyPoints,
     /// 4: the first point is off-curve.
     StartsOffCurve,
-    /// 5: two neighbours are both off-curve. The last point and the first are no neighbours.
+    /// 5: two neighbours are both off-curve. The last point and the first are no neighbours. Of cubics: a stretch
+    /// of off-curve points is not two long.
     OffCurveNeighbours,
     /// 6: a run needs more than [`SAMPLE_ROOM`](crate::SAMPLE_ROOM) samples.
     TooManySamples,
@@ -40,6 +41,8 @@ pub enum Refusal {
     TooLarge,
     /// 15: the glyph is composite.
     Composite,
+    /// 17: a rounded point is outside 16 bits; cubics only.
+    Outside16Bits,
     /// 18: there are more drops than the list has places. This crate's functions always lend enough.
     ListTooShort,
     /// A number that this crate has no name for: the library is newer than the crate.
@@ -64,6 +67,7 @@ impl Refusal {
             Refusal::EndsNotRising => 13,
             Refusal::TooLarge => 14,
             Refusal::Composite => 15,
+            Refusal::Outside16Bits => 17,
             Refusal::ListTooShort => 18,
             Refusal::Other(number) => number,
         }
@@ -87,6 +91,7 @@ impl Refusal {
             13 => Refusal::EndsNotRising,
             14 => Refusal::TooLarge,
             15 => Refusal::Composite,
+            17 => Refusal::Outside16Bits,
             18 => Refusal::ListTooShort,
             other => Refusal::Other(other),
         })
@@ -99,7 +104,7 @@ impl Refusal {
             Refusal::TooManyPoints => "the contour has more than 1,024 points",
             Refusal::StartsOffCurve => "the first point is off-curve; start with an on-curve one",
             Refusal::OffCurveNeighbours => {
-                "two neighbouring points are off-curve; write out the implied point between them"
+                "off-curve points stand together; write out the implied point between two (cubics: pairs alone)"
             }
             Refusal::TooManySamples => {
                 "a run between two corners is too long: it needs more than 16,384 samples, one a unit"
@@ -118,6 +123,7 @@ impl Refusal {
             Refusal::EndsNotRising => "the ends of the glyph's contours do not rise",
             Refusal::TooLarge => "a coordinate, a difference or a count is too large for its field",
             Refusal::Composite => "the glyph is composite",
+            Refusal::Outside16Bits => "a point of the quads is outside -32768 and 32767",
             Refusal::ListTooShort => "there are more dropped points than the list has places",
             Refusal::Other(_) => "the library gives a reason that this version has no words for",
         }

@@ -37,9 +37,20 @@ impl Contour {
         rows
     }
 
+    /// Every point: a contour of cubics may have more than [`MOST_POINTS_IN`].
+    pub fn whole(points: &[Point]) -> Contour {
+        let mut rows = Contour::default();
+        rows.extend(points);
+        rows
+    }
+
     pub fn take(&mut self, points: &[Point]) {
         self.clear();
-        for point in points.iter().take(MOST_POINTS_IN + 1) {
+        self.extend(&points[..points.len().min(MOST_POINTS_IN + 1)]);
+    }
+
+    fn extend(&mut self, points: &[Point]) {
+        for point in points {
             self.xs.push(point.x);
             self.ys.push(point.y);
             self.flags.push(u8::from(point.on_curve));
@@ -91,7 +102,7 @@ impl Output {
     }
 }
 
-/// The points that come out of cleaning.
+/// The points that come out of cleaning, and of cubics.
 pub(crate) struct PointRows {
     pub xs: Box<[i16]>,
     pub ys: Box<[i16]>,

@@ -16,3 +16,4 @@ mod Exact
 pub mod Downward
 mod Nearest
 mod Values
+pub mod Dyadic

@@ -4,3 +4,4 @@ pub mod Steps
 pub mod Rounding
 pub mod Worked
 pub mod Decimals
+pub mod Dyadic

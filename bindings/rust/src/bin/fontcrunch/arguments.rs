@@ -29,12 +29,17 @@ pub enum Tool {
         /// and then crunch
         crunch: bool,
     },
+    Cubic {
+        /// and then crunch
+        crunch: bool,
+    },
 }
 
 impl Tool {
     fn named(word: &OsStr) -> Option<Tool> {
         match word.to_str() {
             Some("clean") => Some(Tool::Clean { crunch: false }),
+            Some("cubic") => Some(Tool::Cubic { crunch: false }),
             _ => None,
         }
     }
@@ -80,8 +85,8 @@ pub fn read(words: impl IntoIterator<Item = OsString>) -> Result<Request, String
 impl Job {
     fn then_crunch(&mut self) -> Result<(), String> {
         match &mut self.tool {
-            Tool::Clean { crunch } => *crunch = true,
-            Tool::Crunch => return Err("--crunch is an option of clean".to_owned()),
+            Tool::Clean { crunch } | Tool::Cubic { crunch } => *crunch = true,
+            Tool::Crunch => return Err("--crunch is an option of clean and cubic".to_owned()),
         }
         Ok(())
     }
@@ -108,8 +113,11 @@ pub fn version() -> String {
 
 pub fn help() -> String {
     // 1 and 10 cannot be met by whole contours on lines
-    let refusals: String =
-        (2..=9).filter_map(Refusal::from_number).map(|refusal| format!("  {refusal}\n")).collect();
+    let refusals: String = (2..=9)
+        .chain([17])
+        .filter_map(Refusal::from_number)
+        .map(|refusal| format!("  {refusal}\n"))
+        .collect();
     format!("{USAGE}\nRefusals:\n{refusals}\n{STATUS}")
 }
 
@@ -119,11 +127,14 @@ Crunches TrueType contours: puts fewer quadratic pieces between their corners.
 usage: fontcrunch [--svg PICTURE] [FILE...]
        fontcrunch glyph read|write    glyph descriptions; see fontcrunch glyph --help
        fontcrunch clean [--crunch] [FILE...]
+       fontcrunch cubic [--crunch] [FILE...]
 
 FILE           contours, one a line; standard input where there is none, or for -
 --svg PICTURE  draws each contour before and after, to a file
 clean          drops repeated points instead; a file of that name is ./clean
---crunch       cleans, then crunches what is left
+cubic          makes quads of cubics instead: off-curve points stand in pairs, and
+               a last pair leads back to the start
+--crunch       cleans, or makes quads, then crunches what is left
 --help         this text
 --version      the version
 
@@ -141,6 +152,7 @@ A line out, for each line in:
                       counted from 0, in the order of dropping; why is before (equal
                       to the on-curve point before it), both (off-curve, equal to both
                       neighbours) or first (last, and equal to the first)
+  ok x y f ...        cubic: the points of the quads, in order
   malformed           the line is no such list, or has more than 65536 bytes; what
                       is wrong goes to standard error
 ";
@@ -181,7 +193,8 @@ mod tests {
 
     #[test]
     fn cleaning() {
-        let cleaned = |inputs, crunch| Ok(Request::Crunch(Job { tool: Tool::Clean { crunch }, inputs, picture: None }));
+        let cleaned =
+            |inputs, crunch| Ok(Request::Crunch(Job { tool: Tool::Clean { crunch }, inputs, picture: None }));
         assert_eq!(asked(&["clean"]), cleaned(vec![Input::Standard], false));
         assert_eq!(asked(&["clean", "--crunch", "a"]), cleaned(vec![file("a")], true));
         assert_eq!(asked(&["clean", "clean"]), cleaned(vec![file("clean")], false));
@@ -190,6 +203,15 @@ mod tests {
         assert_eq!(asked(&["--", "clean"]), job(vec![file("clean")], None));
         assert!(asked(&["--crunch"]).unwrap_err().contains("option of clean"));
         assert!(asked(&["clean", "--svg", "p"]).unwrap_err().contains("--svg"));
+    }
+
+    #[test]
+    fn cubics() {
+        let made =
+            |inputs, crunch| Ok(Request::Crunch(Job { tool: Tool::Cubic { crunch }, inputs, picture: None }));
+        assert_eq!(asked(&["cubic"]), made(vec![Input::Standard], false));
+        assert_eq!(asked(&["cubic", "a", "--crunch"]), made(vec![file("a")], true));
+        assert_eq!(asked(&["a", "cubic"]), job(vec![file("a"), file("cubic")], None));
     }
 
     #[test]
@@ -205,7 +227,7 @@ mod tests {
     fn help_tells_every_refusal_that_can_be_met() {
         assert_eq!(asked(&["a", "--help"]), Ok(Request::Help));
         assert_eq!(asked(&["--version"]), Ok(Request::Version));
-        for number in 2..=9 {
+        for number in (2..=9).chain([17]) {
             assert!(help().contains(&format!("refused {number}: ")));
         }
     }

@@ -3,6 +3,7 @@
 mod arguments;
 mod cleaning;
 mod contour_line;
+mod cubics;
 mod glyph;
 mod picture;
 mod service;

@@ -9,6 +9,7 @@ use fontcrunch::{Crunched, Cruncher, Point, Refusal};
 use crate::arguments::{Input, Job, Tool};
 use crate::cleaning;
 use crate::contour_line;
+use crate::cubics;
 use crate::picture::Picture;
 use crate::stream::{Lines, Stopped};
 
@@ -119,6 +120,8 @@ impl<W: Write> Service<W> {
             Tool::Crunch => self.crunch(source, points),
             Tool::Clean { crunch: false } => cleaning::clean(points),
             Tool::Clean { crunch: true } => cleaning::clean_and_crunch(&mut self.cruncher, points),
+            Tool::Cubic { crunch: false } => cubics::cubic(points),
+            Tool::Cubic { crunch: true } => cubics::cubic_and_crunch(&mut self.cruncher, points),
         };
         match answer {
             Ok(text) => writeln!(self.answers, "{text}"),

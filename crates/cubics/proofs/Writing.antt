@@ -1,0 +1,62 @@
+-- What comes of the points that are made: refused, or written out. Assumes nothing.
+use Prim.Native.Nat.{ℕ, _≤_, _<_}
+use mathlib.Core.Bool.{true, false}
+use mathlib.Core.List.{map}
+use mathlib.Core.Path.{_≡_, refl, sym, ap, _∙_}
+use borrow.Author.Tests.{lt-ltb, le-ltb}
+use lib.ListN.{length, take, length-map}
+use denote.Triple.Both.{Both}
+use Rattle.refusals.specs.declared.Judged.{Judged}
+use Rattle.refusals.specs.declared.Judged.the-variants as Judged
+use Rattle.rows.specs.Lent.{Inputs}
+use Rattle.contour.specs.Points.{Points}
+use Rattle.contour.specs.Output.{Outputs, given}
+use Rattle.contour.specs.Laws.{wrote-over, wrote-all, holds-count}
+use Rattle.cubics.specs.Making.{stored, MadeOf}
+use Rattle.cubics.specs.Entry.{roomOf, judgedOf, pointsOf, WrittenOut, Promise}
+use Rattle.cubics.specs.declared.Made.{Made}
+use Rattle.cubics.specs.declared.Replaced as D
+use Rattle.cubics.specs.declared.Replaced.the-variants.{Refused, Quads}
+use Rattle.cubics.proofs.Making.{all-kept}
+
+module _ (ps : Points) {row : Points} {m : Made} (made : MadeOf 1024 row m ps) where
+  pub too-many : m .over ≡ true → 1024 < length ps
+  too-many h = rw (length-map ps stored) at (wrote-over 1024 (map stored ps) (made .wrote) h)
+
+  pub few-enough : m .over ≡ false → length ps ≤ 1024
+  few-enough h = rw (length-map ps stored) at (wrote-all 1024 (map stored ps) (made .wrote) h .1)
+
+  pub counted : m .over ≡ false → length ps ≡ m .count
+  counted h = sym (length-map ps stored) ∙ holds-count (wrote-all 1024 (map stored ps) (made .wrote) h .0)
+
+  pub held : m .over ≡ false → m .far ≡ false → take (m .count) row ≡ ps
+  held h f = wrote-all 1024 (map stored ps) (made .wrote) h .0 .are ∙ all-kept ps (sym (made .far) ∙ f)
+
+  module _ (o : Outputs) where
+    pub over-refused : m .over ≡ true → WrittenOut ps (record { entry = o; exit = o }) (Refused 3)
+    over-refused h = record { answer = rw (lt-ltb 1024 (length ps) (too-many h)); left = refl }
+
+    pub far-refused : m .over ≡ false → m .far ≡ true → WrittenOut ps (record { entry = o; exit = o }) (Refused 17)
+    far-refused h f = record { answer = rw (le-ltb 1024 (length ps) (few-enough h), ← made .far, f); left = refl }
+
+    pub short-refused : {n : ℕ} → m .over ≡ false → m .far ≡ false → n ≡ roomOf o → n < m .count → WrittenOut ps (record { entry = o; exit = o }) (Refused 9)
+    short-refused {n} h f room short =
+        let less : roomOf o < length ps = rw (counted h, ← room) short in
+        record { answer = rw (le-ltb 1024 (length ps) (few-enough h), ← made .far, f, lt-ltb (roomOf o) (length ps) less); left = refl }
+
+    pub all-written : {n : ℕ} {o′ : Outputs} → m .over ≡ false → m .far ≡ false → n ≡ roomOf o → m .count ≤ n → o′ ≡ given (take (m .count) row) o →
+        WrittenOut ps (record { entry = o; exit = o′ }) (Quads (m .count))
+    all-written {n} h f room fits written =
+        let more : length ps ≤ roomOf o = rw (counted h, ← room) fits in
+        record {
+          answer = rw (le-ltb 1024 (length ps) (few-enough h), ← made .far, f, le-ltb (roomOf o) (length ps) more, counted h);
+          left = written ∙ ap (λ (q : Points). given q o) (held h f);
+        }
+
+-- ---- 1, 2, 4 and 5 first
+
+pub refused-first : (i : Inputs) (o : Outputs) {j : Judged} {k : ℕ} → j ≡ judgedOf i → j ≡ Judged.Refused k → Promise i (record { entry = o; exit = o }) (Refused k)
+refused-first i o is h = record { answer = rw (← is, h); left = refl }
+
+pub after-judging : (i : Inputs) {w : Both Outputs Outputs} {j : Judged} {r : D.Replaced} → j ≡ judgedOf i → j ≡ Judged.Fine → WrittenOut (pointsOf i) w r → Promise i w r
+after-judging i is h written = record { answer = rw (← is, h) (written .answer); left = written .left }

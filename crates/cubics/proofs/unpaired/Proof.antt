@@ -1,0 +1,15 @@
+-- `cubics::unpaired` meets its contract. Assumes nothing.
+use borrow.Author.Tests.{eq-eqb, ne-eqb}
+use Rattle.cubics.proofs.unpaired.Statement.{statement}
+use Rattle.cubics.proofs.unpaired.Tie as tie
+use Rattle.cubics.proofs.unpaired.Reads as reads
+use Rattle.cubics.proofs.unpaired.Lts as lts
+
+returns : tie.Need-returns
+returns c = rw (eq-eqb (c .before .args .n) 0 (c .if1 .taken))
+
+returns-2 : tie.Need-returns-2
+returns-2 c = rw (ne-eqb (c .before .args .n) 0 (c .if1 .left))
+
+pub unpaired-spec : {M : Type 1} → statement M
+unpaired-spec = tie.close (tie.spec returns returns-2)

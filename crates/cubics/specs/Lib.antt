@@ -1,0 +1,5 @@
+pub mod Replacing
+pub mod Making
+pub mod Refusing
+pub mod Entry
+pub mod Determine

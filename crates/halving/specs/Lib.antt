@@ -1,0 +1,4 @@
+pub mod Exact
+pub mod Cubic
+pub mod Steps
+pub mod Depth
