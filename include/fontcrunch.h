@@ -2,9 +2,8 @@
  * fontcrunch.h: crunch TrueType contours from C and C++.
  *
  * A contour comes in, and goes out with fewer quadratic pieces between its corners. The functions below are
- * proved to do what their definitions in crates/fontcrunch, crates/clean, crates/cubics, crates/glyfread and
- * crates/glyfwrite say, on every input that the rules on this page allow. They are in libfontcrunch.a, for
- * x86-64 Linux:
+ * proved to do what their definitions in crates/fontcrunch, clean, why, cubics, glyfread and glyfwrite say, on
+ * every input that the rules on this page allow. They are in libfontcrunch.a, for x86-64 Linux:
  *
  *     tools/library                                writes build/libfontcrunch.a
  *     cc -Iinclude program.c -Lbuild -lfontcrunch
@@ -89,7 +88,7 @@ extern "C" {
 #define FONTCRUNCH_POINTS_OUT 16384
 
 /* The number in every report: 0, or why nothing was done. Where several hold, 1 to 5 are tested first, in
-   this order; then 10; then runs are worked in order and the first 6, 7 or 8 met is given; 9 comes last. */
+   this order; then 10 or 11; then runs are worked in order and the first 6, 7 or 8 met is given; 9 comes last. */
 enum {
     FONTCRUNCH_OK = 0,
     /* xs, ys and flags differ in length */
@@ -114,6 +113,8 @@ enum {
     FONTCRUNCH_OUTPUT_TOO_SHORT = 9,
     /* fontcrunch_chain and fontcrunch_check: there is no such run, or it is one copied line */
     FONTCRUNCH_NO_SUCH_RUN = 10,
+    /* fontcrunch_why: the index is not below the number of segments */
+    FONTCRUNCH_NO_SUCH_SEGMENT = 11,
     /* a glyph description ends too soon, or its point rows are shorter than the last end says */
     FONTCRUNCH_CUT_SHORT = 12,
     /* the ends of a glyph's contours do not rise; equal ones do not */
@@ -137,6 +138,18 @@ enum {
     FONTCRUNCH_FOR_BOTH = 2,
     /* a last on-curve point equal to the first point */
     FONTCRUNCH_FOR_FIRST = 3
+};
+
+/* Why a segment starts at a corner: a bit for each reason. */
+enum {
+    /* a sign turn in x, in y: the product was negative in either of the two rounds */
+    FONTCRUNCH_TURN_X = 1,
+    FONTCRUNCH_TURN_Y = 2,
+    /* a zero tangent before, a zero tangent after */
+    FONTCRUNCH_ZERO_BEFORE = 4,
+    FONTCRUNCH_ZERO_AFTER = 8,
+    /* an angle; it never stands beside a zero tangent */
+    FONTCRUNCH_ANGLE = 16
 };
 
 typedef struct CrunchReport {
@@ -172,6 +185,11 @@ typedef struct CubicReport {
     uint32_t number; /* of the refusal, or 0 */
     size_t points;   /* points written; 0 where refused */
 } CubicReport;
+
+typedef struct WhyReport {
+    uint32_t number;  /* of the refusal, or 0 */
+    uint32_t reasons; /* a bit for each that holds; 0 where there is none, or where refused */
+} WhyReport;
 
 /*
  * Crunches a contour. Its points are written to the first places of ox, oy and of, and no other place of
@@ -296,6 +314,18 @@ CubicReport fontcrunch_from_cubics(
     int16_t *ox, size_t ox_len,
     int16_t *oy, size_t oy_len,
     uint8_t *of, size_t of_len);
+
+/*
+ * Why segment k of a contour, counted from 0, starts at a corner: all reasons that hold. It is a corner exactly
+ * when there is one. A contour has a segment for each on-curve point.
+ *
+ * Refused by 1 to 5, then by 11. Nothing is written, and no scratch is needed.
+ */
+WhyReport fontcrunch_why(
+    const int16_t *xs, size_t xs_len,
+    const int16_t *ys, size_t ys_len,
+    const uint8_t *flags, size_t flags_len,
+    size_t k);
 
 /* The score of a chain. All NaNs have one bit pattern in a report. */
 static inline double fontcrunch_score(ChainReport report)

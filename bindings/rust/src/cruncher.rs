@@ -3,6 +3,7 @@
 use std::fmt;
 
 use crate::entries;
+use crate::reasons::Reasons;
 use crate::refusal::Refusal;
 use crate::rows::{ChainRows, Contour, Output, Scratch};
 use crate::rows::{MOST_PIECES, USUAL_POINT_ROOM};
@@ -122,6 +123,18 @@ impl Cruncher {
         let report = entries::check(&self.contour, run, &self.chain, chain.score, &mut self.scratch);
         unless_refused(report.number)?;
         Ok(report.accepted != 0)
+    }
+
+    /// Why the segment of that index, counted from 0, starts at a corner: all reasons that hold. Where there is
+    /// none, it does not. A contour has a segment for each on-curve point.
+    ///
+    /// Refused by 1 to 5, then by 11 where there is no segment of that index. No other refusal is given, since
+    /// no run is worked.
+    pub fn why(&mut self, points: &[Point], index: usize) -> Result<Reasons, Refusal> {
+        self.take_contour(points);
+        let report = entries::reasons::why(&self.contour, index);
+        unless_refused(report.number)?;
+        Ok(Reasons::of_bits(report.reasons))
     }
 
     fn take_contour(&mut self, points: &[Point]) {

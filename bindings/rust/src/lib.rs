@@ -28,6 +28,8 @@
 //! [`Chain`] of a run leads over pieces from its first break to its last. Anyone can have a chain checked
 //! with [`Cruncher::check`], which measures it anew and seeks nothing.
 //!
+//! [`Cruncher::why`] tells which tests make the start of a segment a corner.
+//!
 //! # Cleaning
 //!
 //! Old uploads hold repeated points, which make needless corners. [`clean`] drops them and lists each with why;
@@ -50,11 +52,13 @@ mod cruncher;
 mod cubics;
 mod entries;
 pub mod glyph;
+mod reasons;
 mod refusal;
 mod rows;
 
 pub use cleaning::{clean, put_back, Cleaned, Dropped, Why};
 pub use cruncher::{Chain, Crunched, Cruncher, Piece, Point};
 pub use cubics::from_cubics;
+pub use reasons::Reasons;
 pub use refusal::Refusal;
 pub use rows::{ANSWER_ROOM, BREAK_ROOM, MOST_PIECES, MOST_POINTS_IN, SAMPLE_ROOM, USUAL_POINT_ROOM};

@@ -5,7 +5,7 @@ use std::fmt;
 
 /// Why a contour, or a run of it, is refused.
 ///
-/// Where several reasons hold, 1 to 5 are tested first, in that order; then 10; then runs are worked in
+/// Where several reasons hold, 1 to 5 are tested first, in that order; then 10 or 11; then runs are worked in
 /// order, and the first 6, 7 or 8 met is given; 9 comes last.
 #[derive(Clone, Copy, Debug, PartialEq, Eq, Hash)]
 #[non_exhaustive]
@@ -32,6 +32,8 @@ pub enum Refusal {
     OutputTooShort,
     /// 10: there is no such run, or it is one copied line.
     NoSuchRun,
+    /// 11: the index is not below the number of segments.
+    NoSuchSegment,
     /// 12: a glyph description ends too soon, or there are fewer points than the last end says.
     CutShort,
     /// 13: the ends of a glyph's contours do not rise.
@@ -63,6 +65,7 @@ impl Refusal {
             Refusal::PastLastSample => 8,
             Refusal::OutputTooShort => 9,
             Refusal::NoSuchRun => 10,
+            Refusal::NoSuchSegment => 11,
             Refusal::CutShort => 12,
             Refusal::EndsNotRising => 13,
             Refusal::TooLarge => 14,
@@ -87,6 +90,7 @@ impl Refusal {
             8 => Refusal::PastLastSample,
             9 => Refusal::OutputTooShort,
             10 => Refusal::NoSuchRun,
+            11 => Refusal::NoSuchSegment,
             12 => Refusal::CutShort,
             13 => Refusal::EndsNotRising,
             14 => Refusal::TooLarge,
@@ -117,6 +121,7 @@ impl Refusal {
             }
             Refusal::OutputTooShort => "the result has more points than there is room for",
             Refusal::NoSuchRun => "there is no such run, or it is one line, which is copied",
+            Refusal::NoSuchSegment => "there is no such segment: the index is not below their number",
             Refusal::CutShort => {
                 "the glyph description ends too soon, or there are fewer points than the last end says"
             }
@@ -151,12 +156,13 @@ mod tests {
         assert_eq!(Refusal::from_number(0), None);
         assert_eq!(Refusal::from_number(3), Some(Refusal::TooManyPoints));
         assert_eq!(Refusal::from_number(10), Some(Refusal::NoSuchRun));
-        assert_eq!(Refusal::from_number(11), Some(Refusal::Other(11)));
+        assert_eq!(Refusal::from_number(11), Some(Refusal::NoSuchSegment));
+        assert_eq!(Refusal::from_number(99), Some(Refusal::Other(99)));
     }
 
     #[test]
     fn each_says_its_number_and_a_reason_of_its_own() {
-        let numbers = (1..=10).chain(12..=16);
+        let numbers = 1..=16;
         let said: Vec<String> =
             numbers.clone().map(|n| Refusal::from_number(n).unwrap().to_string()).collect();
         for (number, text) in numbers.zip(&said) {

@@ -322,3 +322,35 @@ fn an_input_is_not_drawn_over() {
     assert_eq!(output.status.code(), Some(2));
     assert_eq!(fs::read_to_string(&input).unwrap(), "7 9 1\n");
 }
+
+// ---- why
+
+#[test]
+fn why_each_segment_is_a_corner() {
+    let said = run(&["why"], b"0 0 1 0 1 1\n7 9 1\n0 0 1 0 1 1 1 1 1 2 0 1\n0 0 1 10 10 0\n\n0 0 0\nx\n");
+    let lines = [
+        "ok 2 0:y 1:y",
+        "ok 1 0:before,after",
+        "ok 4 0:angle 1:x,angle 2:y,angle 3:x,angle",
+        "ok 1 0:",
+        "refused 2",
+        "refused 4",
+        "malformed",
+    ];
+    assert_eq!(text(&said.stdout), lines.join("\n") + "\n");
+    assert_eq!(said.status.code(), Some(2));
+}
+
+#[test]
+fn why_one_segment_is_a_corner() {
+    let said = run(
+        &["why", "--index"],
+        b"0 7 9 1\n0 0 0 1 10 10 0\n2 0 0 1 0 1 1 1 1 1 2 0 1\n1 7 9 1\n9 0 0 0\n0\n",
+    );
+    assert_eq!(
+        text(&said.stdout),
+        "ok before,after\nok none\nok y,angle\nrefused 11\nrefused 4\nrefused 2\n"
+    );
+    assert_eq!(said.status.code(), Some(1));
+    assert!(text(&said.stderr).contains("(standard input):4: refused 11: "));
+}

@@ -1,7 +1,7 @@
--- What the proofs share. From `Values` on: theorems on the definitions, for a reader, which no proof of a function uses.
+-- What the proofs share; those that are `pub`, with other crates too. From `Values` on: theorems on the definitions, for a reader, which no proof of a function uses.
 mod Laws
-mod Rounds
+pub mod Rounds
 mod Values
-mod Reasons
-mod Whole
+pub mod Reasons
+pub mod Whole
 mod Outline

@@ -60,6 +60,19 @@ unmarked zero k = refl
 unmarked (suc n) zero = refl
 unmarked (suc n) (suc k) = unmarked n k
 
+-- tests that mark from no mark on: one alone, and two one after the other
+module _ (m n k : ℕ) (h : k < m) (l : k < n) where
+  none-length : k < length (none n)
+  none-length = rw length-replicate l
+
+  pub marked-when : (test : ℕ → Bool) → at (marked test m (none n)) k ≡ test k
+  marked-when test = tested test (none n) m k h none-length ∙ rw (getD-replicate n k false false l)
+
+  pub twice-when : (first second : ℕ → Bool) → at (marked second m (marked first m (none n))) k ≡ (first k || second k)
+  twice-when first second =
+      let long : k < length (marked first m (none n)) = rw marked-length none-length in
+      tested second (marked first m (none n)) m k h long ∙ ap (λ (b : Bool). b || second k) (marked-when first)
+
 module _ (xs ys : List ℤ) (fs : List ℕ) (n k : ℕ) where
   pub corner-when : k < countOf fs → k < n →
       at (cornersOf xs ys fs n) k ≡ (turnAt xs ys fs origin k || turnAt xs ys fs (afterFirst xs ys fs) k || tangentAt xs ys fs (countOf fs) k)

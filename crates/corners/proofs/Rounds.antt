@@ -28,11 +28,11 @@ unfolding marked
 marked-none test marks = refl
 
 module _ (xs ys : List ℤ) (fs : List ℕ) (s : Point) where
-  state-more : (k : ℕ) → stateAt xs ys fs s (k + 1) ≡ afterTurn (turnAt xs ys fs s k) (stateAt xs ys fs s k) (chordAt xs ys fs k)
+  pub state-more : (k : ℕ) → stateAt xs ys fs s (k + 1) ≡ afterTurn (turnAt xs ys fs s k) (stateAt xs ys fs s k) (chordAt xs ys fs k)
   unfolding stateAt
   state-more k = rw add-one
 
-  state-none : s ≡ stateAt xs ys fs s 0
+  pub state-none : s ≡ stateAt xs ys fs s 0
   unfolding stateAt
   state-none = refl
 

@@ -3,18 +3,19 @@
 -- a reader: no proof of a function uses it. Assumes nothing.
 use Prim.Native.Nat.{ℕ, _+_, _-_, _*_, _^_, _≤_, _<_}
 use mathlib.Core.Bool.{Bool, true, false, not, true≢false}
-use mathlib.Core.Path.{_≡_, sym, ap, _∙_}
-use native.Mathlib.Nat.{mul-one, mul-mul-mul-comm, mul-pos, add-mul, mul-le-mul}
+use mathlib.Core.Path.{_≡_, refl, sym, ap, _∙_}
+use native.Mathlib.Nat.{le-refl, mul-one, mul-mul-mul-comm, mul-pos, add-mul, mul-le-mul}
 use native.Mathlib.Omega.{arith}
 use lib.Dec.{lit≤}
-use lib.IntN.{ℤ, pos, natAbs, _-ℤ_}
-use lib.Ieee.{Float, fin, binary64, up, down, unlike, round, sum, add, sub, mul, ofInt}
+use lib.IntN.{ℤ, pos, natAbs, _-ℤ_, +ℤ-idr}
+use lib.Ieee.{Float, fin, binary64, up, down, unlike, round, sum, add, sub, mul, ofInt, ofBits}
 use lib.Ieee.Exact.{HasValue}
 use lib.Ieee.Fits.{down-pos, round-fits, add-fits}
 use lib.Ieee.Back.{round-whole, whole-unique}
+use Rattle.float.specs.Numbers.{nil}
 use Rattle.float.specs.Float.{rootOf}
-use Rattle.float.specs.Dyadic.{Exact}
-use Rattle.float.proofs.Dyadic.{round-unit, left, right, size-of, sub-exact, whole-exact}
+use Rattle.float.specs.Dyadic.{Exact, signed}
+use Rattle.float.proofs.Dyadic.{round-unit, left, right, size-signed, size-of, sub-exact, whole-exact}
 use Rattle.geometry.specs.declared.Point.{Point}
 use Rattle.geometry.specs.Geometry.{squares, normOf}
 use Rattle.corners.specs.Segments.{step}
@@ -62,6 +63,19 @@ module _ (u v : ℤ) (hu : natAbs u ≤ 2 ^ 15) (hv : natAbs v ≤ 2 ^ 15) where
 
   pub step-small : natAbs (u -ℤ v) < 2 ^ 17
   step-small = rw (← size-of exact) (omega (arith, exact .small))
+
+-- less 0 a whole number has its own size
+pub minus-nil : (x : Float) (a : ℕ) → Whole x a → a < 2 ^ 53 → Whole (sub binary64 x nil) a
+minus-nil x a v small =
+    let own : Exact x (signed (v .sign) a) 0 a = record { sign = v .sign; size = a; value = v .value; is = refl; small = le-refl a } in
+    let less = sub-exact (lit≤ tt) (omega arith) own none in
+    rw (← size-of less ∙ kept (v .sign) a) (record { sign = less .sign; value = less .value })
+  where
+    none : Exact nil (pos 0) 0 0
+    none = record { sign = false; size = 0; value = unfold ofBits in (refl, refl); is = refl; small = le-refl 0 }
+
+    kept : (s : Bool) (n : ℕ) → natAbs (signed s n -ℤ pos 0) ≡ n
+    kept s n = ap natAbs (+ℤ-idr (signed s n)) ∙ size-signed s n
 
 -- ---- the length of a step
 

@@ -197,7 +197,7 @@ pub fn turns_y(s: Point, c: Point) -> bool
     s.y * c.y < 0.0
 }
 
-fn turns(s: Point, c: Point) -> bool
+pub fn turns(s: Point, c: Point) -> bool
     ensures { λ r. ⌜ r ≡ turns s c ⌝ }
 {
     if turns_x(s, c) { true } else { turns_y(s, c) }
@@ -210,7 +210,7 @@ fn kept(old: f64, new: f64) -> f64
 }
 
 // What the next step is compared with.
-fn after_turn(turned: bool, s: Point, c: Point) -> Point
+pub fn after_turn(turned: bool, s: Point, c: Point) -> Point
     ensures { λ r. ⌜ r ≡ afterTurn turned s c ⌝ }
 {
     if turned {

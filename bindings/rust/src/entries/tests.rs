@@ -279,3 +279,18 @@ fn reports_have_the_layout_of_the_header() {
     assert_eq!(size_of::<CheckReport>(), 8);
     assert_eq!(offset_of!(CheckReport, accepted), 4);
 }
+
+#[test]
+fn why_of_uneven_rows() {
+    let told = |xs: usize, ys: usize, flags: usize, index| {
+        let rows = Contour { xs: vec![7; xs], ys: vec![9; ys], flags: vec![1; flags] };
+        let report = reasons::why(&rows, index);
+        (report.number, report.reasons)
+    };
+    assert_eq!(told(1, 1, 1, 0), (0, 4 + 8));
+    assert_eq!(told(1, 1, 1, 1), (11, 0));
+    for (xs, ys, flags) in [(0, 1, 1), (1, 0, 1), (1, 1, 0), (2, 1, 1)] {
+        assert_eq!(told(xs, ys, flags, 0), (1, 0));
+    }
+    assert_eq!(told(0, 0, 0, 0), (2, 0));
+}

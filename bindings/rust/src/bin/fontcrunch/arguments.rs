@@ -33,6 +33,10 @@ pub enum Tool {
         /// and then crunch
         crunch: bool,
     },
+    Why {
+        /// of the segment whose index comes first on each line
+        index: bool,
+    },
 }
 
 impl Tool {
@@ -40,6 +44,7 @@ impl Tool {
         match word.to_str() {
             Some("clean") => Some(Tool::Clean { crunch: false }),
             Some("cubic") => Some(Tool::Cubic { crunch: false }),
+            Some("why") => Some(Tool::Why { index: false }),
             _ => None,
         }
     }
@@ -65,6 +70,7 @@ pub fn read(words: impl IntoIterator<Item = OsString>) -> Result<Request, String
             Some("--version" | "-V") => return Ok(Request::Version),
             Some("--svg") => job.draw_to(words.next())?,
             Some("--crunch") => job.then_crunch()?,
+            Some("--index") => job.by_index()?,
             Some("--") => {
                 job.inputs.extend(words.by_ref().map(|name| Input::File(name.into())));
             }
@@ -86,7 +92,15 @@ impl Job {
     fn then_crunch(&mut self) -> Result<(), String> {
         match &mut self.tool {
             Tool::Clean { crunch } | Tool::Cubic { crunch } => *crunch = true,
-            Tool::Crunch => return Err("--crunch is an option of clean and cubic".to_owned()),
+            _ => return Err("--crunch is an option of clean and cubic".to_owned()),
+        }
+        Ok(())
+    }
+
+    fn by_index(&mut self) -> Result<(), String> {
+        match &mut self.tool {
+            Tool::Why { index } => *index = true,
+            _ => return Err("--index is an option of why".to_owned()),
         }
         Ok(())
     }
@@ -114,7 +128,7 @@ pub fn version() -> String {
 pub fn help() -> String {
     // 1 and 10 cannot be met by whole contours on lines
     let refusals: String = (2..=9)
-        .chain([17])
+        .chain([11, 17])
         .filter_map(Refusal::from_number)
         .map(|refusal| format!("  {refusal}\n"))
         .collect();
@@ -128,6 +142,7 @@ usage: fontcrunch [--svg PICTURE] [FILE...]
        fontcrunch glyph read|write    glyph descriptions; see fontcrunch glyph --help
        fontcrunch clean [--crunch] [FILE...]
        fontcrunch cubic [--crunch] [FILE...]
+       fontcrunch why [--index] [FILE...]
 
 FILE           contours, one a line; standard input where there is none, or for -
 --svg PICTURE  draws each contour before and after, to a file
@@ -135,6 +150,9 @@ clean          drops repeated points instead; a file of that name is ./clean
 cubic          makes quads of cubics instead: off-curve points stand in pairs, and
                a last pair leads back to the start
 --crunch       cleans, or makes quads, then crunches what is left
+why            tells why segments start at corners instead; a file of that name is
+               ./why
+--index        of one segment alone: a line in is k x y f ..., k its index
 --help         this text
 --version      the version
 
@@ -153,6 +171,10 @@ A line out, for each line in:
                       to the on-curve point before it), both (off-curve, equal to both
                       neighbours) or first (last, and equal to the first)
   ok x y f ...        cubic: the points of the quads, in order
+  ok N 0:why,why 1: ...
+                      why: N segments, each with what makes its start a corner: x, y
+                      (a sign turn), before, after (a zero tangent), angle
+  ok why,why          why --index; ok none where the segment starts at no corner
   malformed           the line is no such list, or has more than 65536 bytes; what
                       is wrong goes to standard error
 ";
@@ -212,6 +234,18 @@ mod tests {
         assert_eq!(asked(&["cubic"]), made(vec![Input::Standard], false));
         assert_eq!(asked(&["cubic", "a", "--crunch"]), made(vec![file("a")], true));
         assert_eq!(asked(&["a", "cubic"]), job(vec![file("a"), file("cubic")], None));
+    }
+
+    #[test]
+    fn why() {
+        let told =
+            |inputs, index| Ok(Request::Crunch(Job { tool: Tool::Why { index }, inputs, picture: None }));
+        assert_eq!(asked(&["why"]), told(vec![Input::Standard], false));
+        assert_eq!(asked(&["why", "--index", "a"]), told(vec![file("a")], true));
+        assert!(asked(&["--index"]).unwrap_err().contains("option of why"));
+        assert!(asked(&["clean", "--index"]).unwrap_err().contains("option of why"));
+        assert!(asked(&["why", "--crunch"]).unwrap_err().contains("option of clean"));
+        assert!(asked(&["why", "--svg", "p"]).unwrap_err().contains("--svg"));
     }
 
     #[test]

@@ -15,6 +15,7 @@ pub const LONGEST_LINE: usize = 65_536;
 #[derive(Debug, PartialEq, Eq)]
 pub enum Malformed {
     TooLong,
+    NoIndex { text: String },
     EmptyWord { word: usize },
     NotWhole { word: usize, text: String },
     NoCoordinate { word: usize, text: String },
@@ -26,6 +27,7 @@ impl fmt::Display for Malformed {
     fn fmt(&self, f: &mut fmt::Formatter<'_>) -> fmt::Result {
         match self {
             Malformed::TooLong => write!(f, "the line is longer than {LONGEST_LINE} bytes"),
+            Malformed::NoIndex { text } => write!(f, "'{text}', which comes first, is no index of a segment"),
             Malformed::EmptyWord { word } => write!(
                 f,
                 "number {word} is missing: one blank stands between numbers, and none before or after them"
@@ -67,6 +69,28 @@ pub fn parse(line: &[u8], points: &mut Vec<Point>) -> Result<(), Malformed> {
         points.push(Point { x, y, on_curve });
     }
     Ok(())
+}
+
+/// Reads a line `k x y f ..`: the index of a segment, digits alone, and a contour, whose numbers are counted from
+/// 1 after it. An index too large to be held is past every segment.
+pub fn parse_indexed(line: &[u8], points: &mut Vec<Point>) -> Result<usize, Malformed> {
+    points.clear();
+    if line.len() > LONGEST_LINE {
+        return Err(Malformed::TooLong);
+    }
+    let (index, rest) = match line.iter().position(|&byte| byte == b' ') {
+        Some(at) => (&line[..at], Some(&line[at + 1..])),
+        None => (line, None),
+    };
+    if index.is_empty() || !index.iter().all(u8::is_ascii_digit) {
+        return Err(Malformed::NoIndex { text: shown(index) });
+    }
+    match rest {
+        Some([]) => return Err(Malformed::EmptyWord { word: 1 }),
+        Some(contour) => parse(contour, points)?,
+        None => {}
+    }
+    Ok(index.iter().fold(0, |k: usize, d| k.saturating_mul(10).saturating_add(usize::from(d - b'0'))))
 }
 
 fn coordinate(text: &[u8], word: usize) -> Result<i16, Malformed> {

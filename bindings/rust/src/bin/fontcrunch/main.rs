@@ -6,6 +6,7 @@ mod contour_line;
 mod cubics;
 mod glyph;
 mod picture;
+mod reasons;
 mod service;
 mod stream;
 

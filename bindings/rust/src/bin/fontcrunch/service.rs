@@ -11,6 +11,7 @@ use crate::cleaning;
 use crate::contour_line;
 use crate::cubics;
 use crate::picture::Picture;
+use crate::reasons;
 use crate::stream::{Lines, Stopped};
 
 /// The exit status: the worst that was met.
@@ -112,16 +113,25 @@ impl<W: Write> Service<W> {
     }
 
     fn answer_line(&mut self, source: &Source, line: &[u8], points: &mut Vec<Point>) -> io::Result<()> {
-        if let Err(fault) = contour_line::parse(line, points) {
-            self.wrong(&format!("{}:{}: malformed: {fault}", source.name, source.line));
-            return self.answers.write_all(b"malformed\n");
-        }
+        let parsed = match self.tool {
+            Tool::Why { index: true } => contour_line::parse_indexed(line, points),
+            _ => contour_line::parse(line, points).map(|()| 0),
+        };
+        let index = match parsed {
+            Ok(index) => index,
+            Err(fault) => {
+                self.wrong(&format!("{}:{}: malformed: {fault}", source.name, source.line));
+                return self.answers.write_all(b"malformed\n");
+            }
+        };
         let answer = match self.tool {
             Tool::Crunch => self.crunch(source, points),
             Tool::Clean { crunch: false } => cleaning::clean(points),
             Tool::Clean { crunch: true } => cleaning::clean_and_crunch(&mut self.cruncher, points),
             Tool::Cubic { crunch: false } => cubics::cubic(points),
             Tool::Cubic { crunch: true } => cubics::cubic_and_crunch(&mut self.cruncher, points),
+            Tool::Why { index: false } => reasons::why_all(&mut self.cruncher, points),
+            Tool::Why { index: true } => reasons::why_at(&mut self.cruncher, points, index),
         };
         match answer {
             Ok(text) => writeln!(self.answers, "{text}"),

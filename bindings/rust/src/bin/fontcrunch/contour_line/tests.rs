@@ -117,3 +117,21 @@ fn messages_name_the_number_and_cut_it() {
     let long = fault(&"9".repeat(60_000));
     assert!(long.len() < 120, "{long}");
 }
+
+#[test]
+fn an_index_comes_first() {
+    let mut points = vec![Point::on(1, 1)];
+    let mut indexed = |line: &str| parse_indexed(line.as_bytes(), &mut points).map(|k| (k, points.clone()));
+    assert_eq!(indexed("0 7 9 1"), Ok((0, vec![Point::on(7, 9)])));
+    assert_eq!(indexed("12"), Ok((12, vec![])));
+    assert_eq!(indexed("007 7 9 0"), Ok((7, vec![Point::off(7, 9)])));
+    // past every segment
+    assert_eq!(indexed("99999999999999999999999 7 9 1").unwrap().0, usize::MAX);
+    assert_eq!(indexed("3 "), Err(Malformed::EmptyWord { word: 1 }));
+    assert_eq!(indexed("3 7 9"), Err(Malformed::NotThrees { words: 2 }));
+    for line in ["", " 7 9 1", "-1 7 9 1", "-0 7 9 1", "x 7 9 1", "+1"] {
+        assert!(matches!(indexed(line), Err(Malformed::NoIndex { .. })), "{line}");
+    }
+    let long = "1".repeat(LONGEST_LINE + 1);
+    assert_eq!(indexed(&long), Err(Malformed::TooLong));
+}

@@ -1,7 +1,7 @@
 //! One contour of the picture: its outline before on the left, after on the right, at one scale and in one
 //! place of their panels.
 
-use fontcrunch::{Crunched, Point, Refusal};
+use fontcrunch::{Crunched, Point, Reasons, Refusal};
 
 use super::outline::{Outline, Place};
 use super::reading::{Join, Reading};
@@ -257,9 +257,13 @@ fn start_drawn(outline: &Outline, view: &View, ink: Ink) -> String {
     svg::start_mark(at, svg::direction(at, view.at(ahead)), ink)
 }
 
-/// Of an outline whose points are written out: node i starts segment i.
+/// Each with its reasons. Of an outline whose points are written out: node i starts segment i.
 fn corners_drawn(outline: &Outline, view: &View, reading: &Reading) -> String {
-    reading.corners.iter().map(|&corner| svg::corner_mark(view.at(outline.nodes[corner].place))).collect()
+    let drawn = |(&corner, &reasons): (&usize, &Reasons)| {
+        let at = view.at(outline.nodes[corner].place);
+        svg::corner_mark(at) + &svg::reasons_mark(at, reasons)
+    };
+    reading.corners.iter().zip(&reading.reasons).map(drawn).collect()
 }
 
 fn lost_drawn(outline: &Outline, view: &View, reading: &Reading) -> String {

@@ -20,6 +20,9 @@ const ENTRIES: [Entry; 7] = [
     (lost, "not written: outside the corners", 208.0),
 ];
 
+const REASONS: &str =
+    "beside a corner: x, y a sign turn; b, a a zero tangent before, after; \u{2220} an angle";
+
 pub fn drawn() -> String {
     let mut svg = svg::text(
         Place { x: MARGIN, y: 36.0 },
@@ -34,6 +37,13 @@ pub fn drawn() -> String {
         svg::QUIET,
         "text-anchor=\"end\"",
         "a ring or a tick with no square: the point is implied and not written",
+    ));
+    svg.push_str(&svg::text(
+        Place { x: WIDTH - MARGIN, y: 20.0 },
+        12.0,
+        svg::QUIET,
+        "text-anchor=\"end\"",
+        REASONS,
     ));
     let mut x = MARGIN + 8.0;
     for (mark, words, width) in ENTRIES {

@@ -2,7 +2,6 @@
 //! that memory does not grow with them.
 
 mod block;
-mod corners;
 mod legend;
 mod outline;
 mod reading;

@@ -1,4 +1,4 @@
-//! What is to be told of a contour beside its points: where its corners are, what came of each run, and
+//! What is to be told of a contour beside its points: where its corners are and why, what came of each run, and
 //! which nodes of the result are corners and which are breaks.
 //!
 //! The library gives the result's points and, run by run, a chain with its break numbers; it gives no place
@@ -9,9 +9,8 @@
 
 use std::ops::Range;
 
-use fontcrunch::{Crunched, Cruncher, Point, Refusal};
+use fontcrunch::{Crunched, Cruncher, Point, Reasons, Refusal};
 
-use super::corners::{corners, segments, Segment};
 use super::outline::Outline;
 
 /// What came of a run.
@@ -41,8 +40,10 @@ pub enum Join {
 
 #[derive(Debug, Default, PartialEq)]
 pub struct Reading {
-    /// The segments that start at a corner.
+    /// The segments that start at a corner, as the library tells.
     pub corners: Vec<usize>,
+    /// Why, for each corner.
+    pub reasons: Vec<Reasons>,
     pub runs: Vec<Run>,
     /// A join for each node of the result, in the order of its points.
     pub joins: Vec<Join>,
@@ -56,16 +57,16 @@ impl Reading {
         if result.as_ref().is_err_and(|refusal| refusal.number() <= 5) {
             return Reading::default();
         }
-        let segments = segments(before);
-        let corners = corners(&segments);
-        let runs = worked_runs(cruncher, before, &segments, &corners);
+        let lines = lines(before);
+        let (corners, reasons): (Vec<usize>, Vec<Reasons>) =
+            (0..lines.len()).filter_map(|i| why(cruncher, before, i).map(|reasons| (i, reasons))).unzip();
+        let runs = worked_runs(cruncher, before, &lines, &corners);
         let joins = result.as_ref().map_or_else(
             |_| Vec::new(),
             |crunched| joins(Outline::of(&crunched.points).nodes.len(), &corners, &runs),
         );
-        let lost =
-            if result.is_ok() && !is_unchanged(&runs) { lost(&segments, &corners) } else { Vec::new() };
-        Reading { corners, runs, joins, lost }
+        let lost = if result.is_ok() && !is_unchanged(&runs) { lost(&lines, &corners) } else { Vec::new() };
+        Reading { corners, reasons, runs, joins, lost }
     }
 
     pub fn is_unchanged(&self) -> bool {
@@ -82,21 +83,24 @@ fn is_unchanged(runs: &[Run]) -> bool {
     runs.iter().any(|run| run.came == Came::Unchanged)
 }
 
+/// Whether each segment is a line: its start, an on-curve point, is followed by one.
+fn lines(points: &[Point]) -> Vec<bool> {
+    let next = |i: usize| points[(i + 1) % points.len()].on_curve;
+    (0..points.len()).filter(|&i| points[i].on_curve).map(next).collect()
+}
+
+/// None where the segment starts at no corner.
+fn why(cruncher: &mut Cruncher, points: &[Point], index: usize) -> Option<Reasons> {
+    cruncher.why(points, index).ok().filter(|reasons| reasons.is_corner())
+}
+
 /// The runs up to the one that ends the work, by refusal or by leaving the contour unchanged.
-fn worked_runs(
-    cruncher: &mut Cruncher,
-    points: &[Point],
-    segments: &[Segment],
-    corners: &[usize],
-) -> Vec<Run> {
+fn worked_runs(cruncher: &mut Cruncher, points: &[Point], lines: &[bool], corners: &[usize]) -> Vec<Run> {
     let mut runs = Vec::new();
     for (k, ends) in corners.windows(2).enumerate() {
         let of = ends[0]..ends[1];
-        let came = if of.len() == 1 && segments[of.start].is_line {
-            Came::Pieces(1)
-        } else {
-            came_of(cruncher, points, k)
-        };
+        let came =
+            if of.len() == 1 && lines[of.start] { Came::Pieces(1) } else { came_of(cruncher, points, k) };
         let last = !matches!(came, Came::Pieces(_));
         runs.push(Run { segments: of, came });
         if last {
@@ -130,14 +134,14 @@ fn joins(nodes: usize, corners: &[usize], runs: &[Run]) -> Vec<Join> {
 
 /// What lies before the first corner and after the last is not written. One line from the last corner to
 /// the first is no loss: the contour closes by it.
-fn lost(segments: &[Segment], corners: &[usize]) -> Vec<usize> {
+fn lost(lines: &[bool], corners: &[usize]) -> Vec<usize> {
     let (Some(&first), Some(&last)) = (corners.first(), corners.last()) else {
-        return (0..segments.len()).collect();
+        return (0..lines.len()).collect();
     };
-    if first == 0 && last + 1 == segments.len() && segments[last].is_line {
+    if first == 0 && last + 1 == lines.len() && lines[last] {
         return Vec::new();
     }
-    (0..first).chain(last..segments.len()).collect()
+    (0..first).chain(last..lines.len()).collect()
 }
 
 #[cfg(test)]

@@ -1,5 +1,7 @@
 //! Marks and text in SVG.
 
+use fontcrunch::Reasons;
+
 use super::outline::{Outline, Place};
 use super::view::View;
 
@@ -115,6 +117,19 @@ pub fn off_curve_mark(at: Place, ink: Ink) -> String {
 
 pub fn corner_mark(at: Place) -> String {
     circle(at, 7.0, "none", CORNER, 1.5)
+}
+
+/// The reasons of a corner, a letter each, above and beside its ring; the legend tells them.
+pub fn reasons_mark(at: Place, reasons: Reasons) -> String {
+    let letters = [
+        (reasons.x, 'x'),
+        (reasons.y, 'y'),
+        (reasons.before, 'b'),
+        (reasons.after, 'a'),
+        (reasons.angle, '\u{2220}'),
+    ];
+    let words: String = letters.iter().filter(|(holds, _)| *holds).map(|(_, letter)| *letter).collect();
+    text(Place { x: at.x + 8.0, y: at.y - 6.0 }, 9.0, CORNER, "", &words)
 }
 
 fn circle(at: Place, radius: f64, fill: &str, line: &str, width: f64) -> String {

@@ -17,6 +17,8 @@ const HILL: [i16; 18] = [0, 0, 1, 0, 60, 0, 40, 90, 1, 80, 120, 0, 130, 120, 1, 
 fn corners_and_breaks_are_told_apart() {
     let hill = reading(&HILL);
     assert_eq!(hill.corners, [0, 2, 3]);
+    let reasons: Vec<String> = hill.reasons.iter().map(Reasons::to_string).collect();
+    assert_eq!(reasons, ["x,angle", "y,angle", "x,y,angle"]);
     assert_eq!(
         hill.runs,
         [Run { segments: 0..2, came: Came::Pieces(2) }, Run { segments: 2..3, came: Came::Pieces(1) },]
@@ -24,6 +26,27 @@ fn corners_and_breaks_are_told_apart() {
     // in the order of the result: the last corner first, the implied joint third
     assert_eq!(hill.joins, [Join::Corner, Join::Corner, Join::Break, Join::Corner]);
     assert_eq!(hill.lost, [0; 0]);
+}
+
+/// 10 for a copied line and past the last run, and for no other run.
+fn assert_runs_agree(cruncher: &mut Cruncher, points: &[Point]) {
+    let lines = lines(points);
+    let corners: Vec<usize> = (0..lines.len()).filter(|&i| why(cruncher, points, i).is_some()).collect();
+    for (k, ends) in corners.windows(2).enumerate() {
+        let copied = ends[1] - ends[0] == 1 && lines[ends[0]];
+        let refused = cruncher.chain(points, k) == Err(Refusal::NoSuchRun);
+        assert_eq!(refused, copied, "run {k} of {points:?}");
+    }
+    let runs = corners.len().saturating_sub(1);
+    assert_eq!(cruncher.chain(points, runs), Err(Refusal::NoSuchRun), "{points:?}");
+}
+
+#[test]
+fn runs_are_those_that_the_library_works() {
+    let mut cruncher = Cruncher::new();
+    for contour in contours(1, 300) {
+        assert_runs_agree(&mut cruncher, &contour);
+    }
 }
 
 fn assert_a_join_for_each_node(contour: &[Point]) {

@@ -1,0 +1,4 @@
+pub mod Tests
+pub mod Entry
+pub mod Determine
+pub mod Statements

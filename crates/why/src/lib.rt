@@ -1,0 +1,151 @@
+// Why a run stops where it does: which of the tests that make a segment's start a corner hold there. A contour is
+// three rows: x, y, and flags whose bit 0 means on-curve. No row is written.
+use geometry::Point;
+use refusals::Judged;
+ghost use Prim.Native.Nat.{_≤_};
+ghost use mathlib.Core.Path.{_≡_};
+ghost use Rattle.rows.specs.Lent.{before, contour, Shown};
+ghost use Rattle.corners.specs.Segments.{segAt, chordOf, arrivingOf};
+ghost use Rattle.corners.specs.Corners.{previous, stateAt};
+ghost use Rattle.why.specs.Tests.{either, reasonsOf};
+ghost use Rattle.why.specs.Entry.{bitIf, bitsOf, Promise, report};
+
+// Which of the five tests hold: a sign turn in x, in y; a zero tangent before, after; an angle.
+pub struct Marks {
+    pub x: bool,
+    pub y: bool,
+    pub before: bool,
+    pub after: bool,
+    pub angle: bool,
+}
+
+// What the entry answers.
+pub enum Explained {
+    // the number of a refusal
+    Refused(u8),
+    // where none holds, the index is no corner
+    Reasons(Marks),
+}
+
+fn either(a: bool, b: bool) -> bool
+    ensures { λ r. ⌜ r ≡ either a b ⌝ }
+{
+    if a { true } else { b }
+}
+
+// What step k is compared with, in a round that starts with a state. The place is carried along.
+fn state_at(xs: &[i16], ys: &[i16], flags: &[u8], from: Point, k: usize) -> Point
+    ensures { λ r. ⌜ r ≡ stateAt (before xs) (before ys) (before flags) from k ⌝ }
+{
+    let mut s = from;
+    let mut a = 0;
+    let mut i = 0;
+    while i < k {
+        let c = corners::read_from(xs, ys, flags, a).chord();
+        s = corners::after_turn(corners::turns(s, c), s, c);
+        a = corners::end_of(flags, a);
+        i += 1;
+    }
+    s
+}
+
+// The index before k, of m, going round.
+fn previous(m: usize, k: usize) -> usize
+    ensures { λ r. ⌜ r ≡ previous m k ⌝ }
+{
+    if 0 < k {
+        return k - 1;
+    }
+    if m == 0 { 0 } else { m - 1 }
+}
+
+// The tangent at the end of segment k.
+fn arriving_at(xs: &[i16], ys: &[i16], flags: &[u8], k: usize) -> Point
+    ensures { λ r. ⌜ r ≡ arrivingOf (segAt (before xs) (before ys) (before flags) k) ⌝ }
+{
+    corners::read_from(xs, ys, flags, corners::start_of(flags, k)).arriving()
+}
+
+// The five tests at index k, of m segments. Both rounds of signs are looked at: the second starts with the state that
+// the first ended with.
+fn reasons(xs: &[i16], ys: &[i16], flags: &[u8], m: usize, k: usize) -> Marks
+    ensures { λ r. ⌜ r ≡ reasonsOf (before xs) (before ys) (before flags) m k ⌝ }
+{
+    let origin = Point { x: 0.0, y: 0.0 };
+    let first = state_at(xs, ys, flags, origin, k);
+    let ended = state_at(xs, ys, flags, origin, m);
+    let second = state_at(xs, ys, flags, ended, k);
+    let here = corners::read_from(xs, ys, flags, corners::start_of(flags, k));
+    let c = here.chord();
+    let d0 = arriving_at(xs, ys, flags, previous(m, k));
+    let d1 = here.leaving();
+    Marks {
+        x: either(corners::turns_x(first, c), corners::turns_x(second, c)),
+        y: either(corners::turns_y(first, c), corners::turns_y(second, c)),
+        before: corners::is_zero(d0),
+        after: corners::is_zero(d1),
+        angle: corners::is_angle(d0, d1),
+    }
+}
+
+// The entry.
+pub fn why(xs: &[i16], ys: &[i16], flags: &[u8], k: usize) -> Explained
+    ensures { λ r. ⌜ Promise (contour xs ys flags) k r ⌝ }
+{
+    match refusals::judge(xs, ys, flags) {
+        Judged::Refused(n) => Explained::Refused(n),
+        Judged::Fine => {
+            let m = corners::count(flags);
+            if k < m {
+                return Explained::Reasons(reasons(xs, ys, flags, m, k));
+            }
+            Explained::Refused(11)
+        }
+    }
+}
+
+// ---- for C and Rust
+
+// The number of a refusal, or 0; a bit for each reason: 1 x, 2 y, 4 before, 8 after, 16 angle.
+#[repr(C)]
+pub struct WhyReport {
+    pub number: u32,
+    pub reasons: u32,
+}
+
+fn bit_if(test: bool, bit: u32) -> u32
+    ensures is { λ r. ⌜ r ≡ bitIf test bit ⌝ }
+    ensures most { λ r. ⌜ r ≤ bit ⌝ }
+{
+    if test { bit } else { 0 }
+}
+
+fn bits(m: Marks) -> u32
+    ensures { λ r. ⌜ r ≡ bitsOf m ⌝ }
+{
+    let turns = bit_if(m.x, 1) + bit_if(m.y, 2);
+    let zeros = bit_if(m.before, 4) + bit_if(m.after, 8);
+    turns + zeros + bit_if(m.angle, 16)
+}
+
+fn why_report(e: Explained) -> WhyReport
+    ensures { λ r. ⌜ r ≡ report e ⌝ }
+{
+    match e {
+        Explained::Refused(n) => WhyReport {
+            number: n as u32,
+            reasons: 0,
+        },
+        Explained::Reasons(m) => WhyReport {
+            number: 0,
+            reasons: bits(m),
+        },
+    }
+}
+
+#[no_mangle]
+pub extern "C" fn fontcrunch_why(xs: &[i16], ys: &[i16], flags: &[u8], k: usize) -> WhyReport
+    ensures { λ r. ⌜ Shown report (Promise (contour xs ys flags) k) r ⌝ }
+{
+    why_report(why(xs, ys, flags, k))
+}
