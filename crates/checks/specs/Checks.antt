@@ -40,11 +40,11 @@ abbrev pub unlessShort : Bool → D.Verdict → D.Verdict
 unlessShort true v = Verdict.Refused 7
 unlessShort false v = v
 
--- half: half the shortest answer row, a room for breaks. After 6 and 7 the chain is judged; a run whose length is past its samples has no break, so no
--- chain
+-- half: half the shortest answer row, a room for breaks. After 6 and 7 the chain is judged. A length past the samples is never met
+-- (survey/specs/Never); it would be 8
 abbrev pub ofSurvey : ℕ → Float → Given → Survey → D.Verdict
 ofSurvey half penalty c (Survey.refused k) = Verdict.Refused k
-ofSurvey half penalty c Survey.past = Verdict.No
+ofSurvey half penalty c Survey.past = Verdict.Refused 8
 ofSurvey half penalty c (Survey.surveyed samples breaks) =
     unlessShort (ltb half (length breaks)) (verdictOf (checkRows samples breaks penalty (c .starts) (c .ends) (c .xs) (c .ys) (c .score)))
 

@@ -91,7 +91,7 @@ fn check_run(
         breaks,
     ) {
         Surveyed::Refused(n) => Verdict::Refused(n),
-        Surveyed::Past => Verdict::No,
+        Surveyed::Past => Verdict::Refused(8),
         Surveyed::Rows(n, m) => {
             check_surveyed(
                 &samples[..n],
