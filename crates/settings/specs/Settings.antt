@@ -20,13 +20,17 @@ penaltyOf s = div binary64 (ofInt binary64 (pos (s .penalty))) (ofBits binary64 
 abbrev pub gridOf : Settings → Grid
 gridOf s = halfGrid
 
+-- of a penalty in sixteenths, as C and Rust programs give it
+abbrev pub settingsOf : ℕ → Settings
+settingsOf penalty = record { penalty = penalty }
+
 -- document 01's penalty, 1.0
 abbrev pub crateSettings : Settings
-crateSettings = record { penalty = 16 }
+crateSettings = settingsOf 16
 
 -- document 02's default, 2.0
 abbrev pub defaultSettings : Settings
-defaultSettings = record { penalty = 32 }
+defaultSettings = settingsOf 32
 
 -- ---- refusal 16
 
