@@ -11,7 +11,8 @@ use Rattle.lines.proofs.Theorems.{whole}
 use Rattle.fontcrunch_cli.specs.Output.{outputOf}
 use Rattle.fontcrunch_cli.specs.Stream.{Owes, Written, no-more, one-more, bytesOf}
 
-pub however-cut : {s : Settings} {left : List ℕ} {chunks : List (List ℕ)} {done : List ℕ} → Written s left chunks done → done ≡ outputOf s (left ++ bytesOf chunks)
+pub however-cut : {s : Settings} {left : List ℕ} {chunks : List (List ℕ)} {done : List ℕ} →
+    Written s left chunks done → done ≡ outputOf s (left ++ bytesOf chunks)
 unfolding bytesOf
 however-cut {s} {left} no-more = ap (outputOf s) (sym (append-nil left))
 however-cut {s} (one-more {left} {bytes} {done} {left′} {later} {chunks} p w) =

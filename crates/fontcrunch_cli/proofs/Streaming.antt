@@ -55,7 +55,8 @@ module _ (s : Settings) (k : List ℕ) (clean : upTo 10 k ≡ k) where
           let some′ : 0 < length (take 65537 k ++ rest) = simp length-append (omega arith) in
           let u : List ℕ = upTo 10 rest in
           let front : take 65537 (k ++ u) ≡ take 65537 (take 65537 k ++ u) =
-          take-append-le 65537 k u (omega arith) ∙ sym (take-all 65537 (take 65537 k) (omega arith)) ∙ sym (take-append-le 65537 (take 65537 k) u (omega arith)) in
+          take-append-le 65537 k u (omega arith) ∙ sym (take-all 65537 (take 65537 k) (omega arith))
+          ∙ sym (take-append-le 65537 (take 65537 k) u (omega arith)) in
           ap (answersTo s) (under-way 10 k clean rest some)
           ∙ ap (λ (text : List ℕ). (text ++ (10 ∷ [])) ++ answersTo s (linesOf (drop (suc (length u)) rest))) (same-front s (k ++ u) (take 65537 k ++ u) front)
           ∙ sym (ap (answersTo s) (under-way 10 (take 65537 k) (none-in-front 10 65537 k clean) rest some′))
@@ -151,9 +152,11 @@ module _ {s : Settings} {text₀ line₀ : List ℕ} {used₀ : ℕ} (chunk : Li
           let same : n ≡ f .kept = cc in
           let after : next ≡ i + length (coming chunk i) + 1 = cc in
           let said : lineText s (take n line′) ≡ lineText s (take used line ++ coming chunk i) =
-          ap (λ (m : ℕ). lineText s (take m line′)) same ∙ ap (lineText s) (fed-front (coming chunk i) (g .keeps) (f .puts)) ∙ cut-text s (take used line ++ coming chunk i) in
+          ap (λ (m : ℕ). lineText s (take m line′)) same ∙ ap (lineText s) (fed-front (coming chunk i) (g .keeps) (f .puts))
+          ∙ cut-text s (take used line ++ coming chunk i) in
           let long : length line′ ≡ 65537 = fed-long (coming chunk i) (g .keeps) (f .puts) in
-          let owed : Owes s (take used line ++ drop i chunk) (lineText s (take n line′) ++ (10 ∷ [])) (drop next chunk) = rw (said, after) (whole-owes s chunk i (g .keeps) h) in
+          let owed : Owes s (take used line ++ drop i chunk) (lineText s (take n line′) ++ (10 ∷ [])) (drop next chunk) =
+          rw (said, after) (whole-owes s chunk i (g .keeps) h) in
           record {
             done = g .done ++ (lineText s (take n line′) ++ (10 ∷ []));
             puts = joined (g .puts) p;
@@ -172,7 +175,8 @@ module _ {s : Settings} {text₀ line₀ : List ℕ} {used₀ : ℕ} (chunk : Li
       by false e told =
           let none = ltb-false (i + length (coming chunk i)) (length chunk) e in
           let same : n ≡ f .kept = cc in
-          let front : take n line′ ≡ take 65537 (take used line ++ coming chunk i) = ap (λ (m : ℕ). take m line′) same ∙ fed-front (coming chunk i) (g .keeps) (f .puts) in
+          let front : take n line′ ≡ take 65537 (take used line ++ coming chunk i) =
+          ap (λ (m : ℕ). take m line′) same ∙ fed-front (coming chunk i) (g .keeps) (f .puts) in
           let long : length line′ ≡ 65537 = fed-long (coming chunk i) (g .keeps) (f .puts) in
           let inside : f .kept ≤ length line′ = fed-inside (coming chunk i) (g .keeps) (f .puts) in
           let left : take n line′ ++ drop (length chunk) chunk ≡ take 65537 (take used line ++ coming chunk i) =
@@ -183,7 +187,8 @@ module _ {s : Settings} {text₀ line₀ : List ℕ} {used₀ : ℕ} (chunk : Li
             puts = g .puts;
             keeps = record { long = long; inside = omega arith; under-way = rw front (part-clean s chunk i (g .keeps) none) };
             inside = omega arith;
-            owes = subst (λ (d : List ℕ). Owes s (take used₀ line₀ ++ drop first chunk) d (take n line′ ++ drop (length chunk) chunk)) (append-nil (g .done)) (owes-then (g .owes) owed);
+            owes = subst (λ (d : List ℕ). Owes s (take used₀ line₀ ++ drop first chunk) d (take n line′ ++ drop (length chunk) chunk))
+                (append-nil (g .done)) (owes-then (g .owes) owed);
           }
 
 -- ---- a chunk
@@ -199,12 +204,14 @@ pub gone-none : (s : Settings) {line : List ℕ} {used : ℕ} (chunk : List ℕ)
 gone-none s {line} {used} chunk k = record { done = []; keeps = k; inside = omega arith; owes = owes-same s (take used line ++ chunk) }
 
 module _ {s : Settings} {line₀ : List ℕ} {used₀ : ℕ} (chunk : List ℕ) {line : List ℕ} {used i : ℕ} (g : Gone s line₀ used₀ chunk line used i) where
-  pub gone-more : {text text′ line′ : List ℕ} {used′ at i′ : ℕ} → Reaches s text line used chunk i text′ line′ used′ at i′ → Gone s line₀ used₀ chunk line′ used′ i′
+  pub gone-more : {text text′ line′ : List ℕ} {used′ at i′ : ℕ} →
+      Reaches s text line used chunk i text′ line′ used′ at i′ → Gone s line₀ used₀ chunk line′ used′ i′
   gone-more r = record { done = g .done ++ r .done; keeps = r .keeps; inside = r .inside; owes = owes-then (g .owes) (r .owes) }
 
   pub gone-all : length chunk ≤ i → Owes s (take used₀ line₀ ++ chunk) (g .done) (take used line)
   gone-all past =
-      let left : take used line ++ drop i chunk ≡ take used line = ap (λ (l : List ℕ). take used line ++ l) (drop-of-length-le chunk past) ∙ append-nil (take used line) in
+      let left : take used line ++ drop i chunk ≡ take used line =
+      ap (λ (l : List ℕ). take used line ++ l) (drop-of-length-le chunk past) ∙ append-nil (take used line) in
       subst (Owes s (take used₀ line₀ ++ chunk) (g .done)) left (g .owes)
 
 -- ---- the last line
@@ -223,10 +230,12 @@ unfolding outputOf answersTo
 last-output s k some clean =
     let past : length k ≤ suc (length k) = omega arith in
     ap (answersTo s)
-    (next-part 10 k some ∙ ap (λ (l : List ℕ). l ∷ linesOf (drop (suc (length l)) k)) clean ∙ ap (λ (l : List ℕ). k ∷ linesOf l) (drop-of-length-le k past) ∙ ap (λ (l : List (List ℕ)). k ∷ l) (no-part 10))
+    (next-part 10 k some ∙ ap (λ (l : List ℕ). l ∷ linesOf (drop (suc (length l)) k)) clean
+    ∙ ap (λ (l : List ℕ). k ∷ linesOf l) (drop-of-length-le k past) ∙ ap (λ (l : List (List ℕ)). k ∷ l) (no-part 10))
     ∙ append-nil (lineText s k ++ (10 ∷ []))
 
-pub one-last : (s : Settings) {text line text′ : List ℕ} {used r : ℕ} → (used ≡ 0 → ⊥) → Keeps line used → Put text 0 (lineText s (take used line) ++ (10 ∷ [])) text′ r →
+pub one-last : (s : Settings) {text line text′ : List ℕ} {used r : ℕ} → (used ≡ 0 → ⊥) → Keeps line used →
+    Put text 0 (lineText s (take used line) ++ (10 ∷ [])) text′ r →
     Put text 0 (outputOf s (take used line)) text′ r
 one-last s {text} {line} {text′} {used} {r} some k p =
     let size : length (take used line) ≡ used = length-take-le used line (k .inside) in

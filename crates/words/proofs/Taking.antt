@@ -57,9 +57,12 @@ is-same {r} k l (only, when) = by (sameBytes k l) refl r refl
 pub capped : (s : Settings) (o : Option ℕ) → sixteenthsIn s (sizeOf o) ≡ sixteenths s o
 unfolding sixteenthsIn sizeOf sixteenths
 capped s none = refl
-capped s (some n) = ap (λ (t : Bool). pick t (Reading.Has (record { penalty = min n 4294967296 })) Reading.Wrong) (cap-test n 4294967295 (omega arith)) ∙ by (leb n 4294967295) refl
+capped s (some n) =
+    ap (λ (t : Bool). pick t (Reading.Has (record { penalty = min n 4294967296 })) Reading.Wrong) (cap-test n 4294967295 (omega arith))
+    ∙ by (leb n 4294967295) refl
   where
-    by : (t : Bool) → leb n 4294967295 ≡ t → pick t (Reading.Has (record { penalty = min n 4294967296 })) Reading.Wrong ≡ pick t (Reading.Has (record { penalty = n })) Reading.Wrong
+    by : (t : Bool) → leb n 4294967295 ≡ t →
+        pick t (Reading.Has (record { penalty = min n 4294967296 })) Reading.Wrong ≡ pick t (Reading.Has (record { penalty = n })) Reading.Wrong
     by true e = ap (λ (k : ℕ). Reading.Has (record { penalty = k })) (uncapped n 4294967295 (omega arith) e)
     by false e = refl
 
@@ -76,7 +79,8 @@ module _ (r : R.Reading) (row : List ℕ) (at : ℕ) where
       ap (allTaken r) (next-part 0 (drop at row) some)
       ∙ ap (λ (word : List ℕ). allTaken (taken r word) (endedBy 0 (drop (suc (length (upTo 0 (drop at row)))) (drop at row))))
       (sym (prefix 0 (drop at row)) ∙ ap (λ (k : ℕ). take k (drop at row)) n)
-      ∙ ap (λ (left : List ℕ). allTaken (taken r (take (e - at) (drop at row))) (endedBy 0 left)) (drop-drop (suc (length (upTo 0 (drop at row)))) at row ∙ ap (λ (k : ℕ). drop k row) past)
+      ∙ ap (λ (left : List ℕ). allTaken (taken r (take (e - at) (drop at row))) (endedBy 0 left))
+      (drop-drop (suc (length (upTo 0 (drop at row)))) at row ∙ ap (λ (k : ℕ). drop k row) past)
 
   pub no-word : length row ≤ at → allTaken r (endedBy 0 (drop at row)) ≡ r
   unfolding allTaken

@@ -1,6 +1,7 @@
 -- `answering::put_full` meets its contract. Assumes nothing.
 use mathlib.Core.Path.{refl, sym}
 use Rattle.edition.specs.Scratch.{fullRooms}
+use Rattle.contour.specs.Output.{outputs}
 use Rattle.answering.proofs.Answers.{fits, says}
 use Rattle.answering.proofs.put_full.Statement.{statement}
 use Rattle.answering.proofs.put_full.Tie as tie
@@ -55,8 +56,9 @@ returns : tie.Need-returns
 returns c =
     let called = c .before .before .before .before .before .before .before .before .before .before .before .before .before .before .before in
     let args = called .before .before .before .before .before .before .before .before .before .before .before .args in
+    let last = called .crunch-contour .last .1 .1 .1 .1 in
     says fullRooms 16384 (args .settings) (args .xs .now) (args .ys .now) (args .flags .now) (called .crunch-contour .ensures .answer)
-    refl (called .crunch-contour .ensures .outs) (c .before .before .put-outcome .ensures)
+    {o = outputs (last .0) (last .1 .0) (last .1 .1 .0)} refl (called .crunch-contour .ensures .outs) (c .before .before .put-outcome .ensures)
 
 pub put-full-spec : {M : Type 1} → statement M
 put-full-spec =

@@ -1,5 +1,6 @@
 -- `answering::put_small` meets its contract. Assumes nothing.
 use mathlib.Core.Path.{refl, sym}
+use Rattle.contour.specs.Output.{outputs}
 use Rattle.answering.proofs.Answers.{smallRooms, fits, says, small-same}
 use Rattle.answering.proofs.put_small.Statement.{statement}
 use Rattle.answering.proofs.put_small.Tie as tie
@@ -65,7 +66,8 @@ returns-2 c =
     let ys = args .ys .now in
     let fs = args .flags .now in
     let answer = called .crunch-contour .ensures .answer in
-    says smallRooms 1024 settings xs ys fs answer
+    let last = called .crunch-contour .last .1 .1 .1 .1 in
+    says smallRooms 1024 settings xs ys fs answer {o = outputs (last .0) (last .1 .0) (last .1 .1 .0)}
     (small-same settings xs ys fs answer (c .before .before .before .before .before .before .before .before .is-short .ensures) (c .before .before .before .before .before .before .before .if1 .left)) (called .crunch-contour .ensures .outs) (c .before .before .put-outcome .ensures)
 
 pub put-small-spec : {M : Type 1} → statement M

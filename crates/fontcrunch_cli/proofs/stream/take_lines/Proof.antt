@@ -67,7 +67,10 @@ returns c =
     let fed = told .before .before .before .before in
     let inv = fed .before .before .before .loop .inv in
     let lies = subst (Room _ _ _) (told .n .given .1) (fed .feed .ensures .0) in
-    record { reaches = line-ended _ (inv .0) (subst (Feeds _ _ _ _ _) (told .n .given .1) (fed .feed .ensures .1)) (called .put-answer .ensures); onward = λ h. omega (arith, lies .1, inv .1) }
+    record {
+      reaches = line-ended _ (inv .0) (subst (Feeds _ _ _ _ _) (told .n .given .1) (fed .feed .ensures .1)) (called .put-answer .ensures);
+      onward = λ h. omega (arith, lies .1, inv .1);
+    }
 
 loop-less : tie.Need-loop-less Inv-loop μ-loop
 loop-less c =
@@ -84,8 +87,12 @@ loop-again c =
     let told = called .before .before .before .before in
     let fed = told .before .before .before .before in
     let inv = fed .before .before .before .loop .inv in
-    let lies = subst (Room _ _ _) (told .n .given .1) (fed .feed .ensures .0) in
-    (line-ended _ (inv .0) (subst (Feeds _ _ _ _ _) (told .n .given .1) (fed .feed .ensures .1)) (called .put-answer .ensures), omega (arith, lies .1, inv .1), called .put-answer .kept .0 ∙ inv .2, fed .feed .kept .0 ∙ inv .3)
+    let lies = subst (Room _ _ _) (told .n .given .1) (fed .feed .ensures .0) in (
+      line-ended _ (inv .0) (subst (Feeds _ _ _ _ _) (told .n .given .1) (fed .feed .ensures .1)) (called .put-answer .ensures),
+      omega (arith, lies .1, inv .1),
+      called .put-answer .kept .0 ∙ inv .2,
+      fed .feed .kept .0 ∙ inv .3,
+    )
 
 enum-known-n-2 : tie.Need-enum-known-n-2 Inv-loop μ-loop
 enum-known-n-2 c = c .match .keys2
@@ -99,7 +106,10 @@ same-length-4 c = c .before .before .before .before .before .feed .kept .0 ∙ c
 returns-2 : tie.Need-returns-2 Inv-loop μ-loop
 returns-2 c =
     let fed = c .before .before .before .before .before in
-    record { reaches = part-kept _ (fed .before .before .before .loop .inv .0) (subst (Feeds _ _ _ _ _) (c .before .n2 .given .1) (fed .feed .ensures .1)); onward = λ h. h }
+    record {
+      reaches = part-kept _ (fed .before .before .before .loop .inv .0) (subst (Feeds _ _ _ _ _) (c .before .n2 .given .1) (fed .feed .ensures .1));
+      onward = λ h. h;
+    }
 
 same-length-5 : tie.Need-same-length-5 Inv-loop μ-loop
 same-length-5 c = c .before .loop .inv .2
