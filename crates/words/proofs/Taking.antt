@@ -16,7 +16,7 @@ use Rattle.lines.proofs.Feeding.{prefix}
 use Rattle.lines.proofs.Parts.{next-part, no-part}
 use Rattle.lines.proofs.Reading.{cap-test, uncapped}
 use Rattle.settings.specs.declared.Settings.{Settings}
-use Rattle.words.specs.Words.{sameBytes, pick, sixteenths, taken, allTaken}
+use Rattle.words.specs.Words.{sameBytes, pick, withPenalty, sixteenths, taken, allTaken}
 use Rattle.words.specs.Steps.{sixteenthsIn}
 use Rattle.words.specs.declared.Reading as R
 use Rattle.words.specs.declared.Reading.the-variants as Reading
@@ -58,12 +58,12 @@ pub capped : (s : Settings) (o : Option ℕ) → sixteenthsIn s (sizeOf o) ≡ s
 unfolding sixteenthsIn sizeOf sixteenths
 capped s none = refl
 capped s (some n) =
-    ap (λ (t : Bool). pick t (Reading.Has (record { penalty = min n 4294967296 })) Reading.Wrong) (cap-test n 4294967295 (omega arith))
+    ap (λ (t : Bool). pick t (Reading.Has (withPenalty s (min n 4294967296))) Reading.Wrong) (cap-test n 4294967295 (omega arith))
     ∙ by (leb n 4294967295) refl
   where
     by : (t : Bool) → leb n 4294967295 ≡ t →
-        pick t (Reading.Has (record { penalty = min n 4294967296 })) Reading.Wrong ≡ pick t (Reading.Has (record { penalty = n })) Reading.Wrong
-    by true e = ap (λ (k : ℕ). Reading.Has (record { penalty = k })) (uncapped n 4294967295 (omega arith) e)
+        pick t (Reading.Has (withPenalty s (min n 4294967296))) Reading.Wrong ≡ pick t (Reading.Has (withPenalty s n)) Reading.Wrong
+    by true e = ap (λ (k : ℕ). Reading.Has (withPenalty s k)) (uncapped n 4294967295 (omega arith) e)
     by false e = refl
 
 -- ---- the words

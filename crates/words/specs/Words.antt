@@ -31,9 +31,13 @@ pick false r other = other
 unfoldable pub optionOf : Settings → List ℕ → R.Reading
 optionOf s word = pick (sameBytes word penaltyWord) (Reading.Penalty s) Reading.Wrong
 
+-- the same settings with another penalty
+abbrev pub withPenalty : Settings → ℕ → Settings
+withPenalty s n = record { penalty = n }
+
 -- the penalty: decimal digits and nothing else, of any number below 2^32; zeros in front count for nothing
 unfoldable pub sixteenths : Settings → Option ℕ → R.Reading
-sixteenths s (some n) = pick (leb n 4294967295) (Reading.Has (record { penalty = n })) Reading.Wrong
+sixteenths s (some n) = pick (leb n 4294967295) (Reading.Has (withPenalty s n)) Reading.Wrong
 sixteenths s none = Reading.Wrong
 
 -- one word more
