@@ -7,6 +7,7 @@ use checks::Verdict;
 use libc::STDIN_FILENO;
 use libc::STDOUT_FILENO;
 use lines::Parsed;
+use settings::Settings;
 
 fn wide(x: u32) -> u64 {
     x as u64
@@ -87,6 +88,7 @@ fn put_checked(
         ys,
         flags,
         k,
+        Settings::of_crate(),
         starts,
         ends,
         cxs,
@@ -156,6 +158,7 @@ fn put_run(text: &mut [u8], xs: &[i16], ys: &[i16], flags: &[u8], k: usize) -> u
         ys,
         flags,
         k,
+        Settings::of_crate(),
         &mut starts,
         &mut ends,
         &mut cxs,
