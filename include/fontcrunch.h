@@ -34,6 +34,13 @@
  * is closed: its last point leads back to its first, by a line if it is on-curve, by a curve if not.
  *
  *
+ * SETTINGS
+ *
+ * What a caller chooses goes by value. `penalty` is what each piece adds to a score, in sixteenths, from 1 to
+ * 256: a larger one asks for fewer pieces. FONTCRUNCH_DEFAULT_PENALTY is for callers with no wish of their own;
+ * FONTCRUNCH_CRATE_PENALTY is that of the Rust that this follows, whose points come out at it.
+ *
+ *
  * RUNS, BREAKS, CHAINS
  *
  * Corners cut a contour into runs, numbered from 0: run k lies between corners k and k + 1. What lies before
@@ -42,8 +49,9 @@
  * are sought that lead from the first break to the last.
  *
  * A chain is the pieces of one run, in order: each piece's start and end break numbers and its control point.
- * Its score says how far the pieces are from the run, with a penalty for each. Scores and controls are
- * compared as values: -0.0 equals 0.0, and a NaN equals a NaN.
+ * Its score says how far the pieces are from the run, with the penalty for each. Scores and controls are
+ * compared as values: -0.0 equals 0.0, and a NaN equals a NaN. A chain is checked at the penalty that it was
+ * made with.
  *
  *
  * SCRATCH
@@ -83,12 +91,17 @@ extern "C" {
 /* Break numbers rise along a chain, so no chain has more pieces than this. */
 #define FONTCRUNCH_PIECES 2047
 
+/* Penalties in sixteenths: 2.0, and 1.0. */
+#define FONTCRUNCH_DEFAULT_PENALTY 32
+#define FONTCRUNCH_CRATE_PENALTY 16
+
 /* No fixed number of points suffices for every result. This many is what the program fontcrunch lends; a
    result of more points than were lent is refused by 9. */
 #define FONTCRUNCH_POINTS_OUT 16384
 
 /* The number in every report: 0, or why nothing was done. Where several hold, 1 to 5 are tested first, in
-   this order; then 10 or 11; then runs are worked in order and the first 6, 7 or 8 met is given; 9 comes last. */
+   this order; then 16; then 10 or 11; then runs are worked in order and the first 6, 7 or 8 met is given; 9
+   comes last. */
 enum {
     FONTCRUNCH_OK = 0,
     /* xs, ys and flags differ in length */
@@ -124,6 +137,8 @@ enum {
     FONTCRUNCH_TOO_LARGE = 14,
     /* the glyph is composite */
     FONTCRUNCH_COMPOSITE = 15,
+    /* penalty is not from 1 to 256; tested after 1 to 5, before 10 and before any run is worked */
+    FONTCRUNCH_NO_SUCH_PENALTY = 16,
     /* fontcrunch_from_cubics: a rounded point is outside 16 bits */
     FONTCRUNCH_OUTSIDE_16_BITS = 17,
     /* fontcrunch_clean: there are more drops than list has places */
@@ -203,6 +218,7 @@ CrunchReport fontcrunch_crunch(
     const int16_t *xs, size_t xs_len,
     const int16_t *ys, size_t ys_len,
     const uint8_t *flags, size_t flags_len,
+    uint32_t penalty,
     int16_t *ox, size_t ox_len,
     int16_t *oy, size_t oy_len,
     uint8_t *of, size_t of_len,
@@ -222,7 +238,7 @@ ChainReport fontcrunch_chain(
     const int16_t *xs, size_t xs_len,
     const int16_t *ys, size_t ys_len,
     const uint8_t *flags, size_t flags_len,
-    size_t k,
+    size_t k, uint32_t penalty,
     uint32_t *starts, size_t starts_len,
     uint32_t *ends, size_t ends_len,
     double *cxs, size_t cxs_len,
@@ -235,15 +251,15 @@ ChainReport fontcrunch_chain(
 /*
  * Checks a chain for run k of a contour, whoever made it: it is measured anew, and nothing is sought. It is
  * accepted exactly when its pieces lead from the run's first break to its last, each straight or bent as the
- * rules allow, and its score is the sum that they give. Chain rows of unequal length, or with no piece, are
- * not accepted, which is no refusal. Answers and links are lent for their lengths alone: the checker refuses
- * by 7 where fontcrunch_chain would.
+ * rules allow, and its score is the sum that they give at this penalty. Chain rows of unequal length, or with
+ * no piece, are not accepted, which is no refusal. Answers and links are lent for their lengths alone: the
+ * checker refuses by 7 where fontcrunch_chain would.
  */
 CheckReport fontcrunch_check(
     const int16_t *xs, size_t xs_len,
     const int16_t *ys, size_t ys_len,
     const uint8_t *flags, size_t flags_len,
-    size_t k,
+    size_t k, uint32_t penalty,
     const uint32_t *starts, size_t starts_len,
     const uint32_t *ends, size_t ends_len,
     const double *cxs, size_t cxs_len,

@@ -1,8 +1,9 @@
 /*
  * Crunches the contours of a letter: letter FILE, one contour a line, `x y f x y f ...`.
  *
- * For each contour it prints the points that come out; then, for the first run that has one, the chain of
- * pieces that was found, and what the checker says of it, and of the same chain with another score.
+ * For each contour it prints the points that come out at the penalty of the Rust; then, for the first run that
+ * has one, the chain of pieces that was found, and what the checker says of it, and of the same chain with another
+ * score.
  */
 #include <inttypes.h>
 #include <math.h>
@@ -13,6 +14,9 @@
 #include "fontcrunch.h"
 
 enum { IN = FONTCRUNCH_POINTS_IN, OUT = FONTCRUNCH_POINTS_OUT, PIECES = FONTCRUNCH_PIECES };
+
+/* By its name, and not by the default: these are the points that the Rust gives. */
+enum { PENALTY = FONTCRUNCH_CRATE_PENALTY };
 
 /* A line takes at most 64 KiB, and is followed by its end. */
 enum { LINE = 65536 + 2 };
@@ -69,7 +73,7 @@ static bool read_contour(char *line)
 static CrunchReport crunch(void)
 {
     return fontcrunch_crunch(
-        contour.xs, contour.n, contour.ys, contour.n, contour.flags, contour.n,
+        contour.xs, contour.n, contour.ys, contour.n, contour.flags, contour.n, PENALTY,
         crunched.xs, OUT, crunched.ys, OUT, crunched.flags, OUT,
         samples, FONTCRUNCH_SAMPLES, breaks, FONTCRUNCH_BREAKS,
         answers, FONTCRUNCH_ANSWERS, links, FONTCRUNCH_ANSWERS, points, OUT);
@@ -78,7 +82,7 @@ static CrunchReport crunch(void)
 static ChainReport chain_of_run(size_t k)
 {
     return fontcrunch_chain(
-        contour.xs, contour.n, contour.ys, contour.n, contour.flags, contour.n, k,
+        contour.xs, contour.n, contour.ys, contour.n, contour.flags, contour.n, k, PENALTY,
         chain.starts, PIECES, chain.ends, PIECES, chain.cxs, PIECES, chain.cys, PIECES,
         samples, FONTCRUNCH_SAMPLES, breaks, FONTCRUNCH_BREAKS,
         answers, FONTCRUNCH_ANSWERS, links, FONTCRUNCH_ANSWERS);
@@ -87,7 +91,7 @@ static ChainReport chain_of_run(size_t k)
 static CheckReport check_of_run(size_t k, size_t pieces, double score)
 {
     return fontcrunch_check(
-        contour.xs, contour.n, contour.ys, contour.n, contour.flags, contour.n, k,
+        contour.xs, contour.n, contour.ys, contour.n, contour.flags, contour.n, k, PENALTY,
         chain.starts, pieces, chain.ends, pieces, chain.cxs, pieces, chain.cys, pieces, score,
         samples, FONTCRUNCH_SAMPLES, breaks, FONTCRUNCH_BREAKS,
         answers, FONTCRUNCH_ANSWERS, links, FONTCRUNCH_ANSWERS);

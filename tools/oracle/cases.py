@@ -1,6 +1,7 @@
 """What the selftest asks and what must come back: document 01's table and findings about the Rust.
 
-A case is a contour and its answer, for all three programs unless it says otherwise.
+A case is a contour and its answer, for all three programs unless it says otherwise. The programs keep the Rust's
+own penalty unless a case says another.
 """
 
 
@@ -82,6 +83,28 @@ OVERFLOW = [
         "5 5 1 5 5 0 5 5 1 32767 0 0 -1 0 1 32767 0 0",
         "ok 1 5 5 1 32767 0 0 32767 0 0 5 5 1 5 5 0 5 5 1",
     ),
+]
+
+# settings, contour, answer
+CHOSEN = [
+    # one bent piece has the error 1.07: 2.07 is above 4 penalties, 3.07 above 3, 5.07 above none; then it is straight
+    ("--penalty 8", "9 25 1 14 20 0 4 35 1", "ok 737 4 35 1 14 20 0 9 25 1"),
+    ("--penalty 16", "9 25 1 14 20 0 4 35 1", "ok 71 4 35 1 14 20 0 9 25 1"),
+    ("--penalty 32", "9 25 1 14 20 0 4 35 1", "ok 1 4 35 1 14 20 0 9 25 1"),
+    ("--penalty 256", "9 25 1 14 20 0 4 35 1", "ok 1 4 35 1 9 25 1"),
+    # what is refused hangs on the pairs tried
+    ("--penalty 1", "0 0 1 432 433 0 410 410 1 -300 900 1", "refused 8"),
+    ("--penalty 32", "0 0 1 432 433 0 410 410 1 -300 900 1", "refused 8"),
+    ("--penalty 256", "0 0 1 432 433 0 410 410 1 -300 900 1", "ok 1 -300 900 1 410 410 1 0 0 1"),
+    # 16 comes after 2 to 5 and before any run
+    ("--penalty 0", "7 9 1", "refused 16"),
+    ("--penalty 257", "0 0 1 32767 0 0 32767 32767 1", "refused 16"),
+    ("--penalty 4294967295", "7 9 1", "refused 16"),
+    ("--penalty 0", "", "refused 2"),
+    ("--penalty 0", line([(0, 0, 0)] * 1025), "refused 3"),
+    ("--penalty 0", "0 0 0", "refused 4"),
+    ("--penalty 0", "0 0 1 1 1 0 2 2 0", "refused 5"),
+    ("--penalty 0", "x", "malformed"),
 ]
 
 # contour, its segments and marks; the lengths that follow are not compared here

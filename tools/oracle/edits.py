@@ -71,6 +71,9 @@ RECORDS = [
     after("chain of a run", "let mut sl: &Statelet = states[n].sts.as_ref().as_ref().unwrap();", "hooks::chained(sl);"),
 ]
 
+# What a caller chooses; without a word each is as the Rust has it.
+SETTINGS = [one("penalty of a piece", "thetas.optimize(1.0)", "thetas.optimize(hooks::settings().per_piece())")]
+
 ROOTS = [
     one(
         "root in the bend test",
@@ -104,7 +107,7 @@ def cut(text):
 
 def edited(read, roots):
     """The three edited files by name; `read` gives a published file's text."""
-    edits = IMPORTS + ROOMS + RECORDS + (ROOTS if roots else [])
+    edits = IMPORTS + ROOMS + RECORDS + SETTINGS + (ROOTS if roots else [])
     return {
         "main.rs": apply(cut(read(FONTCRUNCH)), edits, FONTCRUNCH),
         "fonttools/tables/glyf/contourutils.rs": apply(read(CONTOURUTILS), IMPLIED, CONTOURUTILS),

@@ -4,7 +4,7 @@
 
 use super::fonttools::tables::glyf::contourutils::glyf_contour_to_kurbo_contour;
 use super::fonttools::tables::glyf::{Glyph, Point as GlyfPoint};
-use super::hooks::{self, Ending, Keep, Refused, Run};
+use super::hooks::{self, Ending, Keep, Refused, Run, Settings};
 use super::{crunch_contour, crunch_glyph, intersect, segment_sp, Break, QBMonkeyPatch, Thetas};
 use kurbo::{PathSeg, Point, QuadBez};
 use std::cell::RefCell;
@@ -14,8 +14,9 @@ use std::time::{Duration, Instant};
 
 const HELP: &str = include_str!("help.txt");
 
-#[derive(Clone, Copy)]
+#[derive(Clone, Copy, Default)]
 enum Mode {
+    #[default]
     Crunch,
     Runs,
     Corners,
@@ -24,17 +25,26 @@ enum Mode {
     Measures(usize),
 }
 
+/// What the words ask for.
+#[derive(Default)]
+struct Asked {
+    mode: Mode,
+    timed: bool,
+    settings: Settings,
+}
+
 pub fn main() {
-    let (mode, timed) = match options(std::env::args().skip(1)) {
-        Ok(chosen) => chosen,
+    let asked = match options(std::env::args().skip(1)) {
+        Ok(asked) => asked,
         Err(message) => {
             eprintln!("{message}; see --help");
             std::process::exit(2)
         }
     };
+    hooks::choose(asked.settings);
     watch_panics();
-    match serve(mode) {
-        Ok(spent) if timed => eprintln!("{:.6}", spent.as_secs_f64()),
+    match serve(asked.mode) {
+        Ok(spent) if asked.timed => eprintln!("{:.6}", spent.as_secs_f64()),
         Ok(_) => {}
         // a reader that has seen enough is no fault of ours
         Err(fault) if fault.kind() == io::ErrorKind::BrokenPipe => {}
@@ -45,35 +55,41 @@ pub fn main() {
     }
 }
 
-fn options(mut args: impl Iterator<Item = String>) -> Result<(Mode, bool), String> {
-    let mut mode = Mode::Crunch;
-    let mut timed = false;
+fn options(mut args: impl Iterator<Item = String>) -> Result<Asked, String> {
+    let mut asked = Asked::default();
     while let Some(arg) = args.next() {
-        let chosen = match arg.as_str() {
+        match arg.as_str() {
             "--help" => {
                 print!("{HELP}");
                 std::process::exit(0)
             }
-            "--time" => {
-                timed = true;
-                continue;
-            }
-            "--runs" => Mode::Runs,
-            "--corners" => Mode::Corners,
-            "--breaks" => Mode::Breaks,
-            "--samples" => Mode::Samples,
-            "--measures" => {
-                let count = args.next().and_then(|c| c.parse::<u32>().ok());
-                Mode::Measures(count.ok_or("--measures needs a count")? as usize)
-            }
+            "--time" => asked.timed = true,
+            "--penalty" => asked.settings.penalty = count(&arg, args.next())?,
+            "--runs" => asked.choose(Mode::Runs)?,
+            "--corners" => asked.choose(Mode::Corners)?,
+            "--breaks" => asked.choose(Mode::Breaks)?,
+            "--samples" => asked.choose(Mode::Samples)?,
+            "--measures" => asked.choose(Mode::Measures(count(&arg, args.next())? as usize))?,
             _ => return Err(format!("unknown option {arg}")),
-        };
-        if !matches!(mode, Mode::Crunch) {
+        }
+    }
+    Ok(asked)
+}
+
+/// The number after an option.
+fn count(option: &str, word: Option<String>) -> Result<u32, String> {
+    let number = word.and_then(|word| word.parse().ok());
+    number.ok_or(format!("{option} needs a number"))
+}
+
+impl Asked {
+    fn choose(&mut self, mode: Mode) -> Result<(), String> {
+        if !matches!(self.mode, Mode::Crunch) {
             return Err("one of the modes at a time".to_string());
         }
-        mode = chosen
+        self.mode = mode;
+        Ok(())
     }
-    Ok((mode, timed))
 }
 
 /// Answers every line; how long the work took, reading and parsing left out.
@@ -131,7 +147,7 @@ fn point(three: &[i32]) -> Option<GlyfPoint> {
     })
 }
 
-/// Refusals 2 to 5; 1 cannot be met in a line of whole points.
+/// Refusals 2 to 5, then 16; 1 cannot be met in a line of whole points.
 fn judge(points: &[GlyfPoint]) -> Option<u32> {
     if points.is_empty() {
         Some(2)
@@ -144,6 +160,8 @@ fn judge(points: &[GlyfPoint]) -> Option<u32> {
         .any(|two| !two[0].on_curve && !two[1].on_curve)
     {
         Some(5)
+    } else if !(1..=256).contains(&hooks::settings().penalty) {
+        Some(16)
     } else {
         None
     }

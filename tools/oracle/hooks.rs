@@ -1,15 +1,50 @@
-//! What the edited Rust calls: the rooms, the count of pairs, and a record of each run.
-//! Nothing here touches a number that the Rust works with.
+//! What the edited Rust calls: the settings, the rooms, the count of pairs, and a record of each run.
+//! Nothing here touches a number that the Rust works with, but for the settings.
 
 use super::{Break, Statelet, Thetas};
 use kurbo::{Point, QuadBez};
 use std::cell::{Cell, RefCell};
+use std::sync::OnceLock;
 
 const SAMPLE_ROOM: usize = 16_384;
 const BREAK_ROOM: usize = 2_048;
 
 /// Thrown where a room is exceeded: the number that is handed back.
 pub struct Refused(pub u32);
+
+/// What a caller chooses, for all contours of a run of the program.
+pub struct Settings {
+    /// of a piece, in sixteenths
+    pub penalty: u32,
+}
+
+/// The Rust's own penalty, 1.0.
+pub const CRATE_PENALTY: u32 = 16;
+
+impl Default for Settings {
+    fn default() -> Self {
+        Settings {
+            penalty: CRATE_PENALTY,
+        }
+    }
+}
+
+impl Settings {
+    /// Exact for every penalty that is let through.
+    pub fn per_piece(&self) -> f64 {
+        self.penalty as f64 / 16.0
+    }
+}
+
+static CHOSEN: OnceLock<Settings> = OnceLock::new();
+
+pub fn choose(settings: Settings) {
+    assert!(CHOSEN.set(settings).is_ok(), "settings are chosen once")
+}
+
+pub fn settings() -> &'static Settings {
+    CHOSEN.get().expect("settings are chosen first")
+}
 
 pub enum Ending {
     Open,

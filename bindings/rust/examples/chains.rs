@@ -1,19 +1,22 @@
 //! Asks for chains, checks them, and checks copies that were damaged on purpose; `tools/chains/check`
 //! holds what this prints to the oracle.
 //!
+//! usage: chains [--penalty N], by default that of the Rust.
+//!
 //! Input: a run number and a contour on each line, `K x y f x y f ...`. Output, a line each:
 //! `refused N`, `pairs P unchanged`, or `pairs P score S chain C [START END CX CY]*C`, as the oracle
 //! writes them, and after a chain ` ; ` with the verdicts on it: `yes`, then how many harmless copies
 //! were accepted and how many damaged ones refused, `harmless A/B damaged A/B`.
 
+use std::env;
 use std::io::{self, BufRead, BufWriter, Write};
 
-use fontcrunch::{Chain, Cruncher, Piece, Point, Refusal};
+use fontcrunch::{Chain, Cruncher, Piece, Point, Refusal, Settings};
 
 const NAN_BITS: u64 = 0x7ff8_0000_0000_0000;
 
 fn main() -> io::Result<()> {
-    let mut cruncher = Cruncher::new();
+    let mut cruncher = Cruncher::new(settings(env::args().skip(1)));
     let mut out = BufWriter::new(io::stdout().lock());
     for line in io::stdin().lock().lines() {
         let words: Vec<i64> = line?.split(' ').filter_map(|word| word.parse().ok()).collect();
@@ -22,6 +25,18 @@ fn main() -> io::Result<()> {
         writeln!(out, "{}", answer(&mut cruncher, &points, run as usize))?;
     }
     out.flush()
+}
+
+/// What is no such word ends the program: a comparison at other settings than were asked for would say nothing.
+fn settings(mut words: impl Iterator<Item = String>) -> Settings {
+    let mut settings = Settings::of_crate();
+    while let Some(word) = words.next() {
+        match word.as_str() {
+            "--penalty" => settings.penalty = words.next().and_then(|n| n.parse().ok()).expect("a penalty"),
+            _ => panic!("there is no option {word}"),
+        }
+    }
+    settings
 }
 
 fn point(three: &[i64]) -> Point {

@@ -7,6 +7,7 @@ use crate::reasons::Reasons;
 use crate::refusal::Refusal;
 use crate::rows::{ChainRows, Contour, Output, Scratch};
 use crate::rows::{MOST_PIECES, USUAL_POINT_ROOM};
+use crate::settings::Settings;
 
 /// A point of a contour.
 #[derive(Clone, Copy, Debug, Default, PartialEq, Eq, Hash)]
@@ -62,8 +63,10 @@ pub struct Chain {
     pub pairs: usize,
 }
 
-/// Crunches contours, one after another, in rows that it holds: about a megabyte, allocated once.
+/// Crunches contours, one after another, at its settings and in rows that it holds: about a megabyte, allocated
+/// once.
 pub struct Cruncher {
+    settings: Settings,
     contour: Contour,
     chain: ChainRows,
     output: Output,
@@ -71,20 +74,27 @@ pub struct Cruncher {
 }
 
 impl Cruncher {
-    /// A cruncher with the full rooms, and room for [`USUAL_POINT_ROOM`] points of a result.
-    pub fn new() -> Cruncher {
-        Cruncher::with_point_room(USUAL_POINT_ROOM)
+    /// A cruncher with the full rooms, and room for [`USUAL_POINT_ROOM`] points of a result. There is none
+    /// without settings: whoever wants the default says so, by [`Settings::default`].
+    pub fn new(settings: Settings) -> Cruncher {
+        Cruncher::with_point_room(settings, USUAL_POINT_ROOM)
     }
 
     /// A cruncher with room for that many points of a result. No fixed number suffices for every contour;
     /// a result that has more, implied points counted, is refused by 9.
-    pub fn with_point_room(room: usize) -> Cruncher {
+    pub fn with_point_room(settings: Settings, room: usize) -> Cruncher {
         Cruncher {
+            settings,
             contour: Contour::default(),
             chain: ChainRows::default(),
             output: Output::of_room(room),
             scratch: Scratch::full(),
         }
+    }
+
+    /// What it crunches, finds and checks chains at.
+    pub const fn settings(&self) -> Settings {
+        self.settings
     }
 
     /// Crunches a contour.
@@ -93,7 +103,7 @@ impl Cruncher {
     /// reversed, with the start at both ends.
     pub fn crunch(&mut self, points: &[Point]) -> Result<Crunched, Refusal> {
         self.take_contour(points);
-        let report = entries::crunch(&self.contour, &mut self.output, &mut self.scratch);
+        let report = entries::crunch(&self.contour, self.settings, &mut self.output, &mut self.scratch);
         unless_refused(report.number)?;
         Ok(Crunched { points: self.points_out(report.points), pairs: report.pairs })
     }
@@ -104,7 +114,7 @@ impl Cruncher {
     pub fn chain(&mut self, points: &[Point], run: usize) -> Result<Chain, Refusal> {
         self.take_contour(points);
         self.chain.resize(MOST_PIECES);
-        let report = entries::chain(&self.contour, run, &mut self.chain, &mut self.scratch);
+        let report = entries::chain(&self.contour, run, self.settings, &mut self.chain, &mut self.scratch);
         unless_refused(report.number)?;
         Ok(Chain {
             pieces: self.pieces_out(report.pieces),
@@ -113,14 +123,16 @@ impl Cruncher {
         })
     }
 
-    /// Whether a chain, whoever made it, is valid for one run of a contour and has the score that it says.
+    /// Whether a chain, whoever made it, is valid for one run of a contour and has the score that it says, at
+    /// the cruncher's settings: a chain is checked at those that it was made with.
     ///
     /// Controls and score are compared as values: -0.0 equals 0.0, and a NaN equals a NaN. A chain with no
     /// piece is never accepted.
     pub fn check(&mut self, points: &[Point], run: usize, chain: &Chain) -> Result<bool, Refusal> {
         self.take_contour(points);
         self.take_chain(&chain.pieces);
-        let report = entries::check(&self.contour, run, &self.chain, chain.score, &mut self.scratch);
+        let report =
+            entries::check(&self.contour, run, self.settings, &self.chain, chain.score, &mut self.scratch);
         unless_refused(report.number)?;
         Ok(report.accepted != 0)
     }
@@ -165,16 +177,13 @@ impl Cruncher {
     }
 }
 
-impl Default for Cruncher {
-    fn default() -> Cruncher {
-        Cruncher::new()
-    }
-}
-
 impl fmt::Debug for Cruncher {
     // the rows hold nothing between calls that a reader could use
     fn fmt(&self, f: &mut fmt::Formatter<'_>) -> fmt::Result {
-        f.debug_struct("Cruncher").field("point_room", &self.output.points.len()).finish_non_exhaustive()
+        f.debug_struct("Cruncher")
+            .field("settings", &self.settings)
+            .field("point_room", &self.output.points.len())
+            .finish_non_exhaustive()
     }
 }
 

@@ -9,6 +9,7 @@ pub(crate) mod cubics;
 pub(crate) mod reasons;
 
 use crate::rows::{ChainRows, Contour, Output, Scratch};
+use crate::settings::Settings;
 
 /// What `fontcrunch_crunch` says; the names are those of include/fontcrunch.h.
 #[repr(C)]
@@ -43,6 +44,7 @@ extern "C" {
         ys_len: usize,
         flags: *const u8,
         flags_len: usize,
+        penalty: u32,
         ox: *mut i16,
         ox_len: usize,
         oy: *mut i16,
@@ -69,6 +71,7 @@ extern "C" {
         flags: *const u8,
         flags_len: usize,
         k: usize,
+        penalty: u32,
         starts: *mut u32,
         starts_len: usize,
         ends: *mut u32,
@@ -95,6 +98,7 @@ extern "C" {
         flags: *const u8,
         flags_len: usize,
         k: usize,
+        penalty: u32,
         starts: *const u32,
         starts_len: usize,
         ends: *const u32,
@@ -115,75 +119,65 @@ extern "C" {
     ) -> CheckReport;
 }
 
-pub(crate) fn crunch(contour: &Contour, out: &mut Output, scratch: &mut Scratch) -> CrunchReport {
+#[rustfmt::skip] // a row to a line
+pub(crate) fn crunch(
+    contour: &Contour,
+    settings: Settings,
+    out: &mut Output,
+    scratch: &mut Scratch,
+) -> CrunchReport {
     // SAFETY: each pointer is a slice's own, with its length; see the head of this file.
     unsafe {
         fontcrunch_crunch(
-            contour.xs.as_ptr(),
-            contour.xs.len(),
-            contour.ys.as_ptr(),
-            contour.ys.len(),
-            contour.flags.as_ptr(),
-            contour.flags.len(),
-            out.xs.as_mut_ptr(),
-            out.xs.len(),
-            out.ys.as_mut_ptr(),
-            out.ys.len(),
-            out.flags.as_mut_ptr(),
-            out.flags.len(),
-            scratch.samples.as_mut_ptr(),
-            scratch.samples.len(),
-            scratch.breaks.as_mut_ptr(),
-            scratch.breaks.len(),
-            scratch.answers.as_mut_ptr(),
-            scratch.answers.len(),
-            scratch.links.as_mut_ptr(),
-            scratch.links.len(),
-            out.points.as_mut_ptr(),
-            out.points.len(),
+            contour.xs.as_ptr(), contour.xs.len(),
+            contour.ys.as_ptr(), contour.ys.len(),
+            contour.flags.as_ptr(), contour.flags.len(),
+            settings.penalty,
+            out.xs.as_mut_ptr(), out.xs.len(),
+            out.ys.as_mut_ptr(), out.ys.len(),
+            out.flags.as_mut_ptr(), out.flags.len(),
+            scratch.samples.as_mut_ptr(), scratch.samples.len(),
+            scratch.breaks.as_mut_ptr(), scratch.breaks.len(),
+            scratch.answers.as_mut_ptr(), scratch.answers.len(),
+            scratch.links.as_mut_ptr(), scratch.links.len(),
+            out.points.as_mut_ptr(), out.points.len(),
         )
     }
 }
 
+#[rustfmt::skip] // a row to a line
 pub(crate) fn chain(
     contour: &Contour,
     run: usize,
+    settings: Settings,
     chain: &mut ChainRows,
     scratch: &mut Scratch,
 ) -> ChainReport {
     // SAFETY: each pointer is a slice's own, with its length; see the head of this file.
     unsafe {
         fontcrunch_chain(
-            contour.xs.as_ptr(),
-            contour.xs.len(),
-            contour.ys.as_ptr(),
-            contour.ys.len(),
-            contour.flags.as_ptr(),
-            contour.flags.len(),
+            contour.xs.as_ptr(), contour.xs.len(),
+            contour.ys.as_ptr(), contour.ys.len(),
+            contour.flags.as_ptr(), contour.flags.len(),
             run,
-            chain.starts.as_mut_ptr(),
-            chain.starts.len(),
-            chain.ends.as_mut_ptr(),
-            chain.ends.len(),
-            chain.xs.as_mut_ptr(),
-            chain.xs.len(),
-            chain.ys.as_mut_ptr(),
-            chain.ys.len(),
-            scratch.samples.as_mut_ptr(),
-            scratch.samples.len(),
-            scratch.breaks.as_mut_ptr(),
-            scratch.breaks.len(),
-            scratch.answers.as_mut_ptr(),
-            scratch.answers.len(),
-            scratch.links.as_mut_ptr(),
-            scratch.links.len(),
+            settings.penalty,
+            chain.starts.as_mut_ptr(), chain.starts.len(),
+            chain.ends.as_mut_ptr(), chain.ends.len(),
+            chain.xs.as_mut_ptr(), chain.xs.len(),
+            chain.ys.as_mut_ptr(), chain.ys.len(),
+            scratch.samples.as_mut_ptr(), scratch.samples.len(),
+            scratch.breaks.as_mut_ptr(), scratch.breaks.len(),
+            scratch.answers.as_mut_ptr(), scratch.answers.len(),
+            scratch.links.as_mut_ptr(), scratch.links.len(),
         )
     }
 }
 
+#[rustfmt::skip] // a row to a line
 pub(crate) fn check(
     contour: &Contour,
     run: usize,
+    settings: Settings,
     chain: &ChainRows,
     score: f64,
     scratch: &mut Scratch,
@@ -191,30 +185,20 @@ pub(crate) fn check(
     // SAFETY: each pointer is a slice's own, with its length; see the head of this file.
     unsafe {
         fontcrunch_check(
-            contour.xs.as_ptr(),
-            contour.xs.len(),
-            contour.ys.as_ptr(),
-            contour.ys.len(),
-            contour.flags.as_ptr(),
-            contour.flags.len(),
+            contour.xs.as_ptr(), contour.xs.len(),
+            contour.ys.as_ptr(), contour.ys.len(),
+            contour.flags.as_ptr(), contour.flags.len(),
             run,
-            chain.starts.as_ptr(),
-            chain.starts.len(),
-            chain.ends.as_ptr(),
-            chain.ends.len(),
-            chain.xs.as_ptr(),
-            chain.xs.len(),
-            chain.ys.as_ptr(),
-            chain.ys.len(),
+            settings.penalty,
+            chain.starts.as_ptr(), chain.starts.len(),
+            chain.ends.as_ptr(), chain.ends.len(),
+            chain.xs.as_ptr(), chain.xs.len(),
+            chain.ys.as_ptr(), chain.ys.len(),
             score,
-            scratch.samples.as_mut_ptr(),
-            scratch.samples.len(),
-            scratch.breaks.as_mut_ptr(),
-            scratch.breaks.len(),
-            scratch.answers.as_mut_ptr(),
-            scratch.answers.len(),
-            scratch.links.as_mut_ptr(),
-            scratch.links.len(),
+            scratch.samples.as_mut_ptr(), scratch.samples.len(),
+            scratch.breaks.as_mut_ptr(), scratch.breaks.len(),
+            scratch.answers.as_mut_ptr(), scratch.answers.len(),
+            scratch.links.as_mut_ptr(), scratch.links.len(),
         )
     }
 }

@@ -4,9 +4,9 @@
 //! contours give equal points on every host, always.
 //!
 //! ```
-//! use fontcrunch::{Cruncher, Point};
+//! use fontcrunch::{Cruncher, Point, Settings};
 //!
-//! let mut cruncher = Cruncher::new();
+//! let mut cruncher = Cruncher::new(Settings::default());
 //! let triangle = [Point::on(0, 0), Point::on(100, 0), Point::on(0, 100)];
 //! let crunched = cruncher.crunch(&triangle)?;
 //! // points come out in reverse order
@@ -20,13 +20,18 @@
 //! ones is written out. It is closed: the last point leads back to the first, by a line if it is on-curve,
 //! by a curve if not.
 //!
+//! # Settings
+//!
+//! A [`Cruncher`] is made with [`Settings`]: the penalty of a piece, by default 2.0. [`Settings::of_crate`] has
+//! that of the Rust which this follows, 1.0.
+//!
 //! # Runs and chains
 //!
 //! Corners cut a contour into runs, numbered from 0: run k lies between corners k and k + 1. What lies
 //! before the first corner and after the last is in no run, and is not written. A run that is a single line
 //! is copied; any other is worked. Places along it, rounded to half units, are its breaks, and the
 //! [`Chain`] of a run leads over pieces from its first break to its last. Anyone can have a chain checked
-//! with [`Cruncher::check`], which measures it anew and seeks nothing.
+//! with [`Cruncher::check`], which measures it anew and seeks nothing, at the settings that it was made with.
 //!
 //! [`Cruncher::why`] tells which tests make the start of a segment a corner.
 //!
@@ -55,6 +60,7 @@ pub mod glyph;
 mod reasons;
 mod refusal;
 mod rows;
+mod settings;
 
 pub use cleaning::{clean, put_back, Cleaned, Dropped, Why};
 pub use cruncher::{Chain, Crunched, Cruncher, Piece, Point};
@@ -62,3 +68,4 @@ pub use cubics::from_cubics;
 pub use reasons::Reasons;
 pub use refusal::Refusal;
 pub use rows::{ANSWER_ROOM, BREAK_ROOM, MOST_PIECES, MOST_POINTS_IN, SAMPLE_ROOM, USUAL_POINT_ROOM};
+pub use settings::{Settings, CRATE_PENALTY, DEFAULT_PENALTY};

@@ -5,8 +5,8 @@ use std::fmt;
 
 /// Why a contour, or a run of it, is refused.
 ///
-/// Where several reasons hold, 1 to 5 are tested first, in that order; then 10 or 11; then runs are worked in
-/// order, and the first 6, 7 or 8 met is given; 9 comes last.
+/// Where several reasons hold, 1 to 5 are tested first, in that order; then 16; then 10 or 11; then runs are
+/// worked in order, and the first 6, 7 or 8 met is given; 9 comes last.
 #[derive(Clone, Copy, Debug, PartialEq, Eq, Hash)]
 #[non_exhaustive]
 pub enum Refusal {
@@ -43,6 +43,8 @@ pub enum Refusal {
     TooLarge,
     /// 15: the glyph is composite.
     Composite,
+    /// 16: the penalty is not from 1 to 256.
+    NoSuchPenalty,
     /// 17: a rounded point is outside 16 bits; cubics only.
     Outside16Bits,
     /// 18: there are more drops than the list has places. This crate's functions always lend enough.
@@ -70,6 +72,7 @@ impl Refusal {
             Refusal::EndsNotRising => 13,
             Refusal::TooLarge => 14,
             Refusal::Composite => 15,
+            Refusal::NoSuchPenalty => 16,
             Refusal::Outside16Bits => 17,
             Refusal::ListTooShort => 18,
             Refusal::Other(number) => number,
@@ -95,6 +98,7 @@ impl Refusal {
             13 => Refusal::EndsNotRising,
             14 => Refusal::TooLarge,
             15 => Refusal::Composite,
+            16 => Refusal::NoSuchPenalty,
             17 => Refusal::Outside16Bits,
             18 => Refusal::ListTooShort,
             other => Refusal::Other(other),
@@ -128,6 +132,7 @@ impl Refusal {
             Refusal::EndsNotRising => "the ends of the glyph's contours do not rise",
             Refusal::TooLarge => "a coordinate, a difference or a count is too large for its field",
             Refusal::Composite => "the glyph is composite",
+            Refusal::NoSuchPenalty => "the penalty is not from 1 to 256 sixteenths",
             Refusal::Outside16Bits => "a point of the quads is outside -32768 and 32767",
             Refusal::ListTooShort => "there are more dropped points than the list has places",
             Refusal::Other(_) => "the library gives a reason that this version has no words for",
@@ -157,12 +162,13 @@ mod tests {
         assert_eq!(Refusal::from_number(3), Some(Refusal::TooManyPoints));
         assert_eq!(Refusal::from_number(10), Some(Refusal::NoSuchRun));
         assert_eq!(Refusal::from_number(11), Some(Refusal::NoSuchSegment));
+        assert_eq!(Refusal::from_number(16), Some(Refusal::NoSuchPenalty));
         assert_eq!(Refusal::from_number(99), Some(Refusal::Other(99)));
     }
 
     #[test]
     fn each_says_its_number_and_a_reason_of_its_own() {
-        let numbers = 1..=16;
+        let numbers = 1..=18;
         let said: Vec<String> =
             numbers.clone().map(|n| Refusal::from_number(n).unwrap().to_string()).collect();
         for (number, text) in numbers.zip(&said) {

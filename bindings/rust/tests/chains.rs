@@ -2,15 +2,15 @@
 
 mod common;
 
-use common::{hill, letter, points, still};
+use common::{as_recorded, hill, letter, points, still};
 use fontcrunch::{Chain, Cruncher, Piece, Point, Refusal};
 
 fn hill_chain() -> Chain {
-    Cruncher::new().chain(&hill(), 0).unwrap()
+    as_recorded().chain(&hill(), 0).unwrap()
 }
 
 fn accepts(chain: &Chain) -> bool {
-    Cruncher::new().check(&hill(), 0, chain).unwrap()
+    as_recorded().check(&hill(), 0, chain).unwrap()
 }
 
 /// The chain of the hill after a change.
@@ -44,7 +44,7 @@ fn worked_runs(cruncher: &mut Cruncher, contour: &[Point]) -> Vec<(usize, Chain)
 
 #[test]
 fn the_chains_of_a_letter_are_accepted_and_their_pairs_add_up() {
-    let mut cruncher = Cruncher::new();
+    let mut cruncher = as_recorded();
     for contour in letter() {
         let crunched = cruncher.crunch(&contour).unwrap();
         let runs = worked_runs(&mut cruncher, &contour);
@@ -66,7 +66,7 @@ fn assert_pairs_are_possible(chain: &Chain) {
 
 #[test]
 fn the_chain_of_another_run_or_contour() {
-    let mut cruncher = Cruncher::new();
+    let mut cruncher = as_recorded();
     let counter = &letter()[2];
     let runs = worked_runs(&mut cruncher, counter);
     assert_eq!(runs.len(), 3);
@@ -158,7 +158,7 @@ fn a_good_shape_with_the_score_of_another() {
 fn nans_are_equal_whatever_their_bits() {
     // a run with one break: its one piece stays there, and its score is no number
     let contour = points(&[0, 0, 1, 0, 1, 0, 0, 0, 1, 5, 50, 1]);
-    let mut cruncher = Cruncher::new();
+    let mut cruncher = as_recorded();
     let mut chain = cruncher.chain(&contour, 0).unwrap();
     assert_eq!(chain.pieces, [Piece { start: 0, end: 0, control: (0.0, 0.0) }]);
     assert_eq!(chain.score.to_bits(), 0x7ff8_0000_0000_0000);
@@ -172,7 +172,7 @@ fn nans_are_equal_whatever_their_bits() {
 
 #[test]
 fn an_unchanged_run_has_no_chain() {
-    let mut cruncher = Cruncher::new();
+    let mut cruncher = as_recorded();
     let chain = cruncher.chain(&still(), 0).unwrap();
     assert_eq!(chain, Chain { pieces: vec![], score: 0.0, pairs: 1 });
     assert_eq!(chain.score.to_bits(), 0);
@@ -182,7 +182,7 @@ fn an_unchanged_run_has_no_chain() {
 // document 01's tangents: run 0 is worked where the second point is no corner, and a copied line where it is
 #[test]
 fn corners_by_angle() {
-    let mut cruncher = Cruncher::new();
+    let mut cruncher = as_recorded();
     let flat = points(&[0, 0, 1, 100, 0, 1, 200, 2, 1, 300, -300, 1]);
     assert_eq!(cruncher.chain(&flat, 0).unwrap().pieces.len(), 1);
     let bent = points(&[0, 0, 1, 100, 0, 1, 199, 2, 1, 300, -300, 1]);

@@ -31,9 +31,13 @@ fn text(bytes: &[u8]) -> String {
     String::from_utf8(bytes.to_vec()).unwrap()
 }
 
-/// Lines in, lines out.
+/// Lines in, lines out, at the penalty of the Rust that this follows.
 fn answers(input: &str) -> Vec<String> {
-    text(&run(&[], input.as_bytes()).stdout).lines().map(str::to_owned).collect()
+    answers_to(&["--penalty", "16"], input)
+}
+
+fn answers_to(words: &[&str], input: &str) -> Vec<String> {
+    text(&run(words, input.as_bytes()).stdout).lines().map(str::to_owned).collect()
 }
 
 fn status(words: &[&str], input: &str) -> i32 {
@@ -196,6 +200,50 @@ fn help_and_version() {
     assert!(wrong.stdout.is_empty());
 }
 
+// ---- settings
+
+#[test]
+fn the_default_is_a_penalty_of_32() {
+    let letter = fs::read_to_string(LETTER).unwrap();
+    // the smallest contour of the three
+    let counter = letter.lines().last().unwrap();
+    let at = |words: &[&str]| answers_to(words, counter);
+    assert_eq!(at(&[]), at(&["--penalty", "32"]));
+    assert_eq!(at(&["crunch"]), at(&["crunch", "--penalty=32"]));
+    assert_eq!(at(&["--penalty", "16"]), [RECORDED_COUNTER]);
+    assert_ne!(at(&["--penalty", "256"]), at(&["--penalty", "1"]));
+    assert_eq!(at(&["clean", "--crunch"]), at(&[]));
+    assert_eq!(at(&["clean", "--crunch", "--penalty", "16"]), [RECORDED_COUNTER]);
+}
+
+// examples/c/expected has the same
+const RECORDED_COUNTER: &str =
+    "ok 1855 532 995 1 778 995 0 778 748 1 778 512 0 535 512 1 419 512 0 289 630 0 289 745 1";
+
+#[test]
+fn a_penalty_out_of_range_is_refused_line_by_line_after_1_to_5() {
+    let input = "7 9 1\n\n0 0 0\n0 0 1 1 1 0 2 2 0\nx\n0 0 1 700 0 0 700 700 1\n";
+    let lines = ["refused 16", "refused 2", "refused 4", "refused 5", "malformed", "refused 16"];
+    for penalty in ["0", "257", "99999999999999999999"] {
+        assert_eq!(answers_to(&["--penalty", penalty], input), lines);
+        assert_eq!(answers_to(&["clean", "--crunch", "--penalty", penalty], input), lines);
+    }
+    assert_eq!(status(&["--penalty", "0"], "7 9 1\n"), 1);
+    let cubics = "0 0 1 1 1 0\n7 9 1\n";
+    assert_eq!(answers_to(&["cubic", "--crunch", "--penalty", "0"], cubics), ["refused 5", "refused 16"]);
+}
+
+#[test]
+fn a_penalty_that_is_no_number_is_a_wrong_command_line() {
+    let wrong = run(&["--penalty", "1.5"], b"7 9 1\n");
+    assert_eq!(wrong.status.code(), Some(2));
+    assert!(wrong.stdout.is_empty());
+    assert_eq!(
+        text(&wrong.stderr),
+        "fontcrunch: --penalty needs a whole number of sixteenths, 1 to 256; see fontcrunch --help\n"
+    );
+}
+
 // ---- files
 
 #[test]
@@ -243,8 +291,12 @@ fn assert_well_formed(svg: &str) {
 }
 
 fn drawn(name: &str, input: &str) -> String {
+    drawn_with(&[], name, input)
+}
+
+fn drawn_with(words: &[&str], name: &str, input: &str) -> String {
     let picture = path(&folder(name), "picture.svg");
-    run(&["--svg", &picture], input.as_bytes());
+    run(&[&["--svg", &picture], words].concat(), input.as_bytes());
     let svg = fs::read_to_string(picture).unwrap();
     assert_well_formed(&svg);
     svg
@@ -259,8 +311,8 @@ fn a_letter_is_drawn() {
     let picture = path(&folder("letter"), "letter.svg");
     let output = run(&["--svg", &picture, LETTER], b"");
     assert!(output.status.success());
-    // the answers are those without a picture
-    assert_eq!(output.stdout, run(&[LETTER], b"").stdout);
+    // the answers are those without a picture, at the penalty that a picture has
+    assert_eq!(output.stdout, run(&["--penalty", "16", LETTER], b"").stdout);
     let svg = fs::read_to_string(picture).unwrap();
     assert_well_formed(&svg);
     for words in [
@@ -268,6 +320,7 @@ fn a_letter_is_drawn() {
         "after: 43 points",
         "letter.txt, line 3",
         "1,855 pairs tried",
+        "at the penalty 1.0, 16 sixteenths",
     ] {
         assert!(svg.contains(words), "{words}");
     }
@@ -282,6 +335,19 @@ fn every_kind_of_contour_is_drawn() {
     }
     assert!(svg.contains("it is run 0, marked on the left"));
     assert!(!svg.contains("malformed"));
+}
+
+#[test]
+fn a_picture_says_at_which_penalty_it_was_drawn() {
+    for (penalty, words) in
+        [("32", "at the penalty 2.0, 32 sixteenths"), ("1", "at the penalty 0.0625, 1 sixteenth")]
+    {
+        let svg = drawn_with(&["--penalty", penalty], "penalties", "7 9 1\n");
+        assert!(svg.contains(words), "{words}");
+    }
+    // no run is marked for it
+    let refused = drawn_with(&["--penalty", "0"], "penalties", "0 0 1 50 90 0 100 0 1\n");
+    assert!(refused.contains("refused 16") && !refused.contains("marked on the left"));
 }
 
 #[test]

@@ -2,11 +2,11 @@
 
 mod common;
 
-use common::{hill, letter, points, still, zigzag};
-use fontcrunch::{Crunched, Cruncher, Point};
+use common::{as_recorded, hill, letter, points, still, zigzag};
+use fontcrunch::{Crunched, Point};
 
 fn crunched(contour: &[i16]) -> (Vec<Point>, usize) {
-    let Crunched { points: out, pairs } = Cruncher::new().crunch(&points(contour)).unwrap();
+    let Crunched { points: out, pairs } = as_recorded().crunch(&points(contour)).unwrap();
     (out, pairs)
 }
 
@@ -57,7 +57,7 @@ fn a_sum_of_neighbours_is_cut_to_16_bits() {
 #[test]
 fn the_most_points() {
     let mut reversed = zigzag(1024);
-    let crunched = Cruncher::new().crunch(&reversed).unwrap();
+    let crunched = as_recorded().crunch(&reversed).unwrap();
     reversed.reverse();
     assert_eq!(crunched, Crunched { points: reversed, pairs: 0 });
 }
@@ -82,14 +82,14 @@ fn known_answers() {
 
 #[test]
 fn an_implied_joint_is_dropped() {
-    let crunched = Cruncher::new().crunch(&hill()).unwrap();
+    let crunched = as_recorded().crunch(&hill()).unwrap();
     assert_eq!(crunched.points, points(&[200, -40, 1, 130, 120, 1, 80, 120, 0, 0, 60, 0, 0, 0, 1]));
     assert_eq!(crunched.pairs, 937);
 }
 
 #[test]
 fn a_letter_comes_out_with_fewer_points() {
-    let mut cruncher = Cruncher::new();
+    let mut cruncher = as_recorded();
     let counts: Vec<(usize, usize)> = letter()
         .iter()
         .map(|contour| (contour.len(), cruncher.crunch(contour).unwrap().points.len()))
@@ -99,17 +99,17 @@ fn a_letter_comes_out_with_fewer_points() {
 
 #[test]
 fn a_cruncher_remembers_nothing() {
-    let mut used = Cruncher::new();
+    let mut used = as_recorded();
     let contours = [hill(), still(), zigzag(9), vec![], points(&[0, 0, 0]), hill()];
     for contour in &contours {
-        assert_eq!(used.crunch(contour), Cruncher::new().crunch(contour));
-        assert_eq!(used.chain(contour, 0), Cruncher::new().chain(contour, 0));
+        assert_eq!(used.crunch(contour), as_recorded().crunch(contour));
+        assert_eq!(used.chain(contour, 0), as_recorded().chain(contour, 0));
     }
 }
 
 #[test]
 fn a_cruncher_can_go_to_another_thread() {
-    let mut cruncher = Cruncher::new();
+    let mut cruncher = as_recorded();
     let crunched = std::thread::spawn(move || cruncher.crunch(&hill())).join().unwrap();
-    assert_eq!(crunched, Cruncher::new().crunch(&hill()));
+    assert_eq!(crunched, as_recorded().crunch(&hill()));
 }

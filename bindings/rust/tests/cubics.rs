@@ -2,8 +2,8 @@
 
 mod common;
 
-use common::points;
-use fontcrunch::{from_cubics, Cruncher, Point, Refusal};
+use common::{as_recorded, points};
+use fontcrunch::{from_cubics, Point, Refusal};
 
 const LEAST: i16 = -32768;
 const MOST: i16 = 32767;
@@ -78,6 +78,6 @@ fn refusals() {
 fn what_comes_out_is_crunched() {
     let bow = points(&[0, 0, 1, 0, 200, 0, 300, 400, 0, 600, 400, 1, 600, 0, 1]);
     let quads = from_cubics(&bow).unwrap();
-    let crunched = Cruncher::new().crunch(&quads).unwrap();
+    let crunched = as_recorded().crunch(&quads).unwrap();
     assert!(crunched.points.len() < quads.len(), "{} of {}", crunched.points.len(), quads.len());
 }

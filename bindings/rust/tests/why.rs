@@ -2,13 +2,13 @@
 
 mod common;
 
-use common::{points, zigzag};
-use fontcrunch::{Cruncher, Refusal};
+use common::{as_recorded, points, zigzag};
+use fontcrunch::Refusal;
 
 /// The names of each segment's reasons.
 fn told(numbers: &[i16]) -> Vec<String> {
     let upload = points(numbers);
-    let mut cruncher = Cruncher::new();
+    let mut cruncher = as_recorded();
     (0..).map_while(|index| cruncher.why(&upload, index).ok()).map(|reasons| reasons.to_string()).collect()
 }
 
@@ -57,7 +57,7 @@ fn known_corners() {
 #[test]
 fn most_segments() {
     let upload = zigzag(1024);
-    let mut cruncher = Cruncher::new();
+    let mut cruncher = as_recorded();
     assert!(cruncher.why(&upload, 1023).unwrap().is_corner());
     assert_eq!(cruncher.why(&upload, 1024), Err(Refusal::NoSuchSegment));
     assert_eq!(cruncher.why(&zigzag(1025), 0), Err(Refusal::TooManyPoints));
@@ -65,7 +65,7 @@ fn most_segments() {
 
 #[test]
 fn refusals() {
-    let mut cruncher = Cruncher::new();
+    let mut cruncher = as_recorded();
     assert_eq!(cruncher.why(&[], 0), Err(Refusal::NoPoint));
     // 1 to 5 come before 11
     assert_eq!(cruncher.why(&points(&[0, 0, 0]), 9), Err(Refusal::StartsOffCurve));

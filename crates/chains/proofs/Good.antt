@@ -8,7 +8,7 @@ use lib.Dec.{ltb}
 use lib.Ieee.{Float}
 use lib.IntN.{ℤ}
 use lib.ListN.{length}
-use Rattle.settings.specs.Settings.{gridOf, penaltyOf}
+use Rattle.settings.specs.Settings.{gridOf, penaltyOf, judgedFor}
 use Rattle.settings.specs.declared.Settings.{Settings}
 use Rattle.chain.specs.declared.Piece.{Piece}
 use Rattle.runs.specs.declared.Run.{Run}
@@ -24,7 +24,6 @@ use Rattle.optimize.specs.Trace.{lastScores, Least}
 use Rattle.optimize.proofs.Good.{how-good}
 use Rattle.pieces.specs.Pieces.{piecesOf}
 use Rattle.pieces.specs.Slots.{Chain, roomOf}
-use Rattle.refusals.specs.Refusals.{judged}
 use Rattle.refusals.specs.declared.Judged.{Judged}
 use Rattle.refusals.specs.declared.Judged.the-variants as Judged
 use Rattle.rows.specs.Lent.{inputs}
@@ -84,7 +83,7 @@ module _ (rooms : Rooms) (room : ℕ) (settings : Settings) (xs ys : List ℤ) (
 
 pub chain-good : ChainGood
 unfolding chainOf
-chain-good rooms room settings xs ys fs k ps score pairs e = judged-good rooms room settings xs ys fs k ps score pairs (judged xs ys fs) e
+chain-good rooms room settings xs ys fs k ps score pairs e = judged-good rooms room settings xs ys fs k ps score pairs (judgedFor settings xs ys fs) e
 
 -- ---- the answer of the entry
 

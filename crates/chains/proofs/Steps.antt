@@ -8,13 +8,12 @@ use lib.Dec.{ltb}
 use lib.Ieee.{Float, nan}
 use lib.IntN.{ℤ}
 use lib.ListN.{length, getD, take}
-use Rattle.refusals.specs.Refusals.{judged}
 use Rattle.refusals.specs.declared.Judged.{Judged}
 use Rattle.runs.specs.Runs.{numberedRun}
 use Rattle.runs.specs.declared.Run.{Run}
 use Rattle.breaks.specs.Breaks.{Row}
 use Rattle.breaks.specs.declared.Grid.{Grid}
-use Rattle.settings.specs.Settings.{gridOf, penaltyOf}
+use Rattle.settings.specs.Settings.{gridOf, penaltyOf, judgedFor}
 use Rattle.settings.specs.declared.Settings.{Settings}
 use Rattle.optimize.specs.Answers.{Answer, scoreOf}
 use Rattle.optimize.specs.Stored.{Anywhere, Holds, starts, follows}
@@ -129,7 +128,7 @@ module _ (rooms : Rooms) (settings : Settings) (c : Chain) (xs ys : List ℤ) (f
       h ≡ handing (ofRun rooms (roomOf c) settings xs ys fs (numberedRun xs ys fs k)) c
   numbered-handed k e as-s is = is ∙ ap (λ (r : Run). handing (ofRun rooms (roomOf c) settings xs ys fs r) c) (sym as-s ∙ e)
 
-  pub judged-handed : (k : ℕ) {r s : Judged} → r ≡ judged xs ys fs → r ≡ s →
+  pub judged-handed : (k : ℕ) {r s : Judged} → r ≡ judgedFor settings xs ys fs → r ≡ s →
       h ≡ handing (afterJudging s (ofRun rooms (roomOf c) settings xs ys fs (numberedRun xs ys fs k))) c →
       h ≡ handing (chainOf rooms (roomOf c) settings xs ys fs k) c
   unfolding chainOf
@@ -138,10 +137,6 @@ module _ (rooms : Rooms) (settings : Settings) (c : Chain) (xs ys : List ℤ) (f
       ∙ ap (λ (r : Judged). handing (afterJudging r (ofRun rooms (roomOf c) settings xs ys fs (numberedRun xs ys fs k))) c) (sym as-s ∙ e)
 
 -- ---- the entry
-
-pub with-settings : (rooms : Rooms) (c : Chain) (xs ys : List ℤ) (fs : List ℕ) (k : ℕ) {h : Handed} {s s' : Settings} → s ≡ s' →
-    h ≡ handing (chainOf rooms (roomOf c) s xs ys fs k) c → h ≡ handing (chainOf rooms (roomOf c) s' xs ys fs k) c
-with-settings rooms c xs ys fs k {h} e is = subst (λ (s : Settings). h ≡ handing (chainOf rooms (roomOf c) s xs ys fs k) c) e is
 
 abbrev answerIn : Handed → C.Chained
 answerIn (handed r c) = r

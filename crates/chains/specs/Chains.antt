@@ -6,13 +6,12 @@ use lib.Dec.{ltb}
 use lib.Ieee.{Float}
 use lib.IntN.{ℤ}
 use lib.ListN.{length}
-use Rattle.refusals.specs.Refusals.{judged}
 use Rattle.refusals.specs.declared.Judged.{Judged}
 use Rattle.refusals.specs.declared.Judged.the-variants as Judged
 use Rattle.runs.specs.declared.Run.{Run}
 use Rattle.runs.specs.declared.Run.the-variants.{Between, Nothing}
 use Rattle.runs.specs.Runs.{numberedRun}
-use Rattle.settings.specs.Settings.{gridOf, penaltyOf}
+use Rattle.settings.specs.Settings.{gridOf, penaltyOf, judgedFor}
 use Rattle.settings.specs.declared.Settings.{Settings}
 use Rattle.optimize.specs.Answers.{scoreOf}
 use Rattle.chain.specs.declared.Piece.{Piece}
@@ -50,4 +49,4 @@ module _ (rooms : Rooms) (room : ℕ) (settings : Settings) (xs ys : List ℤ) (
 
   -- of run k
   unfoldable pub chainOf : ℕ → Outcome
-  chainOf k = afterJudging (judged xs ys fs) (ofRun (numberedRun xs ys fs k))
+  chainOf k = afterJudging (judgedFor settings xs ys fs) (ofRun (numberedRun xs ys fs k))

@@ -8,7 +8,7 @@ use runs::Run;
 use settings::Settings;
 ghost use lib.Ieee.{Float};
 ghost use Rattle.rows.specs.Lent.{before, contour};
-ghost use Rattle.settings.specs.Settings.{gridOf, penaltyOf, crateSettings};
+ghost use Rattle.settings.specs.Settings.{gridOf, penaltyOf};
 ghost use Rattle.breaks.specs.Breaks.{Row};
 ghost use Rattle.optimize.specs.Answers.{Answer};
 ghost use Rattle.optimize.specs.Stored.{Anywhere, Holds};
@@ -168,7 +168,7 @@ fn chain_judged(
     ensures { λ r. ⌜ Hands (chainOf (roomsIn samples breaks answers links) (roomOf (chainIn starts ends cxs cys .entry)) settings
         (before xs) (before ys) (before flags) k) (chainIn starts ends cxs cys) r ⌝ }
 {
-    match refusals::judge(xs, ys, flags) {
+    match settings.judge(xs, ys, flags) {
         Judged::Refused(n) => Chained::Refused(n),
         Judged::Fine => {
             chain_fine(
@@ -195,6 +195,7 @@ pub fn chain_of_run(
     ys: &[i16],
     flags: &[u8],
     k: usize,
+    settings: Settings,
     starts: &mut [u32],
     ends: &mut [u32],
     cxs: &mut [f64],
@@ -204,14 +205,14 @@ pub fn chain_of_run(
     answers: &mut [[f64; 3]],
     links: &mut [u32],
 ) -> Chained
-    ensures { λ r. ⌜ Promise (contour xs ys flags) crateSettings k (chainIn starts ends cxs cys) (scratch samples breaks answers links) r ⌝ }
+    ensures { λ r. ⌜ Promise (contour xs ys flags) settings k (chainIn starts ends cxs cys) (scratch samples breaks answers links) r ⌝ }
 {
     let r = chain_judged(
         xs,
         ys,
         flags,
         k,
-        Settings::of_crate(),
+        settings,
         starts,
         ends,
         cxs,

@@ -8,8 +8,8 @@ use lib.ListN.{length}
 use Rattle.breaks.specs.Breaks.{Row}
 use Rattle.breaks.specs.declared.Grid.{Grid}
 use Rattle.samples.specs.Samples.{Sample}
-use Rattle.refusals.specs.Refusals.{judged}
 use Rattle.runs.specs.Runs.{numberedRun}
+use Rattle.settings.specs.Settings.{judgedFor}
 use Rattle.settings.specs.declared.Settings.{Settings}
 use Rattle.survey.specs.Survey.{surveyOf, surveyIn}
 use Rattle.survey.specs.declared.Surveyed as Y
@@ -28,9 +28,9 @@ survey-is sampleRow breakRow xs ys fs first count samples breaks grid e is =
 
 -- ---- the entry
 
-module _ (xs ys : List ℤ) (fs : List ℕ) (k : ℕ) (c : Given) (s b a : List (List Float)) (l : List ℕ) {r : D.Verdict} where
-  pub whole-is : {half : ℕ} {settings settings' : Settings} → half ≡ min (length a) (length l) → settings ≡ settings' →
-      r ≡ afterJudging (judged xs ys fs) (ofRun (half / 2) settings c (length s) (length b) xs ys fs (numberedRun xs ys fs k)) →
-      r ≡ wholeOf (inputs xs ys fs) settings' k c (work s b a l)
+module _ (xs ys : List ℤ) (fs : List ℕ) (k : ℕ) (settings : Settings) (c : Given) (s b a : List (List Float)) (l : List ℕ) {r : D.Verdict} where
+  pub whole-is : {half : ℕ} → half ≡ min (length a) (length l) →
+      r ≡ afterJudging (judgedFor settings xs ys fs) (ofRun (half / 2) settings c (length s) (length b) xs ys fs (numberedRun xs ys fs k)) →
+      r ≡ wholeOf (inputs xs ys fs) settings k c (work s b a l)
   unfolding checkOf
-  whole-is {half} {settings} e chosen is = is ∙ rw (e, chosen) refl
+  whole-is e is = is ∙ rw e refl

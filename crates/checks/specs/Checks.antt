@@ -6,13 +6,12 @@ use lib.Dec.{ltb}
 use lib.Ieee.{Float}
 use lib.IntN.{ℤ}
 use lib.ListN.{length}
-use Rattle.refusals.specs.Refusals.{judged}
 use Rattle.refusals.specs.declared.Judged.{Judged}
 use Rattle.refusals.specs.declared.Judged.the-variants as Judged
 use Rattle.runs.specs.declared.Run.{Run}
 use Rattle.runs.specs.declared.Run.the-variants.{Between, Nothing}
 use Rattle.runs.specs.Runs.{numberedRun}
-use Rattle.settings.specs.Settings.{gridOf, penaltyOf}
+use Rattle.settings.specs.Settings.{gridOf, penaltyOf, judgedFor}
 use Rattle.settings.specs.declared.Settings.{Settings}
 use Rattle.survey.specs.Survey.{Survey, surveyOf}
 use Rattle.survey.specs.Survey as Survey
@@ -62,5 +61,5 @@ afterJudging Judged.Fine v = v
 -- of a chain for run k
 unfoldable pub checkOf : Rooms → Settings → List ℤ → List ℤ → List ℕ → Given → ℕ → D.Verdict
 checkOf rooms settings xs ys fs c k =
-    afterJudging (judged xs ys fs)
+    afterJudging (judgedFor settings xs ys fs)
     (ofRun (answerRoom (rooms .answers) (rooms .links)) settings c (rooms .samples) (rooms .breaks) xs ys fs (numberedRun xs ys fs k))

@@ -10,13 +10,12 @@ use lib.Dec.{ltb}
 use lib.Ieee.{Float}
 use lib.IntN.{ℤ}
 use lib.ListN.{length}
-use Rattle.refusals.specs.Refusals.{judged}
 use Rattle.refusals.specs.declared.Judged.{Judged}
 use Rattle.refusals.specs.declared.Judged.the-variants as Judged
 use Rattle.runs.specs.declared.Run.{Run}
 use Rattle.runs.specs.declared.Run.the-variants.{Between, Nothing}
 use Rattle.runs.specs.Runs.{numberedRun}
-use Rattle.settings.specs.Settings.{gridOf, penaltyOf}
+use Rattle.settings.specs.Settings.{gridOf, penaltyOf, judgedFor}
 use Rattle.settings.specs.declared.Settings.{Settings}
 use Rattle.breaks.specs.Breaks.{Row}
 use Rattle.samples.specs.Samples.{Sample}
@@ -71,7 +70,7 @@ pub record Accepted (rooms : Rooms) (settings : Settings) (xs ys : List ℤ) (fs
   pub count : ℕ
   pub samples : List Sample
   pub breaks : Row
-  pub fine : judged xs ys fs ≡ Judged.Fine
+  pub fine : judgedFor settings xs ys fs ≡ Judged.Fine
   pub run : numberedRun xs ys fs k ≡ Between first count
   pub survey : surveyOf (rooms .samples) (rooms .breaks) xs ys fs first count (gridOf settings) ≡ Survey.surveyed samples breaks
   pub room : length breaks ≤ answerRoom (rooms .answers) (rooms .links)
@@ -102,7 +101,7 @@ tested-yes true v e = absurd (omega (arith, ap isYes e))
 tested-yes false v e = (refl, e)
 
 module _ (rooms : Rooms) (settings : Settings) (xs ys : List ℤ) (fs : List ℕ) (k : ℕ) (c : Given) where
-  surveyed-yes : (first count : ℕ) → judged xs ys fs ≡ Judged.Fine → numberedRun xs ys fs k ≡ Between first count → (s : Survey) →
+  surveyed-yes : (first count : ℕ) → judgedFor settings xs ys fs ≡ Judged.Fine → numberedRun xs ys fs k ≡ Between first count → (s : Survey) →
       surveyOf (rooms .samples) (rooms .breaks) xs ys fs first count (gridOf settings) ≡ s →
       ofSurvey (half rooms) (penaltyOf settings) c s ≡ Verdict.Yes → Accepted rooms settings xs ys fs k c
   surveyed-yes first count fine run (Survey.refused n) survey e = absurd (omega (arith, ap isYes e))
@@ -121,12 +120,12 @@ module _ (rooms : Rooms) (settings : Settings) (xs ys : List ℤ) (fs : List ℕ
         valid = obeys settings samples breaks c .0 (yes-of _ (tested .1));
       }
 
-  run-yes : judged xs ys fs ≡ Judged.Fine → (r : Run) → numberedRun xs ys fs k ≡ r →
+  run-yes : judgedFor settings xs ys fs ≡ Judged.Fine → (r : Run) → numberedRun xs ys fs k ≡ r →
       ofRun (half rooms) settings c (rooms .samples) (rooms .breaks) xs ys fs r ≡ Verdict.Yes → Accepted rooms settings xs ys fs k c
   run-yes fine Nothing run e = absurd (omega (arith, ap isYes e))
   run-yes fine (Between first count) run e = surveyed-yes first count fine run _ refl e
 
-  judged-yes : (j : Judged) → judged xs ys fs ≡ j →
+  judged-yes : (j : Judged) → judgedFor settings xs ys fs ≡ j →
       afterJudging j (ofRun (half rooms) settings c (rooms .samples) (rooms .breaks) xs ys fs (numberedRun xs ys fs k)) ≡ Verdict.Yes →
       Accepted rooms settings xs ys fs k c
   judged-yes (Judged.Refused n) fine e = absurd (omega (arith, ap isYes e))

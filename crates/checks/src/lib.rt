@@ -9,10 +9,9 @@ use survey::Surveyed;
 ghost use mathlib.Core.Path.{_≡_};
 ghost use Prim.Native.Nat.{_<_};
 ghost use lib.ListN.{length};
-ghost use Rattle.refusals.specs.Refusals.{judged};
 ghost use Rattle.rows.specs.Lent.{before, room, contour};
 ghost use Rattle.runs.specs.Runs.{numberedRun};
-ghost use Rattle.settings.specs.Settings.{gridOf, penaltyOf, crateSettings};
+ghost use Rattle.settings.specs.Settings.{gridOf, penaltyOf, judgedFor};
 ghost use Rattle.survey.specs.Survey.{surveyed, surveyOf};
 ghost use Rattle.edition.specs.Scratch.{scratch};
 ghost use Rattle.checks.specs.Checks.{ofSurvey, ofRun, afterJudging};
@@ -165,10 +164,10 @@ fn check_judged(
     samples: &mut [[f64; 4]],
     breaks: &mut [[f64; 5]],
 ) -> Verdict
-    ensures { λ r. ⌜ r ≡ afterJudging (judged (before xs) (before ys) (before flags)) (ofRun half settings (given starts ends cxs cys score)
+    ensures { λ r. ⌜ r ≡ afterJudging (judgedFor settings (before xs) (before ys) (before flags)) (ofRun half settings (given starts ends cxs cys score)
         (room samples) (room breaks) (before xs) (before ys) (before flags) (numberedRun (before xs) (before ys) (before flags) k)) ⌝ }
 {
-    match refusals::judge(xs, ys, flags) {
+    match settings.judge(xs, ys, flags) {
         Judged::Refused(n) => Verdict::Refused(n),
         Judged::Fine => {
             check_fine(
@@ -195,6 +194,7 @@ pub fn check_chain(
     ys: &[i16],
     flags: &[u8],
     k: usize,
+    settings: Settings,
     starts: &[u32],
     ends: &[u32],
     cxs: &[f64],
@@ -205,7 +205,7 @@ pub fn check_chain(
     answers: &mut [[f64; 3]],
     links: &mut [u32],
 ) -> Verdict
-    ensures { λ r. ⌜ Promise (contour xs ys flags) crateSettings k (given starts ends cxs cys score) (scratch samples breaks answers links) r ⌝ }
+    ensures { λ r. ⌜ Promise (contour xs ys flags) settings k (given starts ends cxs cys score) (scratch samples breaks answers links) r ⌝ }
 {
     let half = rows::least(answers.len(), links.len()) / 2;
     let r = check_judged(
@@ -219,7 +219,7 @@ pub fn check_chain(
         cys,
         score,
         half,
-        Settings::of_crate(),
+        settings,
         samples,
         breaks,
     );

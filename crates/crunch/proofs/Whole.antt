@@ -6,10 +6,10 @@ use mathlib.Core.Path.{_≡_, refl, sym, ap, subst, _∙_}
 use lib.IntN.{ℤ}
 use lib.ListN.{length, take, drop, replicate, length-append, length-take, length-drop}
 use lib.Seq.{length-take-le}
-use Rattle.refusals.specs.Refusals.{judged}
 use Rattle.refusals.specs.declared.Judged.{Judged}
 use Rattle.rows.specs.Rows.{pointZero}
 use Rattle.rows.specs.Lent.{Inputs}
+use Rattle.settings.specs.Settings.{judgedFor}
 use Rattle.settings.specs.declared.Settings.{Settings}
 use Rattle.edition.specs.Edition.{Rooms}
 use Rattle.contour.specs.Points.{Points}
@@ -22,7 +22,7 @@ use Rattle.crunch.specs.declared.Crunched as D
 
 -- ---- `crunch_into`
 
-module _ (rooms : Rooms) (room : ℕ) (settings : Settings) (xs ys : List ℤ) (fs : List ℕ) {j k : Judged} (e : j ≡ judged xs ys fs) (h : j ≡ k) {row : Points} {r : D.Crunched} where
+module _ (rooms : Rooms) (room : ℕ) (settings : Settings) (xs ys : List ℤ) (fs : List ℕ) {j k : Judged} (e : j ≡ judgedFor settings xs ys fs) (h : j ≡ k) {row : Points} {r : D.Crunched} where
   pub judged-gives : Gives row (afterJudging k (outcomeOf room (crunchRuns rooms settings xs ys fs))) r → Gives row (crunchOf rooms room settings xs ys fs) r
   unfolding crunchOf
   judged-gives g = subst (λ (x : Judged). Gives row (afterJudging x (outcomeOf room (crunchRuns rooms settings xs ys fs))) r) (sym h ∙ e) g
@@ -52,6 +52,3 @@ cleared-points points e long = e ∙ ap (λ (n : ℕ). replicate n pointZero) lo
 pub at-room : (rooms : Rooms) (settings : Settings) (xs ys : List ℤ) (fs : List ℕ) {row : Points} {r : D.Crunched} {m n : ℕ} → m ≡ n →
     Gives row (crunchOf rooms m settings xs ys fs) r → Gives row (crunchOf rooms n settings xs ys fs) r
 at-room rooms settings xs ys fs {row} {r} e g = subst (λ (k : ℕ). Gives row (crunchOf rooms k settings xs ys fs) r) e g
-
-pub with-settings : {i : Inputs} {s s' : Settings} {t : LentRows} {r : D.Crunched} → s ≡ s' → Answered i s t r → Answered i s' t r
-with-settings {i} {t = t} {r = r} e a = subst (λ (s : Settings). Answered i s t r) e a

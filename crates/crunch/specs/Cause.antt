@@ -6,7 +6,7 @@ use mathlib.Core.List.{List, _∷_}
 use mathlib.Core.Logic.{_↔_}
 use mathlib.Core.Path.{_≡_}
 use lib.IntN.{ℤ}
-use Rattle.settings.specs.Settings.{gridOf, penaltyOf}
+use Rattle.settings.specs.Settings.{gridOf, penaltyOf, judgedFor}
 use Rattle.settings.specs.declared.Settings.{Settings}
 use Rattle.contour.specs.Points.{Points, unchangedPoints}
 use Rattle.runs.specs.Runs.{Span, runsOf, isCopied}
@@ -14,7 +14,6 @@ use Rattle.runs.specs.declared.Run.the-variants.{Between}
 use Rattle.edition.specs.Causes.{Unanswered}
 use Rattle.edition.specs.Edition.{Rooms}
 use Rattle.edition.specs.Edition as Edition
-use Rattle.refusals.specs.Refusals.{judged}
 use Rattle.refusals.specs.declared.Judged.the-variants as Judged
 use Rattle.survey.specs.Never.{Sixteen}
 use Rattle.assembly.specs.Assembly.{ended, resultOf, crunchRuns}
@@ -46,7 +45,7 @@ module _ (rooms : Rooms) (settings : Settings) (xs ys : List ℤ) (fs : List ℕ
 
   abbrev pub ComesOut : Type 0
   ComesOut =
-      (room pairs : ℕ) → judged xs ys fs ≡ Judged.Fine → LeftUnchanged pairs →
+      (room pairs : ℕ) → judgedFor settings xs ys fs ≡ Judged.Fine → LeftUnchanged pairs →
       crunchOf rooms room settings xs ys fs ≡ written room (unchangedPoints xs ys fs) pairs
 
   abbrev pub OneCause : Type 0

@@ -5,9 +5,9 @@ use mathlib.Core.List.{List}
 use lib.Dec.{ltb}
 use lib.IntN.{ℤ}
 use lib.ListN.{length}
-use Rattle.refusals.specs.Refusals.{judged}
 use Rattle.refusals.specs.declared.Judged.{Judged}
 use Rattle.refusals.specs.declared.Judged.the-variants as Judged
+use Rattle.settings.specs.Settings.{judgedFor}
 use Rattle.settings.specs.declared.Settings.{Settings}
 use Rattle.edition.specs.Edition.{Rooms}
 use Rattle.contour.specs.Points.{Points}
@@ -42,4 +42,4 @@ afterJudging Judged.Fine o = o
 
 -- with a room for so many points
 unfoldable pub crunchOf : Rooms → ℕ → Settings → List ℤ → List ℤ → List ℕ → Outcome
-crunchOf rooms room settings xs ys fs = afterJudging (judged xs ys fs) (outcomeOf room (crunchRuns rooms settings xs ys fs))
+crunchOf rooms room settings xs ys fs = afterJudging (judgedFor settings xs ys fs) (outcomeOf room (crunchRuns rooms settings xs ys fs))

@@ -10,13 +10,13 @@ use mathlib.Core.Path.{_≡_, refl, ap, _∙_}
 use lib.Dec.{eqb, ltb}
 use lib.IntN.{ℤ}
 use lib.ListN.{length}
-use Rattle.refusals.specs.Refusals.{judged}
 use Rattle.refusals.specs.declared.Judged.{Judged}
 use Rattle.refusals.specs.declared.Judged.the-variants as Judged
 use Rattle.rows.specs.Lent.{Inputs, inputs}
 use Rattle.runs.specs.Runs.{Span, runsOf, isCopied}
 use Rattle.runs.specs.declared.Run.the-variants.{Between}
-use Rattle.settings.specs.Settings.{gridOf, penaltyOf}
+use Rattle.refusals.specs.Refusals.{judged}
+use Rattle.settings.specs.Settings.{gridOf, penaltyOf, thenSettings, judgedFor}
 use Rattle.settings.specs.declared.Settings.{Settings}
 use Rattle.edition.specs.Edition.{Result, Rooms}
 use Rattle.edition.specs.Edition as Edition
@@ -51,7 +51,7 @@ pub points-within : (i : Inputs) (settings : Settings) (t : Rows) → pointsIn (
 unfolding crunchOf
 points-within (inputs xs ys fs) settings t =
     let runs = crunchRuns (roomsOf (t .work)) settings xs ys fs in
-    judged-within (pointRoom t) (judged xs ys fs) (outcomeOf (pointRoom t) runs) (state-within (pointRoom t) runs)
+    judged-within (pointRoom t) (judgedFor settings xs ys fs) (outcomeOf (pointRoom t) runs) (state-within (pointRoom t) runs)
 
 -- ---- refusal 3
 
@@ -63,8 +63,9 @@ module _ (xs ys : List ℤ) (fs : List ℕ) {n : ℕ} (lx : length xs ≡ n) (ly
       rw (lx, ly, lf, eq-eqb n n refl, some, lt-ltb 1024 n many) refl
 
   pub many-refused : (rooms : Rooms) (room : ℕ) (settings : Settings) → crunchOf rooms room settings xs ys fs ≡ Outcome.refused 3
-  unfolding crunchOf
-  many-refused rooms room settings = ap (λ (j : Judged). afterJudging j (outcomeOf room (crunchRuns rooms settings xs ys fs))) many-judged
+  unfolding crunchOf judgedFor
+  many-refused rooms room settings =
+      ap (λ (j : Judged). afterJudging (thenSettings settings j) (outcomeOf room (crunchRuns rooms settings xs ys fs))) many-judged
 
 -- ---- longer rows
 
@@ -134,4 +135,4 @@ pub more-room : (rooms rooms' : Rooms) (room room' : ℕ) (settings : Settings) 
     short (crunchOf rooms room settings xs ys fs) ≡ false → crunchOf rooms' room' settings xs ys fs ≡ crunchOf rooms room settings xs ys fs
 unfolding crunchOf
 more-room rooms rooms' room room' settings xs ys fs within more e =
-    judged-same (judged xs ys fs) _ _ (outcome-same room room' more _ _ (runs-same rooms rooms' within settings xs ys fs)) e
+    judged-same (judgedFor settings xs ys fs) _ _ (outcome-same room room' more _ _ (runs-same rooms rooms' within settings xs ys fs)) e

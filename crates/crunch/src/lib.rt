@@ -9,7 +9,6 @@ ghost use mathlib.Core.Path.{_≡_};
 ghost use Prim.Native.Nat.{_≤_};
 ghost use lib.ListN.{length};
 ghost use Rattle.rows.specs.Lent.{before, after, room, contour};
-ghost use Rattle.settings.specs.Settings.{crateSettings};
 ghost use Rattle.contour.specs.Output.{outputs};
 ghost use Rattle.edition.specs.Scratch.{roomsIn, scratch};
 ghost use Rattle.crunch.specs.Crunch.{crunchOf};
@@ -64,7 +63,7 @@ pub fn crunch_into(
     ensures { λ r. ⌜ Gives (after points)
         (crunchOf (roomsIn samples breaks answers links) (room points) settings (before xs) (before ys) (before flags)) r ⌝ }
 {
-    match refusals::judge(xs, ys, flags) {
+    match settings.judge(xs, ys, flags) {
         Judged::Refused(k) => Crunched::Refused(k),
         Judged::Fine => {
             let c = assembly::crunch_points(
@@ -136,6 +135,7 @@ pub fn crunch_contour(
     xs: &[i16],
     ys: &[i16],
     flags: &[u8],
+    settings: Settings,
     ox: &mut [i16],
     oy: &mut [i16],
     of: &mut [u8],
@@ -145,13 +145,13 @@ pub fn crunch_contour(
     links: &mut [u32],
     points: &mut [[i16; 3]],
 ) -> Crunched
-    ensures { λ r. ⌜ Promise (contour xs ys flags) crateSettings (rows ox oy of (scratch samples breaks answers links) points) r ⌝ }
+    ensures { λ r. ⌜ Promise (contour xs ys flags) settings (rows ox oy of (scratch samples breaks answers links) points) r ⌝ }
 {
     let r = crunch(
         xs,
         ys,
         flags,
-        Settings::of_crate(),
+        settings,
         ox,
         oy,
         of,

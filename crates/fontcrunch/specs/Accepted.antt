@@ -10,13 +10,12 @@ use lib.Dec.{ltb, eqb}
 use lib.Ieee.{Float}
 use lib.IntN.{ℤ}
 use lib.ListN.{length, length-map}
-use Rattle.refusals.specs.Refusals.{judged}
 use Rattle.refusals.specs.declared.Judged.{Judged}
 use Rattle.refusals.specs.declared.Judged.the-variants as Judged
 use Rattle.runs.specs.declared.Run.{Run}
 use Rattle.runs.specs.declared.Run.the-variants.{Between, Nothing}
 use Rattle.runs.specs.Runs.{numberedRun}
-use Rattle.settings.specs.Settings.{gridOf, penaltyOf}
+use Rattle.settings.specs.Settings.{gridOf, penaltyOf, judgedFor}
 use Rattle.settings.specs.declared.Settings.{Settings}
 use Rattle.optimize.specs.Answers.{Answer, scoreOf}
 use Rattle.survey.specs.Survey.{Survey, surveyOf}
@@ -140,7 +139,7 @@ module _ (rooms : Rooms) (room : ℕ) (settings : Settings) (xs ys : List ℤ) (
 
   pub accepted-chain : (k : ℕ) → chainOf rooms room settings xs ys fs k ≡ chained ps score p → checkOf rooms settings xs ys fs (given ps score) k ≡ Verdict.Yes
   unfolding chainOf checkOf
-  accepted-chain k e = by (judged xs ys fs) e
+  accepted-chain k e = by (judgedFor settings xs ys fs) e
     where
       by : (j : Judged) → Chains.afterJudging j (Chains.ofRun rooms room settings xs ys fs (numberedRun xs ys fs k)) ≡ chained ps score p →
           Checks.afterJudging j (Checks.ofRun half settings (given ps score) (rooms .samples) (rooms .breaks) xs ys fs (numberedRun xs ys fs k)) ≡ Verdict.Yes

@@ -1,4 +1,4 @@
--- Document 01's values on both sides, its rows marked P: cases and results as data, one way to evaluate them, one list, and one computed test of
+-- Document 01's values on both sides, its rows marked P, and what document 02's W6 adds to them: cases and results as data, one way to evaluate them, one list, and one computed test of
 -- them all. Assumes nothing.
 use Prim.Native.Nat.{ℕ, zero, suc, _+_}
 use mathlib.Core.Bool.{Bool, true, false}
@@ -16,7 +16,7 @@ use Rattle.corners.specs.Segments.{countOf, endOf, placeAfter, segFrom}
 use Rattle.corners.specs.Corners as Corners
 use Rattle.corners.specs.Corners.{angleCorner}
 use Rattle.runs.specs.Runs.{marksFrom, cornerList, between, runsOf}
-use Rattle.settings.specs.Settings.{crateSettings}
+use Rattle.settings.specs.Settings.{settingsOf, penaltyOf, judgedFor}
 use Rattle.measure.specs.declared.Measured.the-variants as Measured
 use Rattle.breaks.specs.Breaks as Breaks
 use Rattle.breaks.specs.Breaks.{halfGrid, onGrid}
@@ -32,16 +32,16 @@ use Rattle.crunch.specs.Crunch as Crunch
 
 -- what a row gives
 pub data Case : Type 0 where
-  -- a whole contour, in rows with document 01's full rooms
-  contour : List ℤ → List ℤ → List ℕ → Case
+  -- a whole contour at a penalty in sixteenths, in rows with document 01's full rooms
+  contour : ℕ → List ℤ → List ℤ → List ℕ → Case
   -- two tangents
   tangents : Point → Point → Case
   -- points, of which implied ones are dropped
   points : Points → Case
   -- a coordinate, brought to the half grid
   coordinate : Float → Case
-  -- the breaks 0 to n on one line, with every piece at this error and the penalty 1
-  run : ℕ → Float → Case
+  -- the breaks 0 to n on one line, at a penalty in sixteenths, with every piece at this error
+  run : ℕ → ℕ → Float → Case
 
 -- what comes of it
 pub data Result : Type 0 where
@@ -79,11 +79,11 @@ pairsOf (unchanged p) = tried p
 pairsOf (solved a p) = tried p
 
 abbrev pub evaluate : Case → Result
-evaluate (contour xs ys fs) = outcome (crunchOf fullRooms 16384 crateSettings xs ys fs)
+evaluate (contour penalty xs ys fs) = outcome (crunchOf fullRooms 16384 (settingsOf penalty) xs ys fs)
 evaluate (tangents d0 d1) = byAngle (angleCorner d0 d1)
 evaluate (points ps) = left (dropImplied isImplied ps)
 evaluate (coordinate x) = breakAt (onGrid halfGrid x)
-evaluate (run n e) = pairsOf (optimizeOf (atError e) (inLine (n + 1) 0) one)
+evaluate (run penalty n e) = pairsOf (optimizeOf (atError e) (inLine (n + 1) 0) (penaltyOf (settingsOf penalty)))
 
 -- ---- the rows
 
@@ -103,15 +103,15 @@ whole x y = record { x = ofInt binary64 x; y = ofInt binary64 y }
 abbrev pub rows : List Row
 rows =
     -- one on-curve point (7, 9)
-    record { case = contour (pos 7 ∷ []) (pos 9 ∷ []) (1 ∷ []); result = gives (on (pos 7) (pos 9) ∷ []) 0 }
+    record { case = contour 16 (pos 7 ∷ []) (pos 9 ∷ []) (1 ∷ []); result = gives (on (pos 7) (pos 9) ∷ []) 0 }
     -- (0, 0), (100, 0), (0, 100), all on
     ∷ record {
-      case = contour (pos 0 ∷ pos 100 ∷ pos 0 ∷ []) (pos 0 ∷ pos 0 ∷ pos 100 ∷ []) (1 ∷ 1 ∷ 1 ∷ []);
+      case = contour 16 (pos 0 ∷ pos 100 ∷ pos 0 ∷ []) (pos 0 ∷ pos 0 ∷ pos 100 ∷ []) (1 ∷ 1 ∷ 1 ∷ []);
       result = gives (on (pos 0) (pos 100) ∷ on (pos 100) (pos 0) ∷ on (pos 0) (pos 0) ∷ []) 0;
     }
     -- (0, 0) on, (100, 0) on, (50, 100) off: the closing curve is lost
     ∷ record {
-      case = contour (pos 0 ∷ pos 100 ∷ pos 50 ∷ []) (pos 0 ∷ pos 0 ∷ pos 100 ∷ []) (1 ∷ 1 ∷ 0 ∷ []);
+      case = contour 16 (pos 0 ∷ pos 100 ∷ pos 50 ∷ []) (pos 0 ∷ pos 0 ∷ pos 100 ∷ []) (1 ∷ 1 ∷ 0 ∷ []);
       result = gives (on (pos 100) (pos 0) ∷ on (pos 0) (pos 0) ∷ []) 0;
     }
     -- tangents
@@ -128,20 +128,32 @@ rows =
     ∷ record { case = coordinate (Ieee.round binary64 false 24 100); result = breakAt (Ieee.round binary64 false 0 1) }
     ∷ record { case = coordinate (Ieee.round binary64 true 25 100); result = breakAt (Ieee.round binary64 true 1 2) }
     -- pairs tried, n = 4: by a last score of 2; of exactly 3.0, no splits; of 3.5; of exactly 4.0, no search; of 5
-    ∷ record { case = run 4 (number 1); result = tried 1 }
-    ∷ record { case = run 4 (number 2); result = tried 1 }
-    ∷ record { case = run 4 (Ieee.round binary64 false 5 2); result = tried 7 }
-    ∷ record { case = run 4 (number 3); result = tried 7 }
-    ∷ record { case = run 4 (number 4); result = tried 17 }
+    ∷ record { case = run 16 4 (number 1); result = tried 1 }
+    ∷ record { case = run 16 4 (number 2); result = tried 1 }
+    ∷ record { case = run 16 4 (Ieee.round binary64 false 5 2); result = tried 7 }
+    ∷ record { case = run 16 4 (number 3); result = tried 7 }
+    ∷ record { case = run 16 4 (number 4); result = tried 17 }
     -- n = 1: by a last score of exactly 3.0, and of 5
-    ∷ record { case = run 1 (number 2); result = tried 1 }
-    ∷ record { case = run 1 (number 4); result = tried 2 }
+    ∷ record { case = run 16 1 (number 2); result = tried 1 }
+    ∷ record { case = run 16 1 (number 4); result = tried 2 }
+    -- the same at 32: the thresholds are 6.0 and 8.0
+    ∷ record { case = run 32 4 (number 4); result = tried 1 }
+    ∷ record { case = run 32 4 (Ieee.round binary64 false 9 2); result = tried 7 }
+    ∷ record { case = run 32 4 (number 6); result = tried 7 }
+    ∷ record { case = run 32 4 (number 7); result = tried 17 }
+    ∷ record { case = run 32 1 (number 4); result = tried 1 }
+    ∷ record { case = run 32 1 (number 7); result = tried 2 }
+    -- penalties outside 1 to 256, after the refusals of the rows
+    ∷ record { case = contour 0 (pos 7 ∷ []) (pos 9 ∷ []) (1 ∷ []); result = refused 16 }
+    ∷ record { case = contour 257 (pos 7 ∷ []) (pos 9 ∷ []) (1 ∷ []); result = refused 16 }
+    ∷ record { case = contour 257 [] [] []; result = refused 2 }
+    ∷ record { case = contour 0 (pos 7 ∷ []) (pos 9 ∷ []) (0 ∷ []); result = refused 4 }
     ∷ []
 
 pub rows-hold : map (λ (r : Row). evaluate (r .case)) rows ≡ map (λ (r : Row). r .result) rows
-unfolding Corners.marked Corners.stateAt Corners.cornersOf crunchOf judged offNeighbours crunchRuns crunchAll afterRun runsOf cornerList between
+unfolding Corners.marked Corners.stateAt Corners.cornersOf crunchOf judgedFor judged offNeighbours crunchRuns crunchAll afterRun runsOf cornerList between
     marksFrom countOf endOf placeAfter segFrom piecesPoints dropFrom look impliedAt isImplied cutOf optimizeOf tryAll tryLineQuad bent tryQuad
-    combined splitsFrom falling searchFrom absOf tiny closeTo wholeBy rootOf rootUnits rootNear rootDown Ieee.toSigned Ieee.ofInt Ieee.ofBits
+    penaltyOf combined splitsFrom falling searchFrom absOf tiny closeTo wholeBy rootOf rootUnits rootNear rootDown Ieee.toSigned Ieee.ofInt Ieee.ofBits
     Ieee.round Ieee.size Ieee.add Ieee.sub Ieee.mul Ieee.div Ieee.lt
 rows-hold = refl
 

@@ -18,7 +18,7 @@ use Rattle.corners.specs.Segments.{countOf, placeAfter, segFrom}
 use Rattle.runs.specs.declared.Run.{Run}
 use Rattle.runs.specs.declared.Run.the-variants.{Between, Nothing}
 use Rattle.runs.specs.Runs.{numberedRun}
-use Rattle.settings.specs.Settings.{crateSettings, penaltyOf, gridOf}
+use Rattle.settings.specs.Settings.{crateSettings, penaltyOf, gridOf, judgedFor}
 use Rattle.survey.specs.Survey.{Survey, surveyOf}
 use Rattle.survey.specs.Survey as Survey
 use Rattle.chain.specs.Valid as Valid
@@ -144,7 +144,7 @@ never-yes half penalty score (Survey.surveyed samples breaks) e = by (ltb half (
 pub says-always-yes : (f : Inputs → ℕ → Given → Verdict) → ((i : Inputs) (k : ℕ) (c : Given) → f i k c ≡ checkWhole i k c) →
     (i : Inputs) (k : ℕ) (score : Float) → f i k (noPiece score) ≡ Verdict.Yes → ⊥
 unfolding checkOf
-says-always-yes f right (inputs xs ys fs) k score e = judging (judged xs ys fs) (sym (right (inputs xs ys fs) k (noPiece score)) ∙ e)
+says-always-yes f right (inputs xs ys fs) k score e = judging (judgedFor crateSettings xs ys fs) (sym (right (inputs xs ys fs) k (noPiece score)) ∙ e)
   where
     says : Run → Verdict
     says r = Checks.ofRun (answerRoom 4096 4096) crateSettings (noPiece score) 16384 2048 xs ys fs r

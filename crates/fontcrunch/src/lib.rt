@@ -3,11 +3,12 @@
 use chains::Chained;
 use checks::Verdict;
 use crunch::Crunched;
+use settings::Settings;
 ghost use mathlib.Core.Path.{_≡_};
 ghost use lib.Dec.{T};
 ghost use lib.Ieee.{binary64, fits};
 ghost use Rattle.rows.specs.Lent.{contour, Shown};
-ghost use Rattle.settings.specs.Settings.{crateSettings};
+ghost use Rattle.settings.specs.Settings.{settingsOf};
 ghost use Rattle.edition.specs.Scratch.{scratch};
 ghost use Rattle.crunch.specs.Entry as Crunch;
 ghost use Rattle.chains.specs.Entry as Chains;
@@ -105,6 +106,7 @@ pub extern "C" fn fontcrunch_crunch(
     xs: &[i16],
     ys: &[i16],
     flags: &[u8],
+    penalty: u32,
     ox: &mut [i16],
     oy: &mut [i16],
     of: &mut [u8],
@@ -114,13 +116,14 @@ pub extern "C" fn fontcrunch_crunch(
     links: &mut [u32],
     points: &mut [[i16; 3]],
 ) -> CrunchReport
-    ensures { λ r. ⌜ Shown crunchReport (Crunch.Promise (contour xs ys flags) crateSettings
+    ensures { λ r. ⌜ Shown crunchReport (Crunch.Promise (contour xs ys flags) (settingsOf penalty)
         (Crunch.rows ox oy of (scratch samples breaks answers links) points)) r ⌝ }
 {
     crunch_report(crunch::crunch_contour(
         xs,
         ys,
         flags,
+        Settings { penalty },
         ox,
         oy,
         of,
@@ -138,6 +141,7 @@ pub extern "C" fn fontcrunch_chain(
     ys: &[i16],
     flags: &[u8],
     k: usize,
+    penalty: u32,
     starts: &mut [u32],
     ends: &mut [u32],
     cxs: &mut [f64],
@@ -147,7 +151,7 @@ pub extern "C" fn fontcrunch_chain(
     answers: &mut [[f64; 3]],
     links: &mut [u32],
 ) -> ChainReport
-    ensures { λ r. ⌜ ChainShown (Chains.Promise (contour xs ys flags) crateSettings k (Chains.chainIn starts ends cxs cys)
+    ensures { λ r. ⌜ ChainShown (Chains.Promise (contour xs ys flags) (settingsOf penalty) k (Chains.chainIn starts ends cxs cys)
         (scratch samples breaks answers links)) r ⌝ }
 {
     chain_report(chains::chain_of_run(
@@ -155,6 +159,7 @@ pub extern "C" fn fontcrunch_chain(
         ys,
         flags,
         k,
+        Settings { penalty },
         starts,
         ends,
         cxs,
@@ -172,6 +177,7 @@ pub extern "C" fn fontcrunch_check(
     ys: &[i16],
     flags: &[u8],
     k: usize,
+    penalty: u32,
     starts: &[u32],
     ends: &[u32],
     cxs: &[f64],
@@ -182,7 +188,7 @@ pub extern "C" fn fontcrunch_check(
     answers: &mut [[f64; 3]],
     links: &mut [u32],
 ) -> CheckReport
-    ensures { λ r. ⌜ Shown checkReport (Checks.Promise (contour xs ys flags) crateSettings k (Checks.given starts ends cxs cys score)
+    ensures { λ r. ⌜ Shown checkReport (Checks.Promise (contour xs ys flags) (settingsOf penalty) k (Checks.given starts ends cxs cys score)
         (scratch samples breaks answers links)) r ⌝ }
 {
     check_report(checks::check_chain(
@@ -190,6 +196,7 @@ pub extern "C" fn fontcrunch_check(
         ys,
         flags,
         k,
+        Settings { penalty },
         starts,
         ends,
         cxs,

@@ -1,3 +1,3 @@
--- What the proofs share: the answer to a contour; the answer to a line.
-mod Answers
-mod Lines
+-- What the proofs share: the output while the input comes in chunks. `Chunks` has the theorem for the reader.
+mod Streaming
+mod Chunks

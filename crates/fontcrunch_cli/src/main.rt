@@ -1,88 +1,95 @@
 // Contours on standard input, one a line, `x y f x y f ...`; a line out for each: `ok PAIRS x y f ...`,
-// `refused K`, or `malformed`. Streaming: memory does not grow with the lines.
-mod answer;
+// `refused K`, or `malformed`. Streaming: memory does not grow with the lines. `--penalty N` asks for another
+// penalty, in sixteenths.
 mod out;
+mod stream;
 
+use libc::STDERR_FILENO;
 use libc::STDIN_FILENO;
-use lines::Fed;
-ghost use mathlib.Core.Path.{_≡_};
-ghost use Prim.Native.Nat.{_≤_};
-ghost use lib.ListN.{length, take};
-ghost use Rattle.fontcrunch_cli.specs.Answer.{placeOf, Answered};
+use settings::Settings;
+use words::Asked;
+ghost use lib.ListN.{length};
+ghost use Rattle.fontcrunch_cli.specs.Stream.{Keeps, Chunked};
 
-// What the buffers hold between chunks: bytes of the line under way, and of the output.
-pub struct Held {
-    pub used: usize,
-    pub at: usize,
-}
-
-// A line that is whole.
-fn take_line(text: &mut [u8], line: &[u8], held: Held, n: usize) -> Held
-    ensures kept { λ r. ⌜ r .used ≡ 0 ⌝ }
-    ensures answered { λ r. ⌜ (n ≤ length (now (line .entry)) →
-        Answered (now (text .entry)) (placeOf (length (now (text .entry))) (held .at)) (take n (now (line .entry))) (now (text .exit)) (r .at)) ⌝ }
+// What a chunk's lines are answered goes out before more input is waited for.
+fn take_chunk(
+    text: &mut [u8],
+    line: &mut [u8],
+    from: usize,
+    chunk: &[u8],
+    settings: Settings,
+) -> usize
+    requires { ⌜ Keeps (now line) from ⌝ }
+    ensures { λ r. ⌜ Chunked settings line from (now (chunk .entry)) r ⌝ }
 {
-    let at = held.at;
-    if n <= line.len() {
-        let end = answer::put_answer(text, at, &line[..n]);
-        return Held { used: 0, at: end };
-    }
-    Held { used: 0, at }
-}
-
-// The lines that end in a chunk are answered.
-fn take_chunk(text: &mut [u8], line: &mut [u8], from: Held, chunk: &[u8]) -> Held {
-    let mut held = from;
+    let mut used = from;
     let mut i = 0;
     while i < chunk.len() {
-        let used = held.used;
-        match lines::feed(line, used, chunk, i) {
-            Fed::Line(n, next) => {
-                held = take_line(text, line, held, n);
-                i = next;
-            }
-            Fed::Part(n) => {
-                return Held {
-                    used: n,
-                    at: held.at,
-                };
-            }
-        }
+        let t = stream::take_lines(text, line, used, chunk, i, settings);
+        let at = t.at;
+        out::flush(text, at);
+        used = t.used;
+        i = t.next;
     }
-    held
+    used
 }
 
-// What a chunk's lines are answered goes out before more input is waited for. A last line with no line
-// end counts where it is not empty.
-fn serve(text: &mut [u8], line: &mut [u8]) -> Held {
+fn serve(text: &mut [u8], line: &mut [u8], settings: Settings)
+    requires { ⌜ Keeps (now line) 0 ⌝ }
+{
     let mut chunk = io::large_buffer();
-    let mut held = Held { used: 0, at: 0 };
+    let mut used = 0;
     let mut turns = u64::MAX;
     while turns > 0 {
         let n = io::count(libc::read(STDIN_FILENO, &mut chunk), &chunk);
         if n == 0 {
-            let used = held.used;
-            if used == 0 {
-                return held;
-            }
-            return take_line(text, line, held, used);
+            let at = stream::put_last(text, line, used, settings);
+            out::flush(text, at);
+            return;
         }
-        let now = take_chunk(text, line, held, &chunk[..n]);
-        let at = now.at;
-        out::flush(text, at);
-        held = Held {
-            used: now.used,
-            at: 0,
-        };
+        used = take_chunk(text, line, used, &chunk[..n], settings);
         turns -= 1;
     }
-    held
+}
+
+fn run(settings: Settings) {
+    let mut line = [0u8; 65537];
+    let mut text = [0u8; 524288];
+    serve(&mut text, &mut line, settings);
+}
+
+// What the words after the program's name ask for; the row holds them. Words that it has no room for are
+// more than this program knows.
+fn asked(row: &mut [u8]) -> Asked {
+    let n = os::arg_count();
+    let mut at = 0;
+    let mut i = 1;
+    while i < n {
+        if row.len() <= at {
+            return Asked::Usage;
+        }
+        let k = os::arg(i, &mut row[at..]);
+        if os::errno() != 0 {
+            return Asked::Usage;
+        }
+        at = lines::put_byte(row, at + k, 0);
+        i += 1;
+    }
+    if row.len() <= at {
+        return Asked::Usage;
+    }
+    words::read(&row[..at])
 }
 
 fn main() {
-    let mut line = [0u8; 65537];
-    let mut text = [0u8; 524288];
-    let held = serve(&mut text, &mut line);
-    let at = held.at;
-    out::flush(&text, at);
+    let mut row = io::buffer();
+    match asked(&mut row) {
+        Asked::For(settings) => run(settings),
+        Asked::Usage => {
+            io::write_all(
+                STDERR_FILENO,
+                b"usage: fontcrunch_cli [--penalty N]   N sixteenths, 1 to 256, 32 where none is said; of several the last counts\n",
+            );
+        }
+    }
 }

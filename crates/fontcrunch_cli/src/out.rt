@@ -3,8 +3,6 @@ use libc::STDOUT_FILENO;
 ghost use mathlib.Core.Path.{_≡_};
 ghost use Prim.Native.Nat.{_+_};
 ghost use lib.Dec.{leb};
-ghost use lib.ListN.{length};
-ghost use Rattle.fontcrunch_cli.specs.Answer.{placeOf};
 
 pub fn flush(text: &[u8], at: usize) {
     if at <= text.len() {
@@ -13,22 +11,11 @@ pub fn flush(text: &[u8], at: usize) {
 }
 
 // Whether the longest answer, 16,384 points of at most 18 bytes, has room from `at` on.
-fn has_room(n: usize, at: usize) -> bool
+pub fn has_room(n: usize, at: usize) -> bool
     ensures { λ r. ⌜ r ≡ leb (at + 300000) n ⌝ }
 {
     if n < 300000 {
         return false;
     }
     at <= n - 300000
-}
-
-// A place with that room: `at` itself, or the start of a buffer that was written out.
-pub fn room(text: &[u8], at: usize) -> usize
-    ensures { λ r. ⌜ r ≡ placeOf (length (now (text .entry))) at ⌝ }
-{
-    if has_room(text.len(), at) {
-        return at;
-    }
-    flush(text, at);
-    0
 }

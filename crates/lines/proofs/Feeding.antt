@@ -13,7 +13,7 @@ use Rattle.lines.specs.Stream.{Feeds}
 use Rattle.lines.specs.declared.stream.Fed.the-variants.{Line, Part}
 use Rattle.lines.proofs.Words.{endFrom}
 
-prefix : (stop : ℕ) (l : List ℕ) → take (length (upTo stop l)) l ≡ upTo stop l
+pub prefix : (stop : ℕ) (l : List ℕ) → take (length (upTo stop l)) l ≡ upTo stop l
 unfolding upTo
 prefix stop [] = refl
 prefix stop (b ∷ bs) = by (eqb b stop) (prefix stop bs)

@@ -1,11 +1,12 @@
--- What the proofs of the functions share.
-mod Texts
+-- What the proofs of the functions share; `Texts` and `Parts` also with the programs.
+pub mod Texts
 mod Digits
 mod Words
-mod Reading
+pub mod Reading
 mod Signs
 mod Parsing
-mod Feeding
+pub mod Feeding
 mod Answers
-mod Theorems
+pub mod Parts
+pub mod Theorems
 mod Values

@@ -19,8 +19,8 @@ use Rattle.lines.specs.declared.word.Flag.the-variants as F
 
 -- ---- digits
 
--- what is more than 65,536 may be taken as that, whatever digits follow
-on-from : (ds : List ℕ) (v w : ℕ) → min v 65536 ≡ min w 65536 → sizeOf (digitsOn v ds) ≡ sizeOf (digitsOn w ds)
+-- what is more than 2^32 may be taken as that, whatever digits follow
+on-from : (ds : List ℕ) (v w : ℕ) → min v 4294967296 ≡ min w 4294967296 → sizeOf (digitsOn v ds) ≡ sizeOf (digitsOn w ds)
 unfolding digitsOn sizeOf
 on-from [] v w e = ap S.Is e
 on-from (d ∷ ds) v w e = by (isDigit d) (on-from ds (v * 10 + (d - 48)) (w * 10 + (d - 48)) (omega arith))
@@ -38,12 +38,12 @@ module _ (ds : List ℕ) (i v : ℕ) where
   unfolding digitsOn sizeOf
   high h l = rw (drop-cons ds i 0 h, le-leb 48 (getD ds i 0) (omega arith), lt-leb _ _ l)
 
-  pub digit : (w : ℕ) → i < length ds → 48 ≤ getD ds i 0 → getD ds i 0 ≤ 57 → w ≡ min (v * 10 + (getD ds i 0 - 48)) 65536 →
+  pub digit : (w : ℕ) → i < length ds → 48 ≤ getD ds i 0 → getD ds i 0 ≤ 57 → w ≡ min (v * 10 + (getD ds i 0 - 48)) 4294967296 →
       sizeOf (digitsOn v (drop i ds)) ≡ sizeOf (digitsOn w (drop (i + 1) ds))
   unfolding digitsOn
   digit w h l m e = rw (drop-cons ds i 0 h, le-leb _ _ l, le-leb _ _ m, add-one) (on-from (drop (suc i) ds) (v * 10 + (getD ds i 0 - 48)) w (omega arith))
 
-  pub all : length ds ≤ i → sizeOf (digitsOn v (drop i ds)) ≡ S.Is (min v 65536)
+  pub all : length ds ≤ i → sizeOf (digitsOn v (drop i ds)) ≡ S.Is (min v 4294967296)
   unfolding digitsOn sizeOf
   all h = rw (drop-of-length-le ds h)
 
@@ -59,18 +59,18 @@ no-digits (d ∷ ds) h = absurd (omega arith)
 
 -- ---- whole numbers
 
-cap-test : (v m : ℕ) → m < 65536 → leb (min v 65536) m ≡ leb v m
+pub cap-test : (v m : ℕ) → m < 4294967296 → leb (min v 4294967296) m ≡ leb v m
 cap-test v m h = by (leb v m) refl
   where
-    by : (t : Bool) → leb v m ≡ t → leb (min v 65536) m ≡ t
+    by : (t : Bool) → leb v m ≡ t → leb (min v 4294967296) m ≡ t
     by true e =
         let small = leb-true v m e in
-        le-leb (min v 65536) m (omega arith)
+        le-leb (min v 4294967296) m (omega arith)
     by false e =
         let large = leb-false v m e in
-        lt-leb (min v 65536) m (omega arith)
+        lt-leb (min v 4294967296) m (omega arith)
 
-uncapped : (v m : ℕ) → m < 65536 → leb v m ≡ true → min v 65536 ≡ v
+pub uncapped : (v m : ℕ) → m < 4294967296 → leb v m ≡ true → min v 4294967296 ≡ v
 uncapped v m h e =
     let small = leb-true v m e in
     omega arith
@@ -80,7 +80,7 @@ unfolding fromZero sizeOf asCoordinate
 from-zero none = refl
 from-zero (some v) = rw (cap-test v 32767 (omega arith)) (by (leb v 32767) refl)
   where
-    by : (t : Bool) → leb v 32767 ≡ t → coordinateIf t (pos (min v 65536)) ≡ asCoordinate (given t (some (pos v)))
+    by : (t : Bool) → leb v 32767 ≡ t → coordinateIf t (pos (min v 4294967296)) ≡ asCoordinate (given t (some (pos v)))
     by true e = ap (λ (n : ℕ). C.Is (pos n)) (uncapped v 32767 (omega arith) e)
     by false e = refl
 
@@ -90,7 +90,7 @@ below-zero none = refl
 below-zero (some zero) = refl
 below-zero (some (suc n)) = rw (cap-test (suc n) 32768 (omega arith), leb·suc-suc n 32767) (by (leb n 32767) refl)
   where
-    by : (t : Bool) → leb n 32767 ≡ t → coordinateIf t (negative (min (suc n) 65536)) ≡ asCoordinate (given (t && true) (some (negative (suc n))))
+    by : (t : Bool) → leb n 32767 ≡ t → coordinateIf t (negative (min (suc n) 4294967296)) ≡ asCoordinate (given (t && true) (some (negative (suc n))))
     by true e = ap (λ (k : ℕ). C.Is (negative k)) (uncapped (suc n) 32768 (omega arith) (leb·suc-suc n 32767 ∙ e))
     by false e = refl
 
@@ -99,7 +99,7 @@ unfolding flagUpTo sizeOf asFlag
 flag-from-zero none = refl
 flag-from-zero (some v) = rw (cap-test v 255 (omega arith), leb·zero v) (by (leb v 255) refl)
   where
-    by : (t : Bool) → leb v 255 ≡ t → flagIf t (min v 65536) ≡ asFlag (Option·map natAbs (given t (some (pos v))))
+    by : (t : Bool) → leb v 255 ≡ t → flagIf t (min v 4294967296) ≡ asFlag (Option·map natAbs (given t (some (pos v))))
     by true e = ap F.Is (uncapped v 255 (omega arith) e)
     by false e = refl
 

@@ -129,7 +129,7 @@ carried stop (b ∷ line) bytes h = by (eqb b stop) h (λ l. carried stop line b
 
 -- ---- rows
 
-past-first : {A : Type 0} (vs : List A) (a : A) (row : List A) (i : ℕ) → sets (a ∷ row) (suc i) vs ≡ a ∷ sets row i vs
+pub past-first : {A : Type 0} (vs : List A) (a : A) (row : List A) (i : ℕ) → sets (a ∷ row) (suc i) vs ≡ a ∷ sets row i vs
 past-first [] a row i = refl
 past-first (v ∷ vs) a row i = past-first vs a (set row i v) (suc i)
 

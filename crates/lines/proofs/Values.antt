@@ -8,7 +8,7 @@ use mathlib.Core.Bool.{true}
 use lib.Ieee.{nan, inf, binary64, ofBits, toBits}
 use Rattle.lines.specs.Line.{split, digitsOn, wholeOf, numberOf, coordinateOf, flagOf, Point, pointsOf, parsedOf}
 use Rattle.lines.specs.Text.{decimalIn, decimalOf, signedOf, hexFrom, bitsOf, hexOf}
-use Rattle.lines.specs.Stream.{allButEmptyLast, linesOf}
+use Rattle.lines.specs.Stream.{endedBy, allButEmptyLast, linesOf}
 
 abbrev at : ℤ → ℤ → ℕ → Point
 at a b c = record { x = a; y = b; flag = c }
@@ -100,11 +100,11 @@ long-number = refl
 
 -- `a`, an empty line, `b` with no line end
 lines : linesOf (97 ∷ 10 ∷ 10 ∷ 98 ∷ []) ≡ (97 ∷ []) ∷ [] ∷ (98 ∷ []) ∷ []
-unfolding linesOf allButEmptyLast split
+unfolding endedBy allButEmptyLast split
 lines = refl
 
 no-line : linesOf [] ≡ []
-unfolding linesOf allButEmptyLast split
+unfolding endedBy allButEmptyLast split
 no-line = refl
 
 nought : decimalOf 0 ≡ 48 ∷ []

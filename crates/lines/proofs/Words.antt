@@ -46,10 +46,10 @@ ltb-suc : (a b : ℕ) → ltb (suc a) (suc b) ≡ ltb a b
 ltb-suc a b = same-test (suc a) (suc b) (suc a) b (λ h. omega arith) (λ h. omega arith) ∙ sym (same-test a b (suc a) b (λ h. omega arith) (λ h. omega arith))
 
 -- the first part is the bytes up to the first stop, and the others are those after it
-abbrev partedAt : ℕ → List ℕ → ℕ → List (List ℕ)
+abbrev pub partedAt : ℕ → List ℕ → ℕ → List (List ℕ)
 partedAt stop l n = take n l ∷ wordsIf (ltb n (length l)) (split stop (drop (suc n) l))
 
-parted : (stop : ℕ) (l : List ℕ) → split stop l ≡ partedAt stop l (length (upTo stop l))
+pub parted : (stop : ℕ) (l : List ℕ) → split stop l ≡ partedAt stop l (length (upTo stop l))
 unfolding split upTo
 parted stop [] = refl
 parted stop (b ∷ bs) = by (eqb b stop) (parted stop bs)

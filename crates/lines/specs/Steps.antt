@@ -16,9 +16,9 @@ use Rattle.lines.specs.declared.word.Flag.the-variants as F
 use Rattle.lines.specs.declared.line.Triple.{Triple}
 use Rattle.lines.specs.declared.line.Triple.the-variants as T
 
--- a number, what is more than 65,536 as that
+-- a number, what is more than 2^32 as that
 unfoldable pub sizeOf : Option ℕ → Size
-sizeOf (some v) = S.Is (min v 65536)
+sizeOf (some v) = S.Is (min v 4294967296)
 sizeOf none = S.Not
 
 unfoldable pub asCoordinate : Option ℤ → Coordinate

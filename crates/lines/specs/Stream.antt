@@ -10,16 +10,20 @@ use Rattle.lines.specs.Text.{Put}
 use Rattle.lines.specs.declared.stream.Fed.{Fed}
 use Rattle.lines.specs.declared.stream.Fed.the-variants.{Line, Part}
 
--- what stands after the last line end is a line where it is not empty
+-- what stands after the last stop is a part where it is not empty
 unfoldable pub allButEmptyLast : List (List ℕ) → List (List ℕ)
 allButEmptyLast [] = []
 allButEmptyLast ([] ∷ []) = []
 allButEmptyLast ((b ∷ bs) ∷ []) = (b ∷ bs) ∷ []
 allButEmptyLast (line ∷ next ∷ lines) = line ∷ allButEmptyLast (next ∷ lines)
 
+-- the parts that end with byte `stop`
+unfoldable pub endedBy : ℕ → List ℕ → List (List ℕ)
+endedBy stop bytes = allButEmptyLast (split stop bytes)
+
 -- each line ends with byte 10
-unfoldable pub linesOf : List ℕ → List (List ℕ)
-linesOf bytes = allButEmptyLast (split 10 bytes)
+abbrev pub linesOf : List ℕ → List (List ℕ)
+linesOf = endedBy 10
 
 abbrev pub fedIf : Bool → ℕ → ℕ → Fed
 fedIf true kept end = Line kept (end + 1)

@@ -17,4 +17,6 @@ pub use put::put_number;
 pub use put::put_signed;
 pub use stream::Fed;
 pub use stream::feed;
+pub use word::Size;
 pub use word::end_of;
+pub use word::read_size;

@@ -21,20 +21,20 @@ pub fn end_of(bytes: &[u8], from: usize, stop: u8) -> usize
     i
 }
 
-// The number that decimal digits say. What is more than 65,536 counts as that, so that any number of
-// digits can be read: no bound on a number of a line is higher.
+// The number that decimal digits say. What is more than 2^32 counts as that, so that any number of
+// digits can be read: no number that we read has a higher bound.
 pub enum Size {
-    Is(u32),
+    Is(u64),
     Not,
 }
 
-fn capped(v: u32) -> u32
-    ensures { λ r. ⌜ r ≡ min v 65536 ⌝ }
+fn capped(v: u64) -> u64
+    ensures { λ r. ⌜ r ≡ min v 4294967296 ⌝ }
 {
-    if v < 65536 { v } else { 65536 }
+    if v < 4294967296 { v } else { 4294967296 }
 }
 
-fn read_size(digits: &[u8]) -> Size
+pub fn read_size(digits: &[u8]) -> Size
     ensures { λ r. ⌜ r ≡ sizeOf (wholeOf (now (digits .entry))) ⌝ }
 {
     if digits.len() == 0 {
@@ -50,7 +50,7 @@ fn read_size(digits: &[u8]) -> Size
         if 57 < b {
             return Size::Not;
         }
-        v = capped(v * 10 + ((b - 48) as u32));
+        v = capped(v * 10 + ((b - 48) as u64));
         i += 1;
     }
     Size::Is(v)
@@ -109,7 +109,7 @@ pub enum Flag {
     Not,
 }
 
-fn flag_up_to(s: Size, most: u32) -> Flag
+fn flag_up_to(s: Size, most: u64) -> Flag
     requires { ⌜ most ≤ 255 ⌝ }
     ensures { λ r. ⌜ r ≡ flagUpTo most s ⌝ }
 {

@@ -1,5 +1,5 @@
-// The chain entry and the checker on runs from standard input, one a line: `0 0 K x y f x y f ...`, a run number
-// in the place of a point's flag, then a contour. A line out for each: `refused N`, `pairs P unchanged`, or
+// The chain entry and the checker on runs from standard input, one a line: `16 0 K x y f x y f ...`, in the places of
+// a point the penalty, a 0 and a run number, then a contour. A line out for each: `refused N`, `pairs P unchanged`, or
 // `pairs P score S chain C` with START END CX CY of each piece, floats by their bits, and then two verdicts: on
 // this chain, and on it with a score that is one more.
 use chains::Chained;
@@ -7,6 +7,7 @@ use checks::Verdict;
 use libc::STDIN_FILENO;
 use libc::STDOUT_FILENO;
 use lines::Parsed;
+use settings::Settings;
 
 fn wide(x: u32) -> u64 {
     x as u64
@@ -87,6 +88,7 @@ fn put_checked(
         ys,
         flags,
         k,
+        Settings::of_crate(),
         starts,
         ends,
         cxs,
@@ -156,6 +158,7 @@ fn put_run(text: &mut [u8], xs: &[i16], ys: &[i16], flags: &[u8], k: usize) -> u
         ys,
         flags,
         k,
+        Settings::of_crate(),
         &mut starts,
         &mut ends,
         &mut cxs,

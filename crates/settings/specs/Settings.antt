@@ -1,6 +1,13 @@
--- What a caller chooses, and what the work takes of it. Definitions only.
+-- What a caller chooses, what the work takes of it, and refusal 16. Definitions only.
+use Prim.Native.Nat.{ℕ}
+use mathlib.Core.Bool.{Bool, true, false, not, _&&_}
+use mathlib.Core.List.{List}
+use lib.Dec.{leb, ltb}
 use lib.Ieee.{Float, binary64, ofInt, div, ofBits}
-use lib.IntN.{pos}
+use lib.IntN.{ℤ, pos}
+use Rattle.refusals.specs.Refusals.{judged, refuse}
+use Rattle.refusals.specs.declared.Judged.{Judged}
+use Rattle.refusals.specs.declared.Judged.the-variants as Judged
 use Rattle.breaks.specs.Breaks.{halfGrid}
 use Rattle.breaks.specs.declared.Grid.{Grid}
 use Rattle.settings.specs.declared.Settings.{Settings}
@@ -13,6 +20,29 @@ penaltyOf s = div binary64 (ofInt binary64 (pos (s .penalty))) (ofBits binary64 
 abbrev pub gridOf : Settings → Grid
 gridOf s = halfGrid
 
+-- of a penalty in sixteenths, as C and Rust programs give it
+abbrev pub settingsOf : ℕ → Settings
+settingsOf penalty = record { penalty = penalty }
+
 -- document 01's penalty, 1.0
 abbrev pub crateSettings : Settings
-crateSettings = record { penalty = 16 }
+crateSettings = settingsOf 16
+
+-- document 02's default, 2.0
+abbrev pub defaultSettings : Settings
+defaultSettings = settingsOf 32
+
+-- ---- refusal 16
+
+-- a penalty of 1 to 256 sixteenths
+abbrev pub settingsFine : Settings → Bool
+settingsFine s = ltb 0 (s .penalty) && leb (s .penalty) 256
+
+-- 16: a penalty outside the range, after all refusals of the input rows
+abbrev pub thenSettings : Settings → Judged → Judged
+thenSettings s (Judged.Refused k) = Judged.Refused k
+thenSettings s Judged.Fine = refuse 16 (not (settingsFine s)) Judged.Fine
+
+-- what a contour and the choice for it are refused for before any run is worked
+unfoldable pub judgedFor : Settings → List ℤ → List ℤ → List ℕ → Judged
+judgedFor s xs ys fs = thenSettings s (judged xs ys fs)

@@ -2,6 +2,9 @@
 
 use super::*;
 
+/// What the numbers below were recorded with.
+const AS_RECORDED: Settings = Settings::of_crate();
+
 /// Two curves with a smooth joint: a chain of two pieces over 470 breaks, then a copied line.
 const HILL: [(i16, i16, u8); 6] =
     [(0, 0, 1), (0, 60, 0), (40, 90, 1), (80, 120, 0), (130, 120, 1), (200, -40, 1)];
@@ -70,7 +73,7 @@ fn assert_untouched_chain(chain: &ChainRows, from: usize) {
 }
 
 fn crunch_number(contour: &Contour, mut out: Output, mut scratch: Scratch) -> u32 {
-    let report = crunch(contour, &mut out, &mut scratch);
+    let report = crunch(contour, AS_RECORDED, &mut out, &mut scratch);
     assert_zero(&scratch);
     if report.number != 0 {
         assert_eq!(report, CrunchReport { number: report.number, points: 0, pairs: 0 });
@@ -80,7 +83,7 @@ fn crunch_number(contour: &Contour, mut out: Output, mut scratch: Scratch) -> u3
 }
 
 fn chain_number(contour: &Contour, run: usize, mut rows: ChainRows, mut scratch: Scratch) -> u32 {
-    let report = chain(contour, run, &mut rows, &mut scratch);
+    let report = chain(contour, run, AS_RECORDED, &mut rows, &mut scratch);
     assert_zero(&scratch);
     if report.number != 0 {
         assert_eq!(report, ChainReport { number: report.number, pieces: 0, pairs: 0, score_bits: 0 });
@@ -90,7 +93,7 @@ fn chain_number(contour: &Contour, run: usize, mut rows: ChainRows, mut scratch:
 }
 
 fn check_number(contour: &Contour, run: usize, rows: &ChainRows, mut scratch: Scratch) -> u32 {
-    let report = check(contour, run, rows, 0.0, &mut scratch);
+    let report = check(contour, run, AS_RECORDED, rows, 0.0, &mut scratch);
     assert_zero(&scratch);
     assert_eq!(report.accepted, 0);
     report.number
@@ -109,7 +112,7 @@ fn numbers(contour: &Contour) -> [u32; 3] {
 fn success_writes_the_first_places_and_leaves_scratch_zero() {
     let mut out = marked(20, 30, 40, 50);
     let mut scratch = littered_full();
-    let report = crunch(&contour(&HILL), &mut out, &mut scratch);
+    let report = crunch(&contour(&HILL), AS_RECORDED, &mut out, &mut scratch);
     assert_eq!(report, CrunchReport { number: 0, points: 5, pairs: 937 });
     assert_eq!(out.xs[..5], [200, 130, 80, 0, 0]);
     assert_eq!(out.ys[..5], [-40, 120, 120, 60, 0]);
@@ -122,7 +125,7 @@ fn success_writes_the_first_places_and_leaves_scratch_zero() {
 fn a_chain_is_written_to_the_first_places() {
     let mut rows = marked_chain(3, 4, 5, 6);
     let mut scratch = littered_full();
-    let report = chain(&contour(&HILL), 0, &mut rows, &mut scratch);
+    let report = chain(&contour(&HILL), 0, AS_RECORDED, &mut rows, &mut scratch);
     assert_eq!((report.number, report.pieces, report.pairs), (0, 2, 937));
     assert_eq!(report.score_bits, 0x4008_1ec1_1db4_7a5f);
     assert_eq!((&rows.starts[..2], &rows.ends[..2]), (&[0, 241][..], &[241, 469][..]));
@@ -152,6 +155,55 @@ fn refusals_1_to_5_are_tested_in_order() {
     assert_eq!(numbers(&contour(&[off; 1025])), [3, 3, 3]);
     assert_eq!(numbers(&contour(&[off; 2])), [4, 4, 4]);
     assert_eq!(numbers(&contour(&[(0, 0, 1), off, off])), [5, 5, 5]);
+}
+
+/// What each entry says at a penalty: of run 0, and of one that no contour here has.
+fn numbers_at(penalty: u32, contour: &Contour, scratch: impl Fn() -> Scratch) -> [u32; 4] {
+    let settings = Settings { penalty, ..AS_RECORDED };
+    let mut out = marked(0, 0, 0, 0);
+    let mut rows = marked_chain(0, 0, 0, 0);
+    let crunched = crunch(contour, settings, &mut out, &mut scratch()).number;
+    assert_untouched(&out, 0);
+    let mut chained = |run| chain(contour, run, settings, &mut rows, &mut scratch()).number;
+    [crunched, chained(0), chained(9), check(contour, 0, settings, &rows, 1.0, &mut scratch()).number]
+}
+
+#[test]
+fn a_penalty_is_tested_after_1_to_5_and_before_anything_else() {
+    let none = || littered(0, 0, 0, 0);
+    for penalty in [0, 257, u32::MAX] {
+        assert_eq!(numbers_at(penalty, &Contour { flags: vec![1], ..Contour::default() }, none), [1; 4]);
+        assert_eq!(numbers_at(penalty, &contour(&[]), none), [2; 4]);
+        assert_eq!(numbers_at(penalty, &contour(&[(0, 0, 1); 1025]), none), [3; 4]);
+        assert_eq!(numbers_at(penalty, &contour(&[(0, 0, 0)]), none), [4; 4]);
+        assert_eq!(numbers_at(penalty, &contour(&[(0, 0, 1), (1, 1, 0), (2, 2, 0)]), none), [5; 4]);
+        // before 10, before 6 and 7 for want of room, and before 9
+        assert_eq!(numbers_at(penalty, &contour(&HILL), none), [16; 4]);
+        assert_eq!(numbers_at(penalty, &contour(&HILL), littered_full), [16; 4]);
+    }
+    for penalty in [1, 16, 32, 256] {
+        assert_eq!(numbers_at(penalty, &contour(&HILL), none), [6, 6, 10, 6]);
+        assert_eq!(numbers_at(penalty, &contour(&HILL), littered_full), [9, 9, 10, 0]);
+    }
+}
+
+#[test]
+fn a_penalty_that_is_refused_leaves_scratch_zero() {
+    let settings = Settings { penalty: 0, ..AS_RECORDED };
+    let (mut out, mut rows, mut scratch) = (marked(9, 9, 9, 9), marked_chain(9, 9, 9, 9), littered_full());
+    let report = crunch(&contour(&HILL), settings, &mut out, &mut scratch);
+    assert_eq!(report, CrunchReport { number: 16, points: 0, pairs: 0 });
+    assert_untouched(&out, 0);
+    assert_zero(&scratch);
+    scratch = littered_full();
+    let report = chain(&contour(&HILL), 0, settings, &mut rows, &mut scratch);
+    assert_eq!(report, ChainReport { number: 16, pieces: 0, pairs: 0, score_bits: 0 });
+    assert_untouched_chain(&rows, 0);
+    assert_zero(&scratch);
+    scratch = littered_full();
+    let report = check(&contour(&HILL), 0, settings, &rows, 1.0, &mut scratch);
+    assert_eq!(report, CheckReport { number: 16, accepted: 0 });
+    assert_zero(&scratch);
 }
 
 #[test]
@@ -239,8 +291,11 @@ fn chain_rows_of_unequal_length_are_not_accepted() {
     let mut found = ChainRows::default();
     found.resize(2);
     let mut scratch = littered_full();
-    let score = f64::from_bits(chain(&hill, 0, &mut found, &mut scratch).score_bits);
-    assert_eq!(check(&hill, 0, &found, score, &mut scratch), CheckReport { number: 0, accepted: 1 });
+    let score = f64::from_bits(chain(&hill, 0, AS_RECORDED, &mut found, &mut scratch).score_bits);
+    assert_eq!(
+        check(&hill, 0, AS_RECORDED, &found, score, &mut scratch),
+        CheckReport { number: 0, accepted: 1 }
+    );
     for row in 0..4 {
         let mut uneven = marked_chain(0, 0, 0, 0);
         uneven.starts.clone_from(&found.starts);
@@ -253,7 +308,10 @@ fn chain_rows_of_unequal_length_are_not_accepted() {
             2 => uneven.xs.push(80.0),
             _ => uneven.ys.push(120.0),
         }
-        assert_eq!(check(&hill, 0, &uneven, score, &mut scratch), CheckReport { number: 0, accepted: 0 });
+        assert_eq!(
+            check(&hill, 0, AS_RECORDED, &uneven, score, &mut scratch),
+            CheckReport { number: 0, accepted: 0 }
+        );
         assert_zero(&scratch);
     }
 }
@@ -263,7 +321,7 @@ fn an_unchanged_run_writes_no_piece_and_no_score() {
     let still = contour(&[(5, 5, 1), (5, 5, 0), (5, 5, 1)]);
     let mut rows = marked_chain(9, 9, 9, 9);
     let mut scratch = littered_full();
-    let report = chain(&still, 0, &mut rows, &mut scratch);
+    let report = chain(&still, 0, AS_RECORDED, &mut rows, &mut scratch);
     assert_eq!(report, ChainReport { number: 0, pieces: 0, pairs: 1, score_bits: 0 });
     assert_untouched_chain(&rows, 0);
     assert_zero(&scratch);

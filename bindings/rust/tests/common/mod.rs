@@ -2,7 +2,12 @@
 
 #![allow(dead_code)] // each test program uses some of them
 
-use fontcrunch::Point;
+use fontcrunch::{Cruncher, Point, Settings};
+
+/// What the recorded answers were recorded with: those of the Rust that this follows.
+pub fn as_recorded() -> Cruncher {
+    Cruncher::new(Settings::of_crate())
+}
 
 /// Points written as they are on a line: x, y, and 1 for an on-curve point.
 pub fn points(numbers: &[i16]) -> Vec<Point> {

@@ -2,17 +2,12 @@
 use mathlib.Core.Path.{_∙_}
 use Rattle.rows.specs.Rows.{work}
 use Rattle.rows.specs.Lent.{inputs}
-use Rattle.settings.specs.Settings.{crateSettings}
 use Rattle.pieces.specs.Slots.{chain}
 use Rattle.edition.specs.Laws.{cleared-work}
-use Rattle.edition.specs.Scratch.{roomsOf}
 use Rattle.chains.specs.Entry.{wholeOf}
-use Rattle.chains.proofs.Steps.{with-settings, answer-is, rows-are}
+use Rattle.chains.proofs.Steps.{answer-is, rows-are}
 use Rattle.chains.proofs.chain_of_run.Statement.{statement}
 use Rattle.chains.proofs.chain_of_run.Tie as tie
-
-of-crate-requires : tie.Need-of-crate-requires
-of-crate-requires c κs = tt
 
 chain-judged-requires : tie.Need-chain-judged-requires
 chain-judged-requires c κs = tt
@@ -46,12 +41,12 @@ same-length-8 c = c .before .before .before .before .before .clear-work .kept .1
 
 returns : tie.Need-returns
 returns c =
-    let args = c .before .before .before .before .before .before .before .before .before .before .before .before .before .before .before .before .before .before .before .before .before .before .before .before .before .before .before .before .before .before .before .before .before .before .before .before .before .before .before .args in
+    let args = c .before .before .before .before .before .before .before .before .before .before .before .before .before .before .before .before .before .before .before .before .before .before .before .before .before .before .before .before .before .before .before .before .before .before .before .before .before .before .args in
     let kept = c .before .before .before .before .before .before .before .before .before .before .before .before .before .before .before .before .before .before .before .before .before .before .before .chain-judged .kept .1 .1 .1 .1 .1 .1 .1 .1 .1 in
     let lent = chain (args .starts .now) (args .ends .now) (args .cxs .now) (args .cys .now) in
     let rows = work (args .samples .now) (args .breaks .now) (args .answers .now) (args .links .now) in
-    let whole = wholeOf (inputs (args .xs .now) (args .ys .now) (args .flags .now)) crateSettings (args .k) lent rows in
-    let handed = with-settings (roomsOf rows) lent (args .xs .now) (args .ys .now) (args .flags .now) (args .k) (c .before .before .before .before .before .before .before .before .before .before .before .before .before .before .before .before .before .before .before .before .before .before .before .before .before .before .before .before .before .before .before .before .of-crate .ensures) (c .before .before .before .before .before .before .before .before .before .before .before .before .before .before .before .before .before .before .before .before .before .before .before .chain-judged .ensures) in
+    let whole = wholeOf (inputs (args .xs .now) (args .ys .now) (args .flags .now)) (args .settings) (args .k) lent rows in
+    let handed = c .before .before .before .before .before .before .before .before .before .before .before .before .before .before .before .before .before .before .before .before .before .before .before .chain-judged .ensures in
     record {
       answer = answer-is whole lent handed;
       rows = rows-are whole lent handed;
@@ -62,7 +57,6 @@ pub chain-of-run-spec : {M : Type 1} → statement M
 chain-of-run-spec =
     tie.close
     (tie.spec
-    of-crate-requires
     chain-judged-requires
     clear-work-requires
     same-length

@@ -9,9 +9,6 @@ use Rattle.checks.proofs.check_chain.Tie as tie
 least-requires : tie.Need-least-requires
 least-requires c κs = tt
 
-of-crate-requires : tie.Need-of-crate-requires
-of-crate-requires c κs = tt
-
 check-judged-requires : tie.Need-check-judged-requires
 check-judged-requires c κs = tt
 
@@ -32,11 +29,11 @@ same-length-4 c = c .before .before .before .before .before .clear-work .kept .1
 
 returns : tie.Need-returns
 returns c =
-    let args = c .before .before .before .before .before .before .before .before .before .before .before .before .before .before .before .before .before .before .before .before .before .before .before .args in
+    let args = c .before .before .before .before .before .before .before .before .before .before .before .before .before .before .before .before .before .before .before .before .before .before .args in
     let kept = c .before .before .before .before .before .before .before .before .before .before .before .before .check-judged .kept .1 .1 .1 .1 .1 .1 .1 .1 .1 .1 .1 in
     let chain : Given = record { starts = args .starts .now; ends = args .ends .now; xs = args .cxs .now; ys = args .cys .now; score = args .score } in
     record {
-      verdict = whole-is (args .xs .now) (args .ys .now) (args .flags .now) (args .k) chain (args .samples .now) (args .breaks .now) (args .answers .now) (args .links .now) (c .before .before .before .before .before .before .before .before .before .before .before .before .before .before .before .before .least .ensures) (c .before .before .before .before .before .before .before .before .before .before .before .before .before .before .before .of-crate .ensures) (c .before .before .before .before .before .before .before .before .before .before .before .before .check-judged .ensures);
+      verdict = whole-is (args .xs .now) (args .ys .now) (args .flags .now) (args .k) (args .settings) chain (args .samples .now) (args .breaks .now) (args .answers .now) (args .links .now) (c .before .before .before .before .before .before .before .before .before .before .before .before .before .before .before .least .ensures) (c .before .before .before .before .before .before .before .before .before .before .before .before .check-judged .ensures);
       left = cleared-work (args .samples .now) (args .breaks .now) (args .answers .now) (args .links .now) (c .before .before .before .before .before .clear-work .ensures) (kept .0) (kept .1 .0) refl refl;
     }
 
@@ -45,7 +42,6 @@ check-chain-spec =
     tie.close
     (tie.spec
     least-requires
-    of-crate-requires
     check-judged-requires
     clear-work-requires
     same-length

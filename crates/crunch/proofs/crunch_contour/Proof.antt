@@ -1,12 +1,9 @@
 -- `crunch::crunch_contour` meets its contract. Assumes nothing.
 use mathlib.Core.Path.{_∙_}
 use Rattle.edition.specs.Laws.{cleared-work}
-use Rattle.crunch.proofs.Whole.{cleared-points, with-settings}
+use Rattle.crunch.proofs.Whole.{cleared-points}
 use Rattle.crunch.proofs.crunch_contour.Statement.{statement}
 use Rattle.crunch.proofs.crunch_contour.Tie as tie
-
-of-crate-requires : tie.Need-of-crate-requires
-of-crate-requires c κs = tt
 
 crunch-requires : tie.Need-crunch-requires
 crunch-requires c κs = tt
@@ -43,9 +40,9 @@ same-length-8 c = c .before .clear-points .kept .0 ∙ c .before .before .before
 
 returns : tie.Need-returns
 returns c =
-    let args = c .before .before .before .before .before .before .before .before .before .before .before .before .before .before .before .before .before .before .before .before .before .before .before .before .before .before .before .before .before .before .before .before .before .before .before .before .args in
+    let args = c .before .before .before .before .before .before .before .before .before .before .before .before .before .before .before .before .before .before .before .before .before .before .before .before .before .before .before .before .before .before .before .before .before .before .before .args in
     let kept = c .before .before .before .before .before .before .before .before .before .before .before .before .before .before .before .before .before .before .before .before .before .before .before .crunch .kept .1 .1 .1 .1 .1 .1 .1 in
-    let answered = with-settings (c .before .before .before .before .before .before .before .before .before .before .before .before .before .before .before .before .before .before .before .before .before .before .before .before .before .before .before .before .before .before .before .before .of-crate .ensures) (c .before .before .before .before .before .before .before .before .before .before .before .before .before .before .before .before .before .before .before .before .before .before .before .crunch .ensures) in
+    let answered = c .before .before .before .before .before .before .before .before .before .before .before .before .before .before .before .before .before .before .before .before .before .before .before .crunch .ensures in
     record {
       answer = answered .answer;
       outs = answered .outs;
@@ -57,7 +54,6 @@ pub crunch-contour-spec : {M : Type 1} → statement M
 crunch-contour-spec =
     tie.close
     (tie.spec
-    of-crate-requires
     crunch-requires
     clear-work-requires
     clear-points-requires

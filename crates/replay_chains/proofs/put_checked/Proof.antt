@@ -15,6 +15,9 @@ slice-aggregate-check-chain-3 c = refl
 slice-aggregate-check-chain-4 : tie.Need-slice-aggregate-check-chain-4
 slice-aggregate-check-chain-4 c = refl
 
+of-crate-requires : tie.Need-of-crate-requires
+of-crate-requires c κs = tt
+
 check-chain-requires : tie.Need-check-chain-requires
 check-chain-requires c κs = tt
 
@@ -31,6 +34,7 @@ pub put-checked-spec : {M : Type 1} → statement M
 put-checked-spec =
     tie.close
     (tie.spec
+    of-crate-requires
     slice-aggregate-check-chain
     slice-aggregate-check-chain-2
     slice-aggregate-check-chain-3

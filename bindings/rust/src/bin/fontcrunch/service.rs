@@ -25,7 +25,7 @@ pub enum Status {
 pub fn run(job: &Job) -> Status {
     let mut service = Service {
         tool: job.tool,
-        cruncher: Cruncher::new(),
+        cruncher: Cruncher::new(job.settings),
         answers: BufWriter::new(io::stdout().lock()),
         drawing: None,
         status: Status::AllCrunched,
@@ -168,7 +168,7 @@ impl<W: Write> Service<W> {
 
     fn start_drawing(&mut self, path: &Path) {
         let name = path.to_string_lossy().into_owned();
-        match Picture::create(path) {
+        match Picture::create(path, self.cruncher.settings()) {
             Ok(picture) => self.drawing = Some(Drawing { name, picture }),
             Err(error) => self.wrong(&format!("{name}: {error}")),
         }

@@ -11,7 +11,7 @@ use Rattle.lines.proofs.word.read_size.Statement.{statement}
 use Rattle.lines.proofs.word.read_size.Tie as tie
 
 abbrev Inv-loop : tie.InvT-loop
-Inv-loop digits v₀ i₀ v i = (v ≤ 65536) × (sizeOf (wholeOf digits) ≡ sizeOf (digitsOn v (drop i digits)))
+Inv-loop digits v₀ i₀ v i = (v ≤ 4294967296) × (sizeOf (wholeOf digits) ≡ sizeOf (digitsOn v (drop i digits)))
 
 abbrev μ-loop : tie.MeasureT-loop
 μ-loop digits v₀ i₀ v i = length digits - i
@@ -65,7 +65,7 @@ loop-again c =
 returns-4 : tie.Need-returns-4 Inv-loop μ-loop
 returns-4 c =
     let inv = c .before .loop .inv in
-    let small : min (c .before .loop .v) 65536 ≡ c .before .loop .v = omega arith in
+    let small : min (c .before .loop .v) 4294967296 ≡ c .before .loop .v = omega arith in
     sym (inv .1 ∙ all _ _ _ (c .loop-test .left) ∙ ap S.Is small)
 
 pub read-size-spec : {M : Type 1} → statement M

@@ -1,10 +1,12 @@
-//! The head of the picture: what its marks mean.
+//! The head of the picture: what was crunched at, and what its marks mean.
+
+use fontcrunch::Settings;
 
 use super::outline::Place;
 use super::svg;
 use super::{MARGIN, WIDTH};
 
-pub const HEIGHT: f64 = 84.0;
+pub const HEIGHT: f64 = 104.0;
 
 /// A mark at a place, and the words beside it.
 type Entry = (fn(Place) -> String, &'static str, f64);
@@ -23,7 +25,7 @@ const ENTRIES: [Entry; 7] = [
 const REASONS: &str =
     "beside a corner: x, y a sign turn; b, a a zero tangent before, after; \u{2220} an angle";
 
-pub fn drawn() -> String {
+pub fn drawn(settings: Settings) -> String {
     let mut svg = svg::text(
         Place { x: MARGIN, y: 36.0 },
         20.0,
@@ -45,18 +47,30 @@ pub fn drawn() -> String {
         "text-anchor=\"end\"",
         REASONS,
     ));
-    let mut x = MARGIN + 8.0;
-    for (mark, words, width) in ENTRIES {
-        svg.push_str(&mark(Place { x, y: 61.0 }));
-        svg.push_str(&svg::text(Place { x: x + 16.0, y: 65.0 }, 12.0, svg::TEXT, "", words));
-        x += width;
-    }
+    svg.push_str(&svg::text(Place { x: MARGIN, y: 56.0 }, 12.0, svg::TEXT, "", &settings_words(settings)));
+    svg.push_str(&entries());
     svg.push_str(&svg::segment(
         Place { x: MARGIN, y: HEIGHT - 4.0 },
         Place { x: WIDTH - MARGIN, y: HEIGHT - 4.0 },
         svg::GHOST,
         "stroke-width=\"0.6\"",
     ));
+    svg
+}
+
+fn settings_words(settings: Settings) -> String {
+    let penalty = settings.penalty;
+    format!("at the penalty {:?}, {}", f64::from(penalty) / 16.0, svg::counted(penalty as usize, "sixteenth"))
+}
+
+fn entries() -> String {
+    let mut svg = String::new();
+    let mut x = MARGIN + 8.0;
+    for (mark, words, width) in ENTRIES {
+        svg.push_str(&mark(Place { x, y: 81.0 }));
+        svg.push_str(&svg::text(Place { x: x + 16.0, y: 85.0 }, 12.0, svg::TEXT, "", words));
+        x += width;
+    }
     svg
 }
 

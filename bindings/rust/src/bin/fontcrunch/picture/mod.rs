@@ -12,7 +12,7 @@ use std::fs::File;
 use std::io::{self, BufWriter, Seek, SeekFrom, Write};
 use std::path::Path;
 
-use fontcrunch::{Crunched, Cruncher, Point, Refusal};
+use fontcrunch::{Crunched, Cruncher, Point, Refusal, Settings};
 
 use reading::Reading;
 
@@ -27,13 +27,14 @@ pub struct Picture {
 }
 
 impl Picture {
-    pub fn create(path: &Path) -> io::Result<Picture> {
+    /// Of contours that are crunched at these settings.
+    pub fn create(path: &Path, settings: Settings) -> io::Result<Picture> {
         let mut file = File::create(path)?;
         // the height is put into the head at the end: a file that cannot seek is told now
         file.stream_position()?;
         let mut picture = Picture { file: BufWriter::new(file), bottom: legend::HEIGHT };
         picture.file.write_all(head(0.0).as_bytes())?;
-        picture.file.write_all(legend::drawn().as_bytes())?;
+        picture.file.write_all(legend::drawn(settings).as_bytes())?;
         Ok(picture)
     }
 

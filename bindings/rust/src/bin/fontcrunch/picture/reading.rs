@@ -52,9 +52,9 @@ pub struct Reading {
 }
 
 impl Reading {
-    /// A contour that is refused for its points alone has no runs to speak of.
+    /// A contour that is refused before any run is worked has no runs to speak of.
     pub fn of(cruncher: &mut Cruncher, before: &[Point], result: &Result<Crunched, Refusal>) -> Reading {
-        if result.as_ref().is_err_and(|refusal| refusal.number() <= 5) {
+        if result.as_ref().is_err_and(|refusal| refusal.number() <= 5 || *refusal == Refusal::NoSuchPenalty) {
             return Reading::default();
         }
         let lines = lines(before);

@@ -1,8 +1,13 @@
 use super::super::tests::{contours, points};
 use super::*;
+use fontcrunch::Settings;
 
 fn read(contour: &[Point]) -> (Reading, Result<Crunched, Refusal>) {
-    let mut cruncher = Cruncher::new();
+    read_at(Settings::of_crate(), contour)
+}
+
+fn read_at(settings: Settings, contour: &[Point]) -> (Reading, Result<Crunched, Refusal>) {
+    let mut cruncher = Cruncher::new(settings);
     let result = cruncher.crunch(contour);
     (Reading::of(&mut cruncher, contour, &result), result)
 }
@@ -43,7 +48,7 @@ fn assert_runs_agree(cruncher: &mut Cruncher, points: &[Point]) {
 
 #[test]
 fn runs_are_those_that_the_library_works() {
-    let mut cruncher = Cruncher::new();
+    let mut cruncher = Cruncher::new(Settings::of_crate());
     for contour in contours(1, 300) {
         assert_runs_agree(&mut cruncher, &contour);
     }
@@ -113,4 +118,8 @@ fn the_run_that_is_refused() {
     assert_eq!(long.runs[0].came, Came::Refused(Refusal::TooManyBreaks));
     assert!(long.joins.is_empty());
     assert_eq!(reading(&[0, 0, 0]), Reading::default());
+    // no run is to blame for a penalty
+    let free = Settings { penalty: 0, ..Settings::of_crate() };
+    let (reading, result) = read_at(free, &points(&HILL));
+    assert_eq!((reading.refused_run(), result), (None, Err(Refusal::NoSuchPenalty)));
 }

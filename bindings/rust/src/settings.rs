@@ -1,0 +1,48 @@
+//! What a caller chooses.
+
+/// The penalty of [`Settings::default`], 2.0.
+pub const DEFAULT_PENALTY: u32 = 32;
+
+/// The penalty of the Rust that this follows, 1.0.
+pub const CRATE_PENALTY: u32 = 16;
+
+/// What a caller chooses; see [`Cruncher::new`](crate::Cruncher::new).
+///
+/// A setting that is not named is best taken from one of the two sets that have names:
+///
+/// ```
+/// use fontcrunch::Settings;
+///
+/// let gentle = Settings { penalty: 64, ..Settings::default() };
+/// ```
+#[derive(Clone, Copy, Debug, PartialEq, Eq)]
+pub struct Settings {
+    /// What each piece adds to a score, in sixteenths. A larger one asks for fewer pieces. Refused by 16 where
+    /// it is not from 1 to 256.
+    pub penalty: u32,
+}
+
+impl Settings {
+    /// Those of the Rust that this follows, whose points come out with them.
+    pub const fn of_crate() -> Settings {
+        Settings { penalty: CRATE_PENALTY }
+    }
+}
+
+/// A gentler penalty than the Rust's: display families came out with too many pieces.
+impl Default for Settings {
+    fn default() -> Settings {
+        Settings { penalty: DEFAULT_PENALTY }
+    }
+}
+
+#[cfg(test)]
+mod tests {
+    use super::*;
+
+    #[test]
+    fn the_two_sets_that_have_names() {
+        assert_eq!(Settings::default().penalty, 32);
+        assert_eq!(Settings::of_crate().penalty, 16);
+    }
+}

@@ -1,0 +1,3 @@
+-- What the proofs share: the answer to a contour; the answer to a line.
+mod Answers
+mod Lines

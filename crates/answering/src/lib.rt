@@ -1,0 +1,184 @@
+// The answer to a line: what becomes of the contour on it, as text.
+use crunch::Crunched;
+use lines::Parsed;
+use settings::Settings;
+ghost use mathlib.Core.Path.{_≡_};
+ghost use mathlib.Core.List.{[], _∷_, _++_};
+ghost use Rattle.contour.specs.Output.{outputs};
+ghost use Rattle.crunch.specs.Entry.{report};
+ghost use Rattle.crunch.specs.Laws.{forRoom};
+ghost use Rattle.lines.specs.Text.{Put};
+ghost use Rattle.answering.specs.Answer.{Roomy, entryText, answerText, lineText, Tries};
+
+// What becomes of a contour in rows that may be too short for it.
+pub enum Tried {
+    // the place after the answer
+    Put(usize),
+    // refused for want of room: nothing is put
+    Short,
+}
+
+// What the crunch entry says, with the points that it left in the output rows.
+fn put_outcome(text: &mut [u8], at: usize, c: Crunched, ox: &[i16], oy: &[i16], of: &[u8]) -> usize
+    requires { ⌜ Roomy (report c .points) (outputs (now ox) (now oy) (now of)) ⌝ }
+    ensures { λ r. ⌜ Put (now (text .entry)) at (entryText c (outputs (now (ox .entry)) (now (oy .entry)) (now (of .entry)))) (now (text .exit)) r ⌝ }
+{
+    match c {
+        Crunched::Refused(k) => lines::put_refused(text, at, k),
+        Crunched::Points(n, pairs) => lines::put_ok(text, at, pairs, ox, oy, of, n),
+    }
+}
+
+// In rows with document 01's full rooms. The rows are this function's own: it is called at most once a line.
+fn put_full(
+    text: &mut [u8],
+    at: usize,
+    xs: &[i16],
+    ys: &[i16],
+    flags: &[u8],
+    settings: Settings,
+) -> usize
+    ensures { λ r. ⌜ Put (now (text .entry)) at (answerText settings (now (xs .entry)) (now (ys .entry)) (now (flags .entry))) (now (text .exit)) r ⌝ }
+{
+    let mut ox = [0i16; 16384];
+    let mut oy = [0i16; 16384];
+    let mut of = [0u8; 16384];
+    let mut samples = [[0.0; 4]; 16384];
+    let mut breaks = [[0.0; 5]; 2048];
+    let mut answers = [[0.0; 3]; 4096];
+    let mut links = [0u32; 4096];
+    let mut points = [[0i16; 3]; 16384];
+    let c = crunch::crunch_contour(
+        xs,
+        ys,
+        flags,
+        settings,
+        &mut ox,
+        &mut oy,
+        &mut of,
+        &mut samples,
+        &mut breaks,
+        &mut answers,
+        &mut links,
+        &mut points,
+    );
+    put_outcome(text, at, c, &ox, &oy, &of)
+}
+
+// Whether a contour was refused for want of room.
+fn is_short(c: Crunched) -> bool
+    ensures { λ r. ⌜ r ≡ forRoom (report c .number) ⌝ }
+{
+    match c {
+        Crunched::Refused(k) => (k == 6) | (k == 7) | (k == 9),
+        Crunched::Points(_, _) => false,
+    }
+}
+
+// In short rows, which are cleared in a fraction of the time. A contour that they have room for gets the
+// answer of the full rooms, by `more-room`.
+fn put_small(
+    text: &mut [u8],
+    at: usize,
+    xs: &[i16],
+    ys: &[i16],
+    flags: &[u8],
+    settings: Settings,
+) -> Tried
+    ensures { λ r. ⌜ Tries (now (text .entry)) at (answerText settings (now (xs .entry)) (now (ys .entry)) (now (flags .entry))) (now (text .exit)) r ⌝ }
+{
+    let mut ox = [0i16; 1024];
+    let mut oy = [0i16; 1024];
+    let mut of = [0u8; 1024];
+    let mut samples = [[0.0; 4]; 256];
+    let mut breaks = [[0.0; 5]; 512];
+    let mut answers = [[0.0; 3]; 1024];
+    let mut links = [0u32; 1024];
+    let mut points = [[0i16; 3]; 1024];
+    let c = crunch::crunch_contour(
+        xs,
+        ys,
+        flags,
+        settings,
+        &mut ox,
+        &mut oy,
+        &mut of,
+        &mut samples,
+        &mut breaks,
+        &mut answers,
+        &mut links,
+        &mut points,
+    );
+    if is_short(c) {
+        return Tried::Short;
+    }
+    Tried::Put(put_outcome(text, at, c, &ox, &oy, &of))
+}
+
+fn gap(a: i16, b: i16) -> f64 {
+    float::abs(a as f64 - b as f64)
+}
+
+// Whether the steps from point to point, and from the last to the first, sum to at most 250 in x and y: then
+// the short rows nearly always have room. Only the time hangs on it. In floats, where no sum overflows.
+fn is_small(xs: &[i16], ys: &[i16]) -> bool {
+    let n = rows::least(xs.len(), ys.len());
+    if n == 0 {
+        return true;
+    }
+    let mut sum = 0.0;
+    let mut j = n - 1;
+    let mut i = 0;
+    while i < n {
+        sum = sum + gap(xs[i], xs[j]) + gap(ys[i], ys[j]);
+        if 250.0 < sum {
+            return false;
+        }
+        j = i;
+        i += 1;
+    }
+    true
+}
+
+// The answer to a contour: a small one is tried in short rows first.
+fn put_crunched(
+    text: &mut [u8],
+    at: usize,
+    xs: &[i16],
+    ys: &[i16],
+    flags: &[u8],
+    settings: Settings,
+) -> usize
+    ensures { λ r. ⌜ Put (now (text .entry)) at (answerText settings (now (xs .entry)) (now (ys .entry)) (now (flags .entry))) (now (text .exit)) r ⌝ }
+{
+    if !is_small(xs, ys) {
+        return put_full(text, at, xs, ys, flags, settings);
+    }
+    match put_small(text, at, xs, ys, flags, settings) {
+        Tried::Put(end) => end,
+        Tried::Short => put_full(text, at, xs, ys, flags, settings),
+    }
+}
+
+fn put_read(text: &mut [u8], at: usize, line: &[u8], settings: Settings) -> usize
+    ensures { λ r. ⌜ Put (now (text .entry)) at (lineText settings (now (line .entry))) (now (text .exit)) r ⌝ }
+{
+    let mut xs = [0i16; 1025];
+    let mut ys = [0i16; 1025];
+    let mut flags = [0u8; 1025];
+    match lines::parse(line, &mut xs, &mut ys, &mut flags) {
+        Parsed::Malformed => lines::put_all(text, at, b"malformed"),
+        Parsed::Points(n) => {
+            let m = rows::least(n, 1025);
+            put_crunched(text, at, &xs[..m], &ys[..m], &flags[..m], settings)
+        }
+    }
+}
+
+// The answer to a line, which is given without its end, and a line end after it.
+pub fn put_answer(text: &mut [u8], at: usize, line: &[u8], settings: Settings) -> usize
+    ensures { λ r. ⌜ Put (now (text .entry)) at (lineText settings (now (line .entry)) ++ (10 ∷ [])) (now (text .exit)) r ⌝ }
+{
+    let a = put_read(text, at, line, settings);
+    lines::put_byte(text, a, b'\n')
+}

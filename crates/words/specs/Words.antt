@@ -1,0 +1,61 @@
+-- What the words of a command line ask for. Definitions only.
+use Prim.Native.Nat.{ℕ}
+use mathlib.Core.Bool.{Bool, true, false, _&&_}
+use mathlib.Core.List.{List, [], _∷_}
+use mathlib.Core.Option.{Option, none, some}
+use lib.Dec.{eqb, leb}
+use Rattle.lines.specs.Line.{wholeOf}
+use Rattle.settings.specs.Settings.{defaultSettings}
+use Rattle.settings.specs.declared.Settings.{Settings}
+use Rattle.words.specs.declared.Reading as R
+use Rattle.words.specs.declared.Reading.the-variants as Reading
+use Rattle.words.specs.declared.Asked as A
+use Rattle.words.specs.declared.Asked.the-variants as Asked
+
+-- `--penalty`
+abbrev pub penaltyWord : List ℕ
+penaltyWord = 45 ∷ 45 ∷ 112 ∷ 101 ∷ 110 ∷ 97 ∷ 108 ∷ 116 ∷ 121 ∷ []
+
+-- the same bytes
+unfoldable pub sameBytes : List ℕ → List ℕ → Bool
+sameBytes [] [] = true
+sameBytes [] (b ∷ l) = false
+sameBytes (a ∷ k) [] = false
+sameBytes (a ∷ k) (b ∷ l) = eqb a b && sameBytes k l
+
+abbrev pub pick : Bool → R.Reading → R.Reading → R.Reading
+pick true r other = r
+pick false r other = other
+
+-- a word that stands where none is awaited
+unfoldable pub optionOf : Settings → List ℕ → R.Reading
+optionOf s word = pick (sameBytes word penaltyWord) (Reading.Penalty s) Reading.Wrong
+
+-- the same settings with another penalty
+abbrev pub withPenalty : Settings → ℕ → Settings
+withPenalty s n = record { penalty = n }
+
+-- the penalty: decimal digits and nothing else, of any number below 2^32; zeros in front count for nothing
+unfoldable pub sixteenths : Settings → Option ℕ → R.Reading
+sixteenths s (some n) = pick (leb n 4294967295) (Reading.Has (withPenalty s n)) Reading.Wrong
+sixteenths s none = Reading.Wrong
+
+-- one word more
+unfoldable pub taken : R.Reading → List ℕ → R.Reading
+taken (Reading.Has s) word = optionOf s word
+taken (Reading.Penalty s) word = sixteenths s (wholeOf word)
+taken Reading.Wrong word = Reading.Wrong
+
+unfoldable pub allTaken : R.Reading → List (List ℕ) → R.Reading
+allTaken r [] = r
+allTaken r (word ∷ words) = allTaken (taken r word) words
+
+-- after the last word none may be awaited
+abbrev pub ended : R.Reading → A.Asked
+ended (Reading.Has s) = Asked.For s
+ended (Reading.Penalty s) = Asked.Usage
+ended Reading.Wrong = Asked.Usage
+
+-- the settings that the words ask for, the default where they say nothing; or that they are wrong
+unfoldable pub askedOf : List (List ℕ) → A.Asked
+askedOf words = ended (allTaken (Reading.Has defaultSettings) words)
