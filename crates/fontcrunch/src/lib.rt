@@ -117,7 +117,7 @@ pub extern "C" fn fontcrunch_crunch(
     links: &mut [u32],
     points: &mut [[i16; 3]],
 ) -> CrunchReport
-    ensures { λ r. ⌜ Shown crunchReport (Crunch.Promise (contour xs ys flags) (settingsOf penalty whole_units)
+    ensures { λ r. ⌜ Shown crunchReport (Crunch.Promise (contour xs ys flags) (settingsOf penalty «whole_units»)
         (Crunch.rows ox oy of (scratch samples breaks answers links) points)) r ⌝ }
 {
     crunch_report(crunch::crunch_contour(
@@ -156,7 +156,7 @@ pub extern "C" fn fontcrunch_chain(
     answers: &mut [[f64; 3]],
     links: &mut [u32],
 ) -> ChainReport
-    ensures { λ r. ⌜ ChainShown (Chains.Promise (contour xs ys flags) (settingsOf penalty whole_units) k (Chains.chainIn starts ends cxs cys)
+    ensures { λ r. ⌜ ChainShown (Chains.Promise (contour xs ys flags) (settingsOf penalty «whole_units») k (Chains.chainIn starts ends cxs cys)
         (scratch samples breaks answers links)) r ⌝ }
 {
     chain_report(chains::chain_of_run(
@@ -197,7 +197,7 @@ pub extern "C" fn fontcrunch_check(
     answers: &mut [[f64; 3]],
     links: &mut [u32],
 ) -> CheckReport
-    ensures { λ r. ⌜ Shown checkReport (Checks.Promise (contour xs ys flags) (settingsOf penalty whole_units) k (Checks.given starts ends cxs cys score)
+    ensures { λ r. ⌜ Shown checkReport (Checks.Promise (contour xs ys flags) (settingsOf penalty «whole_units») k (Checks.given starts ends cxs cys score)
         (scratch samples breaks answers links)) r ⌝ }
 {
     check_report(checks::check_chain(
