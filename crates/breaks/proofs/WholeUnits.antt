@@ -1,6 +1,6 @@
 -- The statements of specs/WholeUnits. Assumes nothing.
-use mathlib.Core.Bool.{true, _&&_}
-use mathlib.Core.Path.{_≡_, refl, sym, ap, subst, _∙_}
+use mathlib.Core.Bool.{true}
+use mathlib.Core.Path.{_≡_, refl, ap, subst, _∙_}
 use lib.Dec.{T}
 use lib.Ieee.{Float, binary64, mul}
 use lib.Ieee.Fits.{mul-fits}

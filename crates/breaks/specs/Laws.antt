@@ -10,9 +10,8 @@ use borrow.Author.Tests.{leb-false, lt-leb}
 use lib.Dec.{T, leb}
 use lib.ListN.{length, set, length-append, length-set, List·getD-append}
 use lib.Seq.{getD-append-seam, getD-set-same, getD-set-other}
-use lib.Ieee.{Float, binary64, fits, mul, lt, toUnsigned}
+use lib.Ieee.{Float, binary64, fits, lt, toUnsigned}
 use lib.Ieee.Fits.{mul-fits}
-use Rattle.float.specs.Float.{roundOf}
 use Rattle.float.specs.Numbers.{nil}
 use Rattle.geometry.specs.declared.Break.{Break}
 use Rattle.geometry.specs.declared.Point.{Point}
@@ -168,7 +167,7 @@ module _ (g : Grid) where
   results is-past = is-unchanged
 
 grid-fit : (g : Grid) {q : Float} (x : Float) → q ≡ onGrid g x → T (fits binary64 q)
-grid-fit g x e = rw e (mul-fits binary64 (g .step) (roundOf (mul binary64 (g .per) x)))
+grid-fit g x e = rw e (mul-fits binary64 (g .step) _)
 
 module _ (room : ℕ) (samples : List (List Float)) (g : Grid) (len : Float) where
   all-results : Results g room (breaksOf room samples g len)
