@@ -43,7 +43,8 @@ inside (staying from to) p (List·Memᴰ·head e) = rw e (omega arith)
 inside (leading l) p m = omega (arith, leads-inside l p m)
 
 module _ (breaks : Row) (brought : (i : ℕ) → i < length breaks → Brought wholeGrid (breakAt breaks i .xy)) where
-  whole-in : {before : Before} {ps : List Piece} → Each breaks before ps → (p : Piece) → List·Memᴰ p ps → p .from < length breaks → OnWhole (breakAt breaks (p .from))
+  whole-in : {before : Before} {ps : List Piece} → Each breaks before ps → (p : Piece) → List·Memᴰ p ps → p .from < length breaks →
+      OnWhole (breakAt breaks (p .from))
   whole-in (and fine rest) p (List·Memᴰ·head e) h = rw e (fine-whole _ _ _ (brought _ (rw (sym e) h)) fine)
   whole-in (and fine rest) p (List·Memᴰ·tail m) h = whole-in rest p m h
 

@@ -26,10 +26,12 @@ own-value s zero e f = round-exact binary64 s (0 * up e) (down e) 0 0 (down-pos 
 own-value s (suc m) e f =
     let p = place e (down-in s (suc m) e f) in
     let j = p .0 in
-    let same : suc m * up e * 2 ^ 1074 ≡ suc m * 2 ^ j * down e = mul-assoc (suc m) (up e) (2 ^ 1074) ∙ ap (λ (n : ℕ). suc m * n) (p .1) ∙ sym (mul-assoc (suc m) (2 ^ j) (down e)) in
+    let same : suc m * up e * 2 ^ 1074 ≡ suc m * 2 ^ j * down e =
+    mul-assoc (suc m) (up e) (2 ^ 1074) ∙ ap (λ (n : ℕ). suc m * n) (p .1) ∙ sym (mul-assoc (suc m) (2 ^ j) (down e)) in
     let less : suc m * 2 ^ j * down e < 2 ^ 2098 * down e =
     subst (λ (n : ℕ). n < 2 ^ 2098 * down e) same
-    (subst (λ (n : ℕ). suc m * up e * 2 ^ 1074 < n) (mul-right-comm (2 ^ 1024) (down e) (2 ^ 1074)) (mul-lt-mul-of-pos-right (fits-says s m e f .2) (pow-pos 1074))) in
+    (subst (λ (n : ℕ). suc m * up e * 2 ^ 1074 < n) (mul-right-comm (2 ^ 1024) (down e) (2 ^ 1074))
+    (mul-lt-mul-of-pos-right (fits-says s m e f .2) (pow-pos 1074))) in
     round-exact binary64 s (suc m * up e) (down e) (suc m) j (down-pos e) (fits-says s m e f .0) (lt-of-mul-lt-mul-right (down e) less) same
 
 -- ---- two values that fit, of one sign and one size, have the same bits, so they are one
@@ -42,7 +44,8 @@ same-bits f s m n e d h =
     ap (λ (k : ℕ). cond s (top f) 0 + (size k - prec f) * hid f + k / 2 ^ (size k - prec f))
     (div-same (m * up e * 2 ^ low f) (down e) (n * up d * 2 ^ low f) (down d) (down-pos e) (down-pos d) scaled)
 
-one-value : (f : Format) (s : Bool) (m n : ℕ) (e d : ℤ) → T (fits f (fin s m e)) → T (fits f (fin s n d)) → m * up e * down d ≡ n * up d * down e → fin s m e ≡ fin s n d
+one-value : (f : Format) (s : Bool) (m n : ℕ) (e d : ℤ) → T (fits f (fin s m e)) → T (fits f (fin s n d)) →
+    m * up e * down d ≡ n * up d * down e → fin s m e ≡ fin s n d
 one-value f s m n e d p q h = sym (ofBits-toBits f (fin s m e) p) ∙ ap (ofBits f) (same-bits f s m n e d h) ∙ ofBits-toBits f (fin s n d) q
 
 pub itself : (s : Bool) (m : ℕ) (e : ℤ) → T (fits binary64 (fin s m e)) → round binary64 s (m * up e) (down e) ≡ fin s m e

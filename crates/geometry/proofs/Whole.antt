@@ -70,5 +70,7 @@ close-finite (fin s m e) (inf t) h = not-below tiny h
 
 pub near-finite : (p q : Point) → isClose p q ≡ true → Finite q
 near-finite p q e =
+    let in-x = closeTo (p .x) (q .x) in
+    let in-y = closeTo (p .y) (q .y) in
     let h : T (isClose p q) = rw e tt in
-    (close-finite (p .x) (q .x) (and-l (closeTo (p .x) (q .x)) (closeTo (p .y) (q .y)) h), close-finite (p .y) (q .y) (and-r (closeTo (p .x) (q .x)) (closeTo (p .y) (q .y)) h))
+    (close-finite (p .x) (q .x) (and-l in-x in-y h), close-finite (p .y) (q .y) (and-r in-x in-y h))
