@@ -40,17 +40,20 @@
  * 256: a larger one asks for fewer pieces. FONTCRUNCH_DEFAULT_PENALTY is for callers with no wish of their own;
  * FONTCRUNCH_CRATE_PENALTY is that of the Rust that this follows, whose points come out at it.
  *
+ * `whole_units` is 0 where breaks are rounded to half units, as the Rust rounds them. Any other number has them
+ * rounded to whole units, for engines that misdraw implied points on half ones.
+ *
  *
  * RUNS, BREAKS, CHAINS
  *
  * Corners cut a contour into runs, numbered from 0: run k lies between corners k and k + 1. What lies before
  * the first corner and after the last is in no run and is not written. A run that is a single line is copied.
- * Any other is worked: places along it, rounded to half units, are its breaks, numbered from 0, and pieces
- * are sought that lead from the first break to the last.
+ * Any other is worked: places along it, rounded to half or whole units, are its breaks, numbered from 0, and
+ * pieces are sought that lead from the first break to the last.
  *
  * A chain is the pieces of one run, in order: each piece's start and end break numbers and its control point.
  * Its score says how far the pieces are from the run, with the penalty for each. Scores and controls are
- * compared as values: -0.0 equals 0.0, and a NaN equals a NaN. A chain is checked at the penalty that it was
+ * compared as values: -0.0 equals 0.0, and a NaN equals a NaN. A chain is checked at the settings that it was
  * made with.
  *
  *
@@ -218,7 +221,7 @@ CrunchReport fontcrunch_crunch(
     const int16_t *xs, size_t xs_len,
     const int16_t *ys, size_t ys_len,
     const uint8_t *flags, size_t flags_len,
-    uint32_t penalty,
+    uint32_t penalty, uint32_t whole_units,
     int16_t *ox, size_t ox_len,
     int16_t *oy, size_t oy_len,
     uint8_t *of, size_t of_len,
@@ -238,7 +241,7 @@ ChainReport fontcrunch_chain(
     const int16_t *xs, size_t xs_len,
     const int16_t *ys, size_t ys_len,
     const uint8_t *flags, size_t flags_len,
-    size_t k, uint32_t penalty,
+    size_t k, uint32_t penalty, uint32_t whole_units,
     uint32_t *starts, size_t starts_len,
     uint32_t *ends, size_t ends_len,
     double *cxs, size_t cxs_len,
@@ -251,7 +254,7 @@ ChainReport fontcrunch_chain(
 /*
  * Checks a chain for run k of a contour, whoever made it: it is measured anew, and nothing is sought. It is
  * accepted exactly when its pieces lead from the run's first break to its last, each straight or bent as the
- * rules allow, and its score is the sum that they give at this penalty. Chain rows of unequal length, or with
+ * rules allow, and its score is the sum that they give at these settings. Chain rows of unequal length, or with
  * no piece, are not accepted, which is no refusal. Answers and links are lent for their lengths alone: the
  * checker refuses by 7 where fontcrunch_chain would.
  */
@@ -259,7 +262,7 @@ CheckReport fontcrunch_check(
     const int16_t *xs, size_t xs_len,
     const int16_t *ys, size_t ys_len,
     const uint8_t *flags, size_t flags_len,
-    size_t k, uint32_t penalty,
+    size_t k, uint32_t penalty, uint32_t whole_units,
     const uint32_t *starts, size_t starts_len,
     const uint32_t *ends, size_t ends_len,
     const double *cxs, size_t cxs_len,

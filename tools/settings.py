@@ -9,13 +9,28 @@ import argparse
 # the Rust's penalty 1.0, in sixteenths
 CRATE_PENALTY = 16
 
+CHOICES = ("--whole-units",)
+
 HELP = """SETTINGS  given to both sides:
-  --penalty N    of a piece, in sixteenths; the Rust's own, 16, by default"""
+  --penalty N    of a piece, in sixteenths; the Rust's own, 16, by default
+  --whole-units  breaks on whole units"""
 
 
 def add(parser):
     parser.add_argument("--penalty", type=int, default=CRATE_PENALTY, help=argparse.SUPPRESS)
+    for word in CHOICES:
+        parser.add_argument(word, action="store_true", help=argparse.SUPPRESS)
+
+
+def chosen(options, word):
+    return getattr(options, word[2:].replace("-", "_"))
 
 
 def words(options):
-    return ["--penalty", str(options.penalty)]
+    choices = [word for word in CHOICES if chosen(options, word)]
+    return ["--penalty", str(options.penalty), *choices]
+
+
+def number(options):
+    """The choices as one number: 1 for the first, 2 for the second, added up."""
+    return sum(1 << place for place, word in enumerate(CHOICES) if chosen(options, word))

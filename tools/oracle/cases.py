@@ -105,7 +105,16 @@ CHOSEN = [
     ("--penalty 0", "0 0 0", "refused 4"),
     ("--penalty 0", "0 0 1 1 1 0 2 2 0", "refused 5"),
     ("--penalty 0", "x", "malformed"),
+    # whole units: a last break at (7.5, 6) is at (8, 6), and there are fewer breaks
+    ("--whole-units", "1 0 1 9 7 0 8 6 1", "ok 1 8 6 1 1 0 1"),
+    ("--whole-units", "0 0 1 500 0 0 1022 3 1 -3000 500 1", "ok 1 -3000 500 1 1022 3 1 500 0 0 0 0 1"),
+    ("--whole-units", "0 0 1 32767 0 0 32767 32767 1", "refused 6"),
+    ("--whole-units", "5 5 1 5 5 0 5 5 1", "ok 1 5 5 1 5 5 1 5 5 0 5 5 1"),
+    ("--whole-units --penalty 0", "7 9 1", "refused 16"),
 ]
+
+# settings, and what stands after the point in the coordinates of all finite breaks of WHOLE
+GRIDS = [("", {0.0, 0.5}), ("--whole-units", {0.0})]
 
 # contour, its segments and marks; the lengths that follow are not compared here
 CORNERS = [

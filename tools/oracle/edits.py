@@ -72,7 +72,12 @@ RECORDS = [
 ]
 
 # What a caller chooses; without a word each is as the Rust has it.
-SETTINGS = [one("penalty of a piece", "thetas.optimize(1.0)", "thetas.optimize(hooks::settings().per_piece())")]
+SETTINGS = [
+    one("penalty of a piece", "thetas.optimize(1.0)", "thetas.optimize(hooks::settings().per_piece())"),
+    one("half units as a constant", "const HALF_STEP: bool = true;", ""),
+    # once the constant is gone its name stands where it is read, and nowhere else
+    one("half units where they are read", "HALF_STEP", "hooks::settings().half_step()"),
+]
 
 ROOTS = [
     one(

@@ -16,6 +16,8 @@ pub struct Refused(pub u32);
 pub struct Settings {
     /// of a piece, in sixteenths
     pub penalty: u32,
+    /// breaks on whole units, as with the Rust's `HALF_STEP` false
+    pub whole_units: bool,
 }
 
 /// The Rust's own penalty, 1.0.
@@ -25,6 +27,7 @@ impl Default for Settings {
     fn default() -> Self {
         Settings {
             penalty: CRATE_PENALTY,
+            whole_units: false,
         }
     }
 }
@@ -33,6 +36,10 @@ impl Settings {
     /// Exact for every penalty that is let through.
     pub fn per_piece(&self) -> f64 {
         self.penalty as f64 / 16.0
+    }
+
+    pub fn half_step(&self) -> bool {
+        !self.whole_units
     }
 }
 

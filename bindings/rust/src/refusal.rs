@@ -118,7 +118,7 @@ impl Refusal {
                 "a run between two corners is too long: it needs more than 16,384 samples, one a unit"
             }
             Refusal::TooManyBreaks => {
-                "a run between two corners is too long: it has more than 2,048 breaks, half a unit apart"
+                "a run between two corners is too long: it has more than 2,048 breaks, half a unit or a whole one apart"
             }
             Refusal::PastLastSample => {
                 "a piece was to be measured past the last sample of its run, where no answer is defined"

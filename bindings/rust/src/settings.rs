@@ -20,19 +20,22 @@ pub struct Settings {
     /// What each piece adds to a score, in sixteenths. A larger one asks for fewer pieces. Refused by 16 where
     /// it is not from 1 to 256.
     pub penalty: u32,
+    /// Whether breaks are rounded to whole units instead of half ones, for engines that misdraw implied points
+    /// on half units.
+    pub whole_units: bool,
 }
 
 impl Settings {
     /// Those of the Rust that this follows, whose points come out with them.
     pub const fn of_crate() -> Settings {
-        Settings { penalty: CRATE_PENALTY }
+        Settings { penalty: CRATE_PENALTY, whole_units: false }
     }
 }
 
 /// A gentler penalty than the Rust's: display families came out with too many pieces.
 impl Default for Settings {
     fn default() -> Settings {
-        Settings { penalty: DEFAULT_PENALTY }
+        Settings { penalty: DEFAULT_PENALTY, whole_units: false }
     }
 }
 
@@ -42,7 +45,7 @@ mod tests {
 
     #[test]
     fn the_two_sets_that_have_names() {
-        assert_eq!(Settings::default().penalty, 32);
-        assert_eq!(Settings::of_crate().penalty, 16);
+        assert_eq!(Settings::default(), Settings { penalty: 32, whole_units: false });
+        assert_eq!(Settings::of_crate(), Settings { penalty: 16, whole_units: false });
     }
 }

@@ -234,6 +234,14 @@ fn a_penalty_out_of_range_is_refused_line_by_line_after_1_to_5() {
 }
 
 #[test]
+fn whole_units() {
+    let bow = "0 0 1 700 0 0 700 700 1";
+    assert_eq!(answers_to(&["--penalty", "16"], bow), ["refused 7"]);
+    assert!(answers_to(&["--penalty", "16", "--whole-units"], bow)[0].starts_with("ok "));
+    assert!(answers_to(&["clean", "--crunch", "--whole-units"], bow)[0].starts_with("ok "));
+}
+
+#[test]
 fn a_penalty_that_is_no_number_is_a_wrong_command_line() {
     let wrong = run(&["--penalty", "1.5"], b"7 9 1\n");
     assert_eq!(wrong.status.code(), Some(2));
@@ -348,6 +356,25 @@ fn a_picture_says_at_which_penalty_it_was_drawn() {
     // no run is marked for it
     let refused = drawn_with(&["--penalty", "0"], "penalties", "0 0 1 50 90 0 100 0 1\n");
     assert!(refused.contains("refused 16") && !refused.contains("marked on the left"));
+}
+
+/// The lines of the grid that is drawn.
+fn grid_lines(svg: &str) -> usize {
+    let data = svg.lines().find(|line| line.contains("class=\"grid\""));
+    data.map_or(0, |line| line.split_once("d=\"").unwrap().1.matches('M').count())
+}
+
+#[test]
+fn a_picture_shows_the_grid_of_the_breaks() {
+    let small = "0 0 1 10 0 1 0 10 1\n";
+    let half = drawn("half", small);
+    assert!(half.contains("breaks on half units"));
+    assert_eq!(grid_lines(&half), 2 * 21);
+    let whole = drawn_with(&["--whole-units"], "whole", small);
+    assert!(whole.contains("breaks on whole units"));
+    assert_eq!(grid_lines(&whole), 2 * 11);
+    // where the lines would be too near to each other, there are none
+    assert_eq!(grid_lines(&drawn("coarse", "0 0 1 1000 0 1 0 1000 1\n")), 0);
 }
 
 #[test]

@@ -48,6 +48,29 @@ fn a_larger_penalty_asks_for_fewer_pieces() {
     assert!(pieces[0] > pieces[2], "{pieces:?}");
 }
 
+fn in_whole_units(settings: Settings) -> Cruncher {
+    Cruncher::new(Settings { whole_units: true, ..settings })
+}
+
+#[test]
+fn whole_units_have_fewer_breaks() {
+    let mut whole = in_whole_units(Settings::of_crate());
+    let (of_whole, of_half) = (whole.chain(&hill(), 0).unwrap(), as_recorded().chain(&hill(), 0).unwrap());
+    let last_break = |chain: &Chain| chain.pieces.last().unwrap().end;
+    assert!(last_break(&of_whole) < last_break(&of_half));
+    assert_eq!(last_break(&of_half), 469);
+    assert_eq!(whole.check(&hill(), 0, &of_whole), Ok(true));
+    assert_eq!(whole.check(&hill(), 0, &of_half), Ok(false));
+    assert_eq!(as_recorded().check(&hill(), 0, &of_whole), Ok(false));
+}
+
+#[test]
+fn a_longer_run_has_room_for_its_breaks_in_whole_units() {
+    let bow = points(&[0, 0, 1, 700, 0, 0, 700, 700, 1]);
+    assert_eq!(as_recorded().crunch(&bow), Err(Refusal::TooManyBreaks));
+    assert!(in_whole_units(Settings::of_crate()).crunch(&bow).is_ok());
+}
+
 #[test]
 fn whether_8_is_met_depends_on_the_penalty() {
     let contour = points(&[0, 0, 1, 432, 433, 0, 410, 410, 1, -300, 900, 1]);

@@ -6,7 +6,7 @@ use lib.Dec.{leb, eqb}
 use lib.IntN.{pos}
 use lib.ListN.{length, take, getD, set}
 use lib.Ieee.{Float, nan, binary64, mul, div, lt, ofInt, toUnsigned}
-use Rattle.float.specs.Numbers.{nil, half, two, ten}
+use Rattle.float.specs.Numbers.{nil, half, one, two, ten}
 use Rattle.float.specs.Float.{roundOf}
 use Rattle.geometry.specs.Geometry.{isClose, distanceOf}
 use Rattle.geometry.specs.declared.Point.{Point}
@@ -33,6 +33,10 @@ gridPoint g p = record { x = onGrid g (p .x); y = onGrid g (p .y) }
 -- 0.5 * round(2 * x)
 abbrev pub halfGrid : Grid
 halfGrid = record { per = two; step = half }
+
+-- round(x), as the Rust does where `HALF_STEP` is false
+abbrev pub wholeGrid : Grid
+wholeGrid = record { per = one; step = one }
 
 -- ---- a break in a row: its length, its place and its direction
 

@@ -6,7 +6,7 @@ use lookup::Looked;
 ghost use mathlib.Core.Path.{_≡_};
 ghost use Prim.Native.Nat.{_≤_, _<_};
 ghost use lib.ListN.{length, take};
-ghost use Rattle.breaks.specs.Breaks.{halfGrid, onGrid, gridPoint, packedOf, breakAt, placesOf, lengthAt, placeAt, opens, opened};
+ghost use Rattle.breaks.specs.Breaks.{halfGrid, wholeGrid, onGrid, gridPoint, packedOf, breakAt, placesOf, lengthAt, placeAt, opens, opened};
 ghost use Rattle.breaks.specs.Breaks.{joinOf, so, stepped, breaksOf, joinedIn, countJoined, breaksIn, countFound};
 
 // A coordinate is brought to step * round(per * x).
@@ -56,6 +56,16 @@ impl Grid {
         Grid {
             per: 2.0,
             step: 0.5,
+        }
+    }
+
+    // Whole units: 1 * round(1 * x), which is round(x).
+    pub fn whole() -> Grid
+        ensures { λ r. ⌜ r ≡ wholeGrid ⌝ }
+    {
+        Grid {
+            per: 1.0,
+            step: 1.0,
         }
     }
 

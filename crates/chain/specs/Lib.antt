@@ -1,3 +1,4 @@
 pub mod Valid
 pub mod Laws
 pub mod Rule
+pub mod WholeUnits

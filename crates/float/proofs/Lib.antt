@@ -4,6 +4,7 @@ pub mod Number
 mod Sign
 mod Saturate
 mod Fitting
+pub mod Own
 pub mod Zeros
 mod Whole
 pub mod Squares
@@ -12,7 +13,7 @@ pub mod Pattern
 mod Read
 pub mod Table
 pub mod Decimals
-mod Exact
+pub mod Exact
 pub mod Downward
 mod Nearest
 mod Values

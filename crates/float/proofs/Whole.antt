@@ -2,7 +2,7 @@
 -- Assumes nothing.
 use mathlib.Core.Path.{_≡_, refl, sym, ap, _∙_, subst}
 use Prim.Native.Nat.{ℕ, zero, suc, _+_, _-_, _*_, _/_, _^_, _<_, _≤_, min}
-use native.Mathlib.Nat.{mul-left-comm, mul-le-mul-right, mul-one, zero-mul, mul-pos, mul-comm, mul-assoc, mul-right-comm, add-zero, zero-lt-suc, div-one, div-lt-iff-lt-mul, add-div-right, div-div-eq-div-mul, pow-suc, lt-of-lt-of-le, mul-lt-mul-of-pos-right, lt-of-mul-lt-mul-right}
+use native.Mathlib.Nat.{mul-left-comm, mul-le-mul-right, mul-one, mul-pos, mul-comm, mul-assoc, mul-right-comm, add-zero, zero-lt-suc, div-one, div-lt-iff-lt-mul, add-div-right, div-div-eq-div-mul, pow-suc, lt-of-lt-of-le, mul-lt-mul-of-pos-right, lt-of-mul-lt-mul-right}
 use native.Mathlib.Omega.{arith}
 use mathlib.Core.Bool.{Bool, true, false, cond, false≢true, true≢false}
 use borrow.Author.Tests.{ltb-true, ltb-false}
@@ -10,13 +10,13 @@ use lib.Dec.{T, lit<, lit≤, ltb, lt→ltb, le→leb, eqb→eq}
 use lib.Pow.{pow-add, pow-pos}
 use lib.IntN.{ℤ, pos, negsuc}
 use lib.Ieee.{Float, nan, inf, fin, binary64, up, down, lt, neg, mul, fits, odd, units, round, ofInt, inFloat, toUnsigned}
-use lib.Ieee.Fits.{up-pos, down-pos, round-is, round-fits}
+use lib.Ieee.Fits.{up-pos, down-pos, round-is}
 use lib.Ieee.Exact.{HasValue, round-exact}
-use lib.Ieee.Back.{whole-unique, round-whole}
 use lib.Ieee.Nearest.{div-same}
 use Rattle.float.specs.Float.{absOf, cut, toZero, downward, toNearest, wholeBy}
 use Rattle.float.specs.Steps.{withSign}
 use Rattle.float.proofs.Fitting.{fits-says, below-prec, down-in, place}
+use Rattle.float.proofs.Own.{itself}
 use Rattle.float.proofs.Saturate.{cut-lt}
 
 -- ---- 2 ^ 52, and the test y < 2 ^ 52
@@ -103,23 +103,10 @@ neither (fin true (suc m) e) n h k = absurd (omega (arith, above-zero m e, ltb-f
 neither (fin false (suc m) e) n h k = absurd (omega (arith, above-zero m e, ltb-false (0 * down e) (suc m * up e * 1) k))
 
 -- ---- where x comes back: it is written with an exponent of 0 or more
--- m * 2 ^ k is a whole number that the format holds, as itself
-pub itself : (s : Bool) (m k : ℕ) → T (fits binary64 (fin s m (pos k))) → round binary64 s (m * 2 ^ k) 1 ≡ fin s m (pos k)
-itself s m k f = whole-unique binary64 (round binary64 s (m * 2 ^ k) 1) (fin s m (pos k)) s (m * 2 ^ k) (round-fits binary64 s (m * 2 ^ k) 1) f (value m f) (refl, refl)
-  where
-    value : (m : ℕ) → T (fits binary64 (fin s m (pos k))) → HasValue (round binary64 s (m * 2 ^ k) 1) s (m * 2 ^ k) 1
-    value zero f = subst (λ (n : ℕ). HasValue (round binary64 s n 1) s n 1) (sym (zero-mul (2 ^ k))) (round-whole binary64 s 0 (lit≤ tt))
-    value (suc m) f =
-        let p = fits-says s m (pos k) f in
-        let e : suc m * 2 ^ k * 2 ^ 1074 ≡ suc m * 2 ^ (k + 1074) = mul-assoc (suc m) (2 ^ k) (2 ^ 1074) ∙ ap (λ (n : ℕ). suc m * n) (sym (pow-add 2 k 1074)) in
-        round-exact binary64 s (suc m * 2 ^ k) 1 (suc m) (k + 1074) (lit< tt) (p .0)
-        (subst (λ (n : ℕ). n < 2 ^ 2098) e (mul-lt-mul-of-pos-right (p .2) (pow-pos 1074)))
-        (e ∙ sym (mul-one (suc m * 2 ^ (k + 1074))))
-
 module _ (r : Bool → ℕ → ℤ → ℕ) (flat : (s : Bool) (m k : ℕ) → r s m (pos k) ≡ m * 2 ^ k) where
   same : (s : Bool) (m k : ℕ) → T (fits binary64 (fin s m (pos k))) → fin s m (pos k) ≡ wholeBy r (fin s m (pos k))
   unfolding wholeBy
-  same s m k f = sym (ap (λ (n : ℕ). round binary64 s n 1) (flat s m k) ∙ itself s m k f)
+  same s m k f = sym (ap (λ (n : ℕ). round binary64 s n 1) (flat s m k) ∙ itself s m (pos k) f)
 
   -- a zero that fits has the exponent 0
   zero-stays : (s : Bool) (e : ℤ) → T (fits binary64 (fin s 0 e)) → fin s 0 e ≡ wholeBy r (fin s 0 e)

@@ -1,20 +1,19 @@
 -- What the operations make of zeros, of a NaN, and of two floats of one value. Assumes nothing.
-use mathlib.Core.Path.{_≡_, refl, sym, ap, _∙_, subst}
-use Prim.Native.Nat.{ℕ, zero, suc, _+_, _-_, _*_, _^_, _<_}
-use native.Mathlib.Nat.{mul-one, mul-zero, mul-assoc, mul-right-comm, mul-pos, zero-lt-suc, mul-lt-mul-of-pos-right, lt-of-mul-lt-mul-right}
+use mathlib.Core.Path.{_≡_, refl, sym, _∙_, subst}
+use Prim.Native.Nat.{ℕ, zero, suc, _+_, _-_, _*_, _<_}
+use native.Mathlib.Nat.{mul-one, mul-zero, mul-pos, zero-lt-suc}
 use native.Mathlib.Omega.{arith}
 use mathlib.Core.Bool.{Bool, true, false, not, cond}
 use borrow.Author.Tests.{lt-ltb, le-ltb}
 use lib.Dec.{T, ltb}
-use lib.Pow.{pow-pos}
 use lib.IntN.{ℤ, pos}
 use lib.Ieee.{Float, nan, inf, fin, binary64, up, down, unlike, fits, round, neg, sum, add, sub, mul, div}
 use lib.Ieee.Fits.{up-pos, down-pos}
-use lib.Ieee.Exact.{HasValue, round-exact}
+use lib.Ieee.Exact.{HasValue}
 use lib.Ieee.Back.{whole-unique}
 use lib.Ieee.Scale.{finite, round-same}
 use Rattle.float.specs.Float.{rootOf}
-use Rattle.float.proofs.Fitting.{fits-says, down-in, place}
+use Rattle.float.proofs.Own.{own-value}
 
 -- ---- a NaN stays
 
@@ -160,17 +159,6 @@ sum-nothing s t a b c p z = by s t
     by false true = rw (not-less, rest)
     by false false = rw all
 
--- a number above zero that fits is not rounded
-own-value : (s : Bool) (m : ℕ) (e : ℤ) → T (fits binary64 (fin s (suc m) e)) → HasValue (round binary64 s (suc m * up e) (down e)) s (suc m * up e) (down e)
-own-value s m e f =
-    let p = place e (down-in s (suc m) e f) in
-    let j = p .0 in
-    let same : suc m * up e * 2 ^ 1074 ≡ suc m * 2 ^ j * down e = mul-assoc (suc m) (up e) (2 ^ 1074) ∙ ap (λ (n : ℕ). suc m * n) (p .1) ∙ sym (mul-assoc (suc m) (2 ^ j) (down e)) in
-    let less : suc m * 2 ^ j * down e < 2 ^ 2098 * down e =
-    subst (λ (n : ℕ). n < 2 ^ 2098 * down e) same
-    (subst (λ (n : ℕ). suc m * up e * 2 ^ 1074 < n) (mul-right-comm (2 ^ 1024) (down e) (2 ^ 1074)) (mul-lt-mul-of-pos-right (fits-says s m e f .2) (pow-pos 1074))) in
-    round-exact binary64 s (suc m * up e) (down e) (suc m) j (down-pos e) (fits-says s m e f .0) (lt-of-mul-lt-mul-right (down e) less) same
-
 of-value : (x : Float) (s : Bool) (m : ℕ) (e : ℤ) → HasValue x s (m * up e) (down e) → Level x (fin s m e)
 of-value (fin t n d) s m e v = subst (λ (u : Bool). Level (fin u n d) (fin s m e)) (sym (v .0)) (one-sign s n m d e (v .1))
 
@@ -183,4 +171,4 @@ sum-zero s u m e =
 
 pub plus-zero : (x : Float) {z : Float} → T (fits binary64 x) → T (finite x) → IsZero z → Level (add binary64 x z) x
 plus-zero (fin s zero e) f t z = zeros (zeros-add (zero-fits s e f) z) (zero-fits s e f)
-plus-zero (fin s (suc m) e) f t (is-zero u) = rw (sum-zero s u m e) (of-value _ s (suc m) e (own-value s m e f))
+plus-zero (fin s (suc m) e) f t (is-zero u) = rw (sum-zero s u m e) (of-value _ s (suc m) e (own-value s (suc m) e f))

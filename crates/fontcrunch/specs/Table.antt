@@ -1,6 +1,6 @@
--- Document 01's values on both sides, its rows marked P, and what document 02's W6 adds to them: cases and results as data, one way to evaluate them, one list, and one computed test of
+-- Document 01's values on both sides, its rows marked P, and what document 02's W6 and W9 add to them: cases and results as data, one way to evaluate them, one list, and one computed test of
 -- them all. Assumes nothing.
-use Prim.Native.Nat.{ℕ, zero, suc, _+_}
+use Prim.Native.Nat.{ℕ, zero, suc, _+_, _^_}
 use mathlib.Core.Bool.{Bool, true, false}
 use mathlib.Core.List.{List, [], _∷_, map, List·Memᴰ}
 use mathlib.Core.Path.{_≡_, refl}
@@ -19,7 +19,8 @@ use Rattle.runs.specs.Runs.{marksFrom, cornerList, between, runsOf}
 use Rattle.settings.specs.Settings.{settingsOf, penaltyOf, judgedFor}
 use Rattle.measure.specs.declared.Measured.the-variants as Measured
 use Rattle.breaks.specs.Breaks as Breaks
-use Rattle.breaks.specs.Breaks.{halfGrid, onGrid}
+use Rattle.breaks.specs.declared.Grid.{Grid}
+use Rattle.breaks.specs.Breaks.{halfGrid, wholeGrid, onGrid}
 use Rattle.optimize.specs.Answers.{scoreOf, combined}
 use Rattle.optimize.specs.Optimize.{Measure, tryQuad, bent, tryLineQuad, tryAll, splitsFrom}
 use Rattle.optimize.specs.Optimize.{falling, searchFrom, Optimised, refused8, unchanged, solved, optimizeOf}
@@ -38,8 +39,8 @@ pub data Case : Type 0 where
   tangents : Point → Point → Case
   -- points, of which implied ones are dropped
   points : Points → Case
-  -- a coordinate, brought to the half grid
-  coordinate : Float → Case
+  -- a coordinate, brought to a grid
+  coordinate : Grid → Float → Case
   -- the breaks 0 to n on one line, at a penalty in sixteenths, with every piece at this error
   run : ℕ → ℕ → Float → Case
 
@@ -79,11 +80,11 @@ pairsOf (unchanged p) = tried p
 pairsOf (solved a p) = tried p
 
 abbrev pub evaluate : Case → Result
-evaluate (contour penalty xs ys fs) = outcome (crunchOf fullRooms 16384 (settingsOf penalty) xs ys fs)
+evaluate (contour penalty xs ys fs) = outcome (crunchOf fullRooms 16384 (settingsOf penalty 0) xs ys fs)
 evaluate (tangents d0 d1) = byAngle (angleCorner d0 d1)
 evaluate (points ps) = left (dropImplied isImplied ps)
-evaluate (coordinate x) = breakAt (onGrid halfGrid x)
-evaluate (run penalty n e) = pairsOf (optimizeOf (atError e) (inLine (n + 1) 0) (penaltyOf (settingsOf penalty)))
+evaluate (coordinate g x) = breakAt (onGrid g x)
+evaluate (run penalty n e) = pairsOf (optimizeOf (atError e) (inLine (n + 1) 0) (penaltyOf (settingsOf penalty 0)))
 
 -- ---- the rows
 
@@ -124,9 +125,14 @@ rows =
       result = left (off (pos 32767) (pos 0) ∷ off (pos 32767) (pos 0) ∷ []);
     }
     -- break coordinates for 0.25, 0.24, -0.25
-    ∷ record { case = coordinate (Ieee.round binary64 false 25 100); result = breakAt (Ieee.round binary64 false 1 2) }
-    ∷ record { case = coordinate (Ieee.round binary64 false 24 100); result = breakAt (Ieee.round binary64 false 0 1) }
-    ∷ record { case = coordinate (Ieee.round binary64 true 25 100); result = breakAt (Ieee.round binary64 true 1 2) }
+    ∷ record { case = coordinate halfGrid (Ieee.round binary64 false 25 100); result = breakAt (Ieee.round binary64 false 1 2) }
+    ∷ record { case = coordinate halfGrid (Ieee.round binary64 false 24 100); result = breakAt (Ieee.round binary64 false 0 1) }
+    ∷ record { case = coordinate halfGrid (Ieee.round binary64 true 25 100); result = breakAt (Ieee.round binary64 true 1 2) }
+    -- on whole units: for 0.25, 0.5, -0.5, 0.49999999999999994
+    ∷ record { case = coordinate wholeGrid (Ieee.round binary64 false 25 100); result = breakAt (Ieee.round binary64 false 0 1) }
+    ∷ record { case = coordinate wholeGrid (Ieee.round binary64 false 1 2); result = breakAt (Ieee.round binary64 false 1 1) }
+    ∷ record { case = coordinate wholeGrid (Ieee.round binary64 true 1 2); result = breakAt (Ieee.round binary64 true 1 1) }
+    ∷ record { case = coordinate wholeGrid (Ieee.round binary64 false 49999999999999994 (10 ^ 17)); result = breakAt (Ieee.round binary64 false 0 1) }
     -- pairs tried, n = 4: by a last score of 2; of exactly 3.0, no splits; of 3.5; of exactly 4.0, no search; of 5
     ∷ record { case = run 16 4 (number 1); result = tried 1 }
     ∷ record { case = run 16 4 (number 2); result = tried 1 }

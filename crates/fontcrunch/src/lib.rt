@@ -107,6 +107,7 @@ pub extern "C" fn fontcrunch_crunch(
     ys: &[i16],
     flags: &[u8],
     penalty: u32,
+    whole_units: u32,
     ox: &mut [i16],
     oy: &mut [i16],
     of: &mut [u8],
@@ -116,14 +117,17 @@ pub extern "C" fn fontcrunch_crunch(
     links: &mut [u32],
     points: &mut [[i16; 3]],
 ) -> CrunchReport
-    ensures { λ r. ⌜ Shown crunchReport (Crunch.Promise (contour xs ys flags) (settingsOf penalty)
+    ensures { λ r. ⌜ Shown crunchReport (Crunch.Promise (contour xs ys flags) (settingsOf penalty «whole_units»)
         (Crunch.rows ox oy of (scratch samples breaks answers links) points)) r ⌝ }
 {
     crunch_report(crunch::crunch_contour(
         xs,
         ys,
         flags,
-        Settings { penalty },
+        Settings {
+            penalty,
+            whole_units: whole_units != 0,
+        },
         ox,
         oy,
         of,
@@ -142,6 +146,7 @@ pub extern "C" fn fontcrunch_chain(
     flags: &[u8],
     k: usize,
     penalty: u32,
+    whole_units: u32,
     starts: &mut [u32],
     ends: &mut [u32],
     cxs: &mut [f64],
@@ -151,7 +156,7 @@ pub extern "C" fn fontcrunch_chain(
     answers: &mut [[f64; 3]],
     links: &mut [u32],
 ) -> ChainReport
-    ensures { λ r. ⌜ ChainShown (Chains.Promise (contour xs ys flags) (settingsOf penalty) k (Chains.chainIn starts ends cxs cys)
+    ensures { λ r. ⌜ ChainShown (Chains.Promise (contour xs ys flags) (settingsOf penalty «whole_units») k (Chains.chainIn starts ends cxs cys)
         (scratch samples breaks answers links)) r ⌝ }
 {
     chain_report(chains::chain_of_run(
@@ -159,7 +164,10 @@ pub extern "C" fn fontcrunch_chain(
         ys,
         flags,
         k,
-        Settings { penalty },
+        Settings {
+            penalty,
+            whole_units: whole_units != 0,
+        },
         starts,
         ends,
         cxs,
@@ -178,6 +186,7 @@ pub extern "C" fn fontcrunch_check(
     flags: &[u8],
     k: usize,
     penalty: u32,
+    whole_units: u32,
     starts: &[u32],
     ends: &[u32],
     cxs: &[f64],
@@ -188,7 +197,7 @@ pub extern "C" fn fontcrunch_check(
     answers: &mut [[f64; 3]],
     links: &mut [u32],
 ) -> CheckReport
-    ensures { λ r. ⌜ Shown checkReport (Checks.Promise (contour xs ys flags) (settingsOf penalty) k (Checks.given starts ends cxs cys score)
+    ensures { λ r. ⌜ Shown checkReport (Checks.Promise (contour xs ys flags) (settingsOf penalty «whole_units») k (Checks.given starts ends cxs cys score)
         (scratch samples breaks answers links)) r ⌝ }
 {
     check_report(checks::check_chain(
@@ -196,7 +205,10 @@ pub extern "C" fn fontcrunch_check(
         ys,
         flags,
         k,
-        Settings { penalty },
+        Settings {
+            penalty,
+            whole_units: whole_units != 0,
+        },
         starts,
         ends,
         cxs,

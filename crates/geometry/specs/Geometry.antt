@@ -1,6 +1,8 @@
 -- Points and quads: each float operation is rounded as IEEE 754 says, in the order of the Rust. Definitions only.
 use mathlib.Core.Bool.{Bool, true, false, _&&_}
+use lib.Dec.{T}
 use lib.Ieee.{Float, binary64, add, sub, mul, div, lt, ofBits}
+use lib.Ieee.Scale.{finite}
 use Rattle.float.specs.Numbers.{nil, half, one}
 use Rattle.float.specs.Float.{absOf, closeTo, floorOf, roundOf, rootOf}
 use Rattle.geometry.specs.declared.Point.{Point}
@@ -55,6 +57,10 @@ isInt f = closeTo (sub binary64 f (floorOf f)) nil
 
 abbrev pub isWhole : Point → Bool
 isWhole p = isInt (p .x) && isInt (p .y)
+
+-- neither coordinate is a NaN or an infinity
+abbrev pub Finite : Point → Type 0
+Finite p = T (finite (p .x)) × T (finite (p .y))
 
 -- ---- quads
 

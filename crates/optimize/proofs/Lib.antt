@@ -12,3 +12,4 @@ pub mod One
 pub mod Compare
 pub mod Good
 pub mod Unchanged
+pub mod WholeUnits

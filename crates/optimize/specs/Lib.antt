@@ -4,3 +4,4 @@ pub mod Stored
 pub mod Laws
 pub mod Trace
 pub mod Unchanged
+pub mod WholeUnits

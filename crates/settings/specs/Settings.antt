@@ -2,13 +2,13 @@
 use Prim.Native.Nat.{ℕ}
 use mathlib.Core.Bool.{Bool, true, false, not, _&&_}
 use mathlib.Core.List.{List}
-use lib.Dec.{leb, ltb}
+use lib.Dec.{eqb, leb, ltb}
 use lib.Ieee.{Float, binary64, ofInt, div, ofBits}
 use lib.IntN.{ℤ, pos}
 use Rattle.refusals.specs.Refusals.{judged, refuse}
 use Rattle.refusals.specs.declared.Judged.{Judged}
 use Rattle.refusals.specs.declared.Judged.the-variants as Judged
-use Rattle.breaks.specs.Breaks.{halfGrid}
+use Rattle.breaks.specs.Breaks.{halfGrid, wholeGrid}
 use Rattle.breaks.specs.declared.Grid.{Grid}
 use Rattle.settings.specs.declared.Settings.{Settings}
 
@@ -16,21 +16,25 @@ use Rattle.settings.specs.declared.Settings.{Settings}
 unfoldable pub penaltyOf : Settings → Float
 penaltyOf s = div binary64 (ofInt binary64 (pos (s .penalty))) (ofBits binary64 0x4030000000000000)
 
--- breaks are rounded to half units
+-- what the breaks are rounded to: the profile of whole units, or the crate's half units
+abbrev pub gridBy : Bool → Grid
+gridBy true = wholeGrid
+gridBy false = halfGrid
+
 abbrev pub gridOf : Settings → Grid
-gridOf s = halfGrid
+gridOf s = gridBy (s .«whole_units»)
 
--- of a penalty in sixteenths, as C and Rust programs give it
-abbrev pub settingsOf : ℕ → Settings
-settingsOf penalty = record { penalty = penalty }
+-- of numbers, as C and Rust programs give them: the penalty in sixteenths; and for whole units 0, which is no, or any other number, which is yes
+abbrev pub settingsOf : ℕ → ℕ → Settings
+settingsOf penalty whole = record { penalty = penalty; «whole_units» = not (eqb whole 0) }
 
--- document 01's penalty, 1.0
+-- document 01's: the penalty 1.0, on half units
 abbrev pub crateSettings : Settings
-crateSettings = settingsOf 16
+crateSettings = settingsOf 16 0
 
--- document 02's default, 2.0
+-- document 02's default: 2.0, on half units
 abbrev pub defaultSettings : Settings
-defaultSettings = settingsOf 32
+defaultSettings = settingsOf 32 0
 
 -- ---- refusal 16
 

@@ -8,6 +8,8 @@ ghost use Rattle.settings.specs.Settings.{penaltyOf, gridOf, crateSettin
 pub struct Settings {
     // of a piece, in sixteenths
     pub penalty: u32,
+    // breaks are rounded to whole units, and not to half units
+    pub whole_units: bool,
 }
 
 // Document 01's penalty, 1.0: the Rust's own.
@@ -23,6 +25,7 @@ impl Settings {
     {
         Settings {
             penalty: CRATE_PENALTY,
+            whole_units: false,
         }
     }
 
@@ -37,6 +40,9 @@ impl Settings {
     pub fn grid(self) -> Grid
         ensures { λ r. ⌜ r ≡ gridOf self ⌝ }
     {
+        if self.whole_units {
+            return Grid::whole();
+        }
         Grid::half()
     }
 

@@ -16,6 +16,10 @@ use Rattle.words.specs.declared.Asked.the-variants as Asked
 abbrev pub penaltyWord : List ℕ
 penaltyWord = 45 ∷ 45 ∷ 112 ∷ 101 ∷ 110 ∷ 97 ∷ 108 ∷ 116 ∷ 121 ∷ []
 
+-- `--whole-units`
+abbrev pub wholeUnitsWord : List ℕ
+wholeUnitsWord = 45 ∷ 45 ∷ 119 ∷ 104 ∷ 111 ∷ 108 ∷ 101 ∷ 45 ∷ 117 ∷ 110 ∷ 105 ∷ 116 ∷ 115 ∷ []
+
 -- the same bytes
 unfoldable pub sameBytes : List ℕ → List ℕ → Bool
 sameBytes [] [] = true
@@ -27,13 +31,18 @@ abbrev pub pick : Bool → R.Reading → R.Reading → R.Reading
 pick true r other = r
 pick false r other = other
 
+-- the same settings with another penalty, and on whole units
+abbrev pub withPenalty : Settings → ℕ → Settings
+withPenalty s n = record { penalty = n; «whole_units» = s .«whole_units» }
+
+abbrev pub onWholeUnits : Settings → Settings
+onWholeUnits s = record { penalty = s .penalty; «whole_units» = true }
+
 -- a word that stands where none is awaited
 unfoldable pub optionOf : Settings → List ℕ → R.Reading
-optionOf s word = pick (sameBytes word penaltyWord) (Reading.Penalty s) Reading.Wrong
-
--- the same settings with another penalty
-abbrev pub withPenalty : Settings → ℕ → Settings
-withPenalty s n = record { penalty = n }
+optionOf s word =
+    pick (sameBytes word penaltyWord) (Reading.Penalty s)
+    (pick (sameBytes word wholeUnitsWord) (Reading.Has (onWholeUnits s)) Reading.Wrong)
 
 -- the penalty: decimal digits and nothing else, of any number below 2^32; zeros in front count for nothing
 unfoldable pub sixteenths : Settings → Option ℕ → R.Reading

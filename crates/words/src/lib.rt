@@ -29,6 +29,12 @@ fn option_of(s: Settings, word: &[u8]) -> Reading
     if check::same(word, b"--penalty") {
         return Reading::Penalty(s);
     }
+    if check::same(word, b"--whole-units") {
+        return Reading::Has(Settings {
+            penalty: s.penalty,
+            whole_units: true,
+        });
+    }
     Reading::Wrong
 }
 
@@ -39,7 +45,10 @@ fn sixteenths(s: Settings, n: Size) -> Reading
     match n {
         Size::Is(v) => {
             if v <= 4294967295 {
-                return Reading::Has(Settings { penalty: v as u32 });
+                return Reading::Has(Settings {
+                    penalty: v as u32,
+                    whole_units: s.whole_units,
+                });
             }
             Reading::Wrong
         }
@@ -72,6 +81,7 @@ pub fn read(words: &[u8]) -> Asked
 {
     let mut r = Reading::Has(Settings {
         penalty: DEFAULT_PENALTY,
+        whole_units: false,
     });
     let mut at = 0;
     while at < words.len() {

@@ -1,6 +1,6 @@
 -- `words::option_of` meets its contract. Assumes nothing.
-use mathlib.Core.Path.{refl, sym}
-use Rattle.words.specs.Words.{penaltyWord, optionOf}
+use mathlib.Core.Path.{refl}
+use Rattle.words.specs.Words.{penaltyWord, wholeUnitsWord, optionOf}
 use Rattle.words.proofs.Taking.{is-same}
 use Rattle.words.proofs.option_of.Statement.{statement}
 use Rattle.words.proofs.option_of.Tie as tie
@@ -15,13 +15,42 @@ returns : tie.Need-returns
 unfolding optionOf
 returns c =
     let args = c .before .before .before .before .args in
-    rw (← is-same (args .word .now) penaltyWord (c .before .same .ensures), c .if1 .taken) refl
+    rw (
+      ← is-same (args .word .now) penaltyWord (c .before .same .ensures), c .if1 .taken,
+    ) refl
+
+slice-aggregate-same-2 : tie.Need-slice-aggregate-same-2
+slice-aggregate-same-2 c = refl
+
+same-requires-2 : tie.Need-same-requires-2
+same-requires-2 c κs = tt
 
 returns-2 : tie.Need-returns-2
 unfolding optionOf
 returns-2 c =
-    let args = c .before .before .before .before .args in
-    rw (← is-same (args .word .now) penaltyWord (c .before .same .ensures), c .if1 .left) refl
+    let args = c .before .before .before .before .before .before .before .args in
+    rw (
+      ← is-same (args .word .now) penaltyWord (c .before .before .before .before .same .ensures), c .before .before .before .if1 .left,
+      ← is-same (args .word .now) wholeUnitsWord (c .before .same2 .ensures), c .if2 .taken,
+    ) refl
+
+returns-3 : tie.Need-returns-3
+unfolding optionOf
+returns-3 c =
+    let args = c .before .before .before .before .before .before .before .args in
+    rw (
+      ← is-same (args .word .now) penaltyWord (c .before .before .before .before .same .ensures), c .before .before .before .if1 .left,
+      ← is-same (args .word .now) wholeUnitsWord (c .before .same2 .ensures), c .if2 .left,
+    ) refl
 
 pub option-of-spec : {M : Type 1} → statement M
-option-of-spec = tie.close (tie.spec slice-aggregate-same same-requires returns returns-2)
+option-of-spec =
+    tie.close
+    (tie.spec
+    slice-aggregate-same
+    same-requires
+    returns
+    slice-aggregate-same-2
+    same-requires-2
+    returns-2
+    returns-3)

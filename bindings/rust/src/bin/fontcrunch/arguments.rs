@@ -99,6 +99,7 @@ pub fn read(words: impl IntoIterator<Item = OsString>) -> Result<Request, String
 struct Asked {
     tool: Tool,
     penalty: Option<u32>,
+    whole_units: bool,
     inputs: Vec<Input>,
     picture: Option<PathBuf>,
 }
@@ -118,6 +119,10 @@ impl Asked {
         match (name, value) {
             ("--svg", value) => self.draw_to(value.or_else(|| words.next())),
             ("--penalty", value) => self.at_penalty(value.or_else(|| words.next())),
+            ("--whole-units", None) => {
+                self.whole_units = true;
+                Ok(())
+            }
             ("--crunch", None) => self.then_crunch(),
             ("--index", None) => self.by_index(),
             _ => Err(format!("there is no option {text}")),
@@ -155,16 +160,25 @@ impl Asked {
         once("--penalty", &mut self.penalty, penalty)
     }
 
+    /// Settings where no run is worked would change nothing, unsaid.
+    fn no_settings(&self) -> Result<(), String> {
+        let given = [(self.penalty.is_some(), "--penalty"), (self.whole_units, "--whole-units")];
+        match given.iter().find(|(is_given, _)| *is_given) {
+            None => Ok(()),
+            Some((_, name)) => Err(format!("{name} is for crunching: of clean and cubic, with --crunch")),
+        }
+    }
+
     fn job(mut self) -> Result<Job, String> {
-        if self.penalty.is_some() && !self.tool.works_runs() {
-            return Err("--penalty is for crunching: of clean and cubic, with --crunch".to_owned());
+        if !self.tool.works_runs() {
+            self.no_settings()?;
         }
         if self.inputs.is_empty() {
             self.inputs.push(Input::Standard);
         }
         // studios preview at the penalty of the Rust
         let usual = if self.picture.is_some() { CRATE_PENALTY } else { DEFAULT_PENALTY };
-        let settings = Settings { penalty: self.penalty.unwrap_or(usual) };
+        let settings = Settings { penalty: self.penalty.unwrap_or(usual), whole_units: self.whole_units };
         Ok(Job { tool: self.tool, settings, inputs: self.inputs, picture: self.picture })
     }
 }

@@ -19,18 +19,19 @@ pub fn help() -> String {
 const USAGE: &str = "\
 Crunches TrueType contours: puts fewer quadratic pieces between their corners.
 
-usage: fontcrunch [crunch] [--penalty N] [--svg PICTURE] [FILE...]
+usage: fontcrunch [crunch] [SETTINGS] [--svg PICTURE] [FILE...]
        fontcrunch glyph read|write    glyph descriptions; see fontcrunch glyph --help
-       fontcrunch clean [--crunch] [--penalty N] [FILE...]
-       fontcrunch cubic [--crunch] [--penalty N] [FILE...]
+       fontcrunch clean [--crunch [SETTINGS]] [FILE...]
+       fontcrunch cubic [--crunch [SETTINGS]] [FILE...]
        fontcrunch why [--index] [FILE...]
 
 FILE           contours, one a line; standard input where there is none, or for -
 crunch         crunches, which a first word that names no tool does too; a file of a
                tool's name is ./crunch, ./clean and so on
---penalty N    what each piece adds to a score, in sixteenths, 1 to 256; 32 where it
-               is not given, or 16 with --svg. A larger one asks for fewer pieces; 16
-               is that of the Rust which this follows
+SETTINGS       --penalty N, --whole-units; without them 32 and half units
+--penalty N    what each piece adds to a score, in sixteenths, 1 to 256. A larger one
+               asks for fewer pieces; 16 is that of the Rust which this follows
+--whole-units  rounds breaks to whole units, not to half ones
 --svg PICTURE  draws each contour before and after, to a file. Without --penalty the
                penalty is 16, of the picture and of the answers
 clean          drops repeated points instead

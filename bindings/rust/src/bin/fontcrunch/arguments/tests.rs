@@ -96,9 +96,20 @@ fn a_penalty_is_any_whole_number() {
 }
 
 #[test]
-fn a_penalty_is_for_what_crunches() {
+fn whole_units() {
+    assert!(!job(&[]).settings.whole_units);
+    assert_eq!(job(&["--whole-units"]).settings, Settings { whole_units: true, ..Settings::default() });
+    assert!(job(&["cubic", "--whole-units", "--crunch"]).settings.whole_units);
+    let drawn = Settings { whole_units: true, ..Settings::of_crate() };
+    assert_eq!(job(&["--svg", "p", "--whole-units"]).settings, drawn);
+    assert!(fault(&["--whole-units=1"]).contains("no option --whole-units=1"));
+}
+
+#[test]
+fn settings_are_for_what_crunches() {
     for tool in ["clean", "cubic", "why"] {
-        assert!(fault(&[tool, "--penalty", "16"]).contains("for crunching"), "{tool}");
+        assert!(fault(&[tool, "--penalty", "16"]).contains("--penalty is for crunching"), "{tool}");
+        assert!(fault(&[tool, "--whole-units"]).contains("--whole-units is for crunching"), "{tool}");
     }
 }
 

@@ -1,8 +1,9 @@
 //! One contour of the picture: its outline before on the left, after on the right, at one scale and in one
 //! place of their panels.
 
-use fontcrunch::{Crunched, Point, Reasons, Refusal};
+use fontcrunch::{Crunched, Point, Reasons, Refusal, Settings};
 
+use super::grid;
 use super::outline::{Outline, Place};
 use super::reading::{Join, Reading};
 use super::svg::{self, Ink};
@@ -20,6 +21,15 @@ const CAPTION: f64 = 30.0;
 /// Within a panel, below the outline.
 const FOOT: f64 = 22.0;
 
+/// A contour, and what is told of it.
+pub struct Subject<'a> {
+    pub title: &'a str,
+    pub before: &'a [Point],
+    pub result: &'a Result<Crunched, Refusal>,
+    pub reading: &'a Reading,
+    pub settings: Settings,
+}
+
 pub struct Block {
     pub svg: String,
     pub height: f64,
@@ -33,13 +43,8 @@ struct Panel {
     height: f64,
 }
 
-pub fn drawn(
-    title: &str,
-    before: &[Point],
-    result: &Result<Crunched, Refusal>,
-    reading: &Reading,
-    top: f64,
-) -> Block {
+pub fn drawn(subject: &Subject, top: f64) -> Block {
+    let &Subject { before, result, reading, .. } = subject;
     let after = result.as_ref().map_or(&[][..], |crunched| &crunched.points);
     let extent = Extent::of(before.iter().chain(after).map(|&point| Place::from(point)));
     let scale = fitting(&extent, PANEL - 2.0 * INSET, TALLEST);
@@ -47,10 +52,10 @@ pub fn drawn(
     let left = Panel { left: MARGIN, top: top + TITLE, height };
     let right = Panel { left: MARGIN + PANEL + GAP, ..left };
 
-    let mut svg = heading(title, before, result, reading, top);
+    let mut svg = heading(subject, top);
     svg.push_str(&left_panel(left, left.view(&extent, scale), &extent, before, reading));
     svg.push_str(&match result {
-        Ok(crunched) => right_panel(right, right.view(&extent, scale), &extent, before, crunched, reading),
+        Ok(crunched) => right_panel(right, right.view(&extent, scale), &extent, subject, crunched),
         Err(refusal) => refusal_panel(right, *refusal, reading),
     });
     Block { svg, height: TITLE + height + GAP }
@@ -86,28 +91,22 @@ impl Panel {
 
 // ---- words
 
-fn heading(
-    title: &str,
-    before: &[Point],
-    result: &Result<Crunched, Refusal>,
-    reading: &Reading,
-    top: f64,
-) -> String {
+fn heading(subject: &Subject, top: f64) -> String {
     let at = Place { x: MARGIN, y: top + 30.0 };
     let end = Place { x: WIDTH - MARGIN, ..at };
-    svg::text(at, 15.0, svg::TEXT, "font-weight=\"bold\"", title)
-        + &svg::text(end, 13.0, svg::TEXT, "text-anchor=\"end\"", &outcome(before, result, reading))
+    svg::text(at, 15.0, svg::TEXT, "font-weight=\"bold\"", subject.title)
+        + &svg::text(end, 13.0, svg::TEXT, "text-anchor=\"end\"", &outcome(subject))
 }
 
-fn outcome(before: &[Point], result: &Result<Crunched, Refusal>, reading: &Reading) -> String {
-    match result {
+fn outcome(subject: &Subject) -> String {
+    match subject.result {
         Err(refusal) => format!("refused by {}", refusal.number()),
         Ok(crunched) => {
             let pairs = svg::counted(crunched.pairs, "pair");
-            let change = if reading.is_unchanged() {
+            let change = if subject.reading.is_unchanged() {
                 "unchanged: no chain was found for a run".to_owned()
             } else {
-                saving(before.len(), crunched.points.len())
+                saving(subject.before.len(), crunched.points.len())
             };
             format!("{change}, {pairs} tried")
         }
@@ -147,15 +146,8 @@ fn left_panel(panel: Panel, view: View, extent: &Extent, before: &[Point], readi
     .concat()
 }
 
-fn right_panel(
-    panel: Panel,
-    view: View,
-    extent: &Extent,
-    before: &[Point],
-    crunched: &Crunched,
-    reading: &Reading,
-) -> String {
-    let ghost = Outline::of(before);
+fn right_panel(panel: Panel, view: View, extent: &Extent, subject: &Subject, crunched: &Crunched) -> String {
+    let ghost = Outline::of(subject.before);
     let outline = Outline::of(&crunched.points);
     let data = svg::closed_path(&outline, &view);
     [
@@ -163,13 +155,14 @@ fn right_panel(
         panel.caption("after", &crunched.points, svg::AFTER),
         baseline(panel, &view, extent),
         svg::filled(&data, svg::AFTER),
+        grid::drawn(&view, extent, grid::step(subject.settings)),
         // the old outline is under the new one, so that it shows only where they differ
         svg::stroked(&svg::closed_path(&ghost, &view), svg::GHOST, svg::GHOST_DASHES),
-        lost_drawn(&ghost, &view, reading),
+        lost_drawn(&ghost, &view, subject.reading),
         svg::stroked(&data, svg::AFTER.line, svg::OUTLINE),
         points_drawn(&crunched.points, &view, svg::AFTER),
         start_drawn(&outline, &view, svg::AFTER),
-        joins_drawn(&outline, &view, reading),
+        joins_drawn(&outline, &view, subject.reading),
     ]
     .concat()
 }

@@ -59,8 +59,12 @@ pub fn drawn(settings: Settings) -> String {
 }
 
 fn settings_words(settings: Settings) -> String {
-    let penalty = settings.penalty;
-    format!("at the penalty {:?}, {}", f64::from(penalty) / 16.0, svg::counted(penalty as usize, "sixteenth"))
+    let penalty = svg::counted(settings.penalty as usize, "sixteenth");
+    let units = if settings.whole_units { "whole units" } else { "half units" };
+    format!(
+        "at the penalty {:?}, {penalty}; breaks on {units}, the light lines where there is room for them",
+        f64::from(settings.penalty) / 16.0
+    )
 }
 
 fn entries() -> String {

@@ -2,6 +2,7 @@
 //! that memory does not grow with them.
 
 mod block;
+mod grid;
 mod legend;
 mod outline;
 mod reading;
@@ -14,6 +15,7 @@ use std::path::Path;
 
 use fontcrunch::{Crunched, Cruncher, Point, Refusal, Settings};
 
+use block::Subject;
 use reading::Reading;
 
 /// All blocks are as wide.
@@ -22,6 +24,7 @@ const MARGIN: f64 = 30.0;
 
 pub struct Picture {
     file: BufWriter<File>,
+    settings: Settings,
     /// How far down the picture is filled.
     bottom: f64,
 }
@@ -32,7 +35,7 @@ impl Picture {
         let mut file = File::create(path)?;
         // the height is put into the head at the end: a file that cannot seek is told now
         file.stream_position()?;
-        let mut picture = Picture { file: BufWriter::new(file), bottom: legend::HEIGHT };
+        let mut picture = Picture { file: BufWriter::new(file), settings, bottom: legend::HEIGHT };
         picture.file.write_all(head(0.0).as_bytes())?;
         picture.file.write_all(legend::drawn(settings).as_bytes())?;
         Ok(picture)
@@ -47,7 +50,8 @@ impl Picture {
         result: &Result<Crunched, Refusal>,
     ) -> io::Result<()> {
         let reading = Reading::of(cruncher, before, result);
-        let block = block::drawn(title, before, result, &reading, self.bottom);
+        let subject = Subject { title, before, result, reading: &reading, settings: self.settings };
+        let block = block::drawn(&subject, self.bottom);
         self.file.write_all(block.svg.as_bytes())?;
         self.bottom += block.height;
         Ok(())
