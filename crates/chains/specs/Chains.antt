@@ -49,4 +49,4 @@ module _ (rooms : Rooms) (room : ℕ) (settings : Settings) (xs ys : List ℤ) (
 
   -- of run k
   unfoldable pub chainOf : ℕ → Outcome
-  chainOf k = afterJudging (judgedFor settings xs ys fs) (ofRun (numberedRun xs ys fs k))
+  chainOf k = afterJudging (judgedFor settings xs ys fs) (ofRun (numberedRun (settings .closed) xs ys fs k))

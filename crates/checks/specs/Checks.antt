@@ -62,4 +62,4 @@ afterJudging Judged.Fine v = v
 unfoldable pub checkOf : Rooms → Settings → List ℤ → List ℤ → List ℕ → Given → ℕ → D.Verdict
 checkOf rooms settings xs ys fs c k =
     afterJudging (judgedFor settings xs ys fs)
-    (ofRun (answerRoom (rooms .answers) (rooms .links)) settings c (rooms .samples) (rooms .breaks) xs ys fs (numberedRun xs ys fs k))
+    (ofRun (answerRoom (rooms .answers) (rooms .links)) settings c (rooms .samples) (rooms .breaks) xs ys fs (numberedRun (settings .closed) xs ys fs k))

@@ -141,10 +141,10 @@ module _ (rooms : Rooms) (room : ℕ) (settings : Settings) (xs ys : List ℤ) (
   unfolding chainOf checkOf
   accepted-chain k e = by (judgedFor settings xs ys fs) e
     where
-      by : (j : Judged) → Chains.afterJudging j (Chains.ofRun rooms room settings xs ys fs (numberedRun xs ys fs k)) ≡ chained ps score p →
-          Checks.afterJudging j (Checks.ofRun half settings (given ps score) (rooms .samples) (rooms .breaks) xs ys fs (numberedRun xs ys fs k)) ≡ Verdict.Yes
+      by : (j : Judged) → Chains.afterJudging j (Chains.ofRun rooms room settings xs ys fs (numberedRun (settings .closed) xs ys fs k)) ≡ chained ps score p →
+          Checks.afterJudging j (Checks.ofRun half settings (given ps score) (rooms .samples) (rooms .breaks) xs ys fs (numberedRun (settings .closed) xs ys fs k)) ≡ Verdict.Yes
       by (Judged.Refused n) f = no-chain f
-      by Judged.Fine f = accepted-number (numberedRun xs ys fs k) f
+      by Judged.Fine f = accepted-number (numberedRun (settings .closed) xs ys fs k) f
 
 -- ---- the entries: what the chain entry leaves in its rows, checked in scratch rows of the same lengths
 
