@@ -9,11 +9,12 @@ import argparse
 # the Rust's penalty 1.0, in sixteenths
 CRATE_PENALTY = 16
 
-CHOICES = ("--whole-units",)
+CHOICES = ("--whole-units", "--closed")
 
 HELP = """SETTINGS  given to both sides:
   --penalty N    of a piece, in sixteenths; the Rust's own, 16, by default
-  --whole-units  breaks on whole units"""
+  --whole-units  breaks on whole units
+  --closed       closed mode"""
 
 
 def add(parser):

@@ -113,6 +113,61 @@ CHOSEN = [
     ("--whole-units --penalty 0", "7 9 1", "refused 16"),
 ]
 
+# contour, answer in closed mode; the answer of the crate's mode where it shows the difference
+CLOSED = [
+    # document 01's whole-contour rows
+    ("7 9 1", "ok 0 7 9 1", "ok 0 7 9 1"),
+    ("0 0 1 100 0 1 0 100 1", "ok 0 0 0 1 100 0 1 0 100 1", None),
+    ("0 0 1 100 0 1 50 100 0", "ok 1 0 0 1 100 0 1 50 100 0", "ok 0 100 0 1 0 0 1"),
+    ("5 5 1 5 5 0 5 5 1", "ok 1 5 5 1 5 5 0 5 5 1", None),
+    (line(zigzag(1024)), "ok 0 " + line(zigzag(1024)), None),
+    (line(zigzag(1025)), "refused 3", "refused 3"),
+    ("0 0 1 1 1 0 2 2 0", "refused 5", "refused 5"),
+    # no corner, and one corner: one run all round
+    ("0 0 1 10 10 0", "ok 0 0 0 1 10 10 0", "ok 0 0 0 1"),
+    ("0 0 1 100 0 0 0 0 1 100 -2 0 0 0 1 100 -3 0", "ok 1 0 0 1", "ok 0 0 0 1"),
+    # only the closing run leaves the contour unchanged
+    (
+        "0 0 1 2 0 0 2 9 1 -3 12 1 0 0 1 0 0 0",
+        "ok 2 0 0 1 2 0 0 2 9 1 -3 12 1 0 0 1 0 0 0",
+        "ok 1 0 0 1 -3 12 1 2 9 1 2 0 0 0 0 1",
+    ),
+    # two lines across the start are a worked run; one line is copied, also one of length 0
+    ("50 0 1 100 0 1 100 60 1 0 60 1 0 0 1", "ok 1 100 0 1 100 60 1 0 60 1 0 0 1", "ok 0 0 0 1 0 60 1 100 60 1 50 0 1"),
+    ("0 0 1 100 0 1 100 60 1 0 0 1", "ok 0 0 0 1 100 0 1 100 60 1 0 0 1", None),
+    # the last piece's end is not written, wherever its break is: here it is at (7.5, 6)
+    ("8 6 1 1 0 1 9 7 0", "ok 1 8 6 1 1 0 1", None),
+    # the first corner itself is implied and goes, the others after it
+    ("10 -8 1 34 -2 0 44 32 1 -10 37 1 -14 -14 0", "ok 2 34 -2 0 44 32 1 -10 37 1 -14 -14 0", None),
+    ("0 0 1 10 10 0 0 0 1 -10 -10 0", "ok 0 10 10 0 -10 -10 0", "ok 0 0 0 1"),
+    # one off-curve point is both neighbours
+    ("5 5 1 5 5 0", "ok 1 5 5 0", "ok 0 5 5 1"),
+    # a joint at a half unit is written cut, and stays
+    ("22 -6 1 9 -4 0 9 -5 1 9 -6 0", "ok 2 22 -6 1 10 -4 0 9 -5 1 9 -6 0", None),
+    # the full sum: -1 between two at 32767 stays, and 0 between 0 and 1
+    (
+        "5 5 1 5 5 0 5 5 1 32767 0 0 -1 0 1 32767 0 0",
+        "ok 1 5 5 1 5 5 0 5 5 1 32767 0 0 -1 0 1 32767 0 0",
+        None,
+    ),
+    (
+        "5 5 1 5 5 0 5 5 1 0 0 0 0 0 1 1 0 0",
+        "ok 1 5 5 1 5 5 0 5 5 1 0 0 0 0 0 1 1 0 0",
+        "ok 1 5 5 1 1 0 0 0 0 0 5 5 1 5 5 0 5 5 1",
+    ),
+    (
+        "5 5 1 5 5 0 5 5 1 32767 0 0 32767 0 1 32767 0 0",
+        "ok 1 5 5 1 5 5 0 5 5 1 32767 0 0 32767 0 0",
+        None,
+    ),
+    # the closing run is worked last, and an unchanged run hides it
+    ("32767 32767 1 0 0 1 32767 0 0", "refused 6", "ok 0 0 0 1 32767 32767 1"),
+    ("700 700 1 0 0 1 700 0 0", "refused 7", "ok 0 0 0 1 700 700 1"),
+    ("410 410 1 -300 900 1 0 0 1 432 433 0", "refused 8", "ok 0 0 0 1 -300 900 1 410 410 1"),
+    ("0 0 1 700 0 0 700 700 1 32767 32767 1 -32768 32767 0", "refused 7", "refused 7"),
+    ("5 5 1 5 5 0 5 5 1 700 700 1 700 5 0", "ok 1 5 5 1 5 5 0 5 5 1 700 700 1 700 5 0", None),
+]
+
 # settings, and what stands after the point in the coordinates of all finite breaks of WHOLE
 GRIDS = [("", {0.0, 0.5}), ("--whole-units", {0.0})]
 

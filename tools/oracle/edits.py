@@ -79,6 +79,40 @@ SETTINGS = [
     one("half units where they are read", "HALF_STEP", "hooks::settings().half_step()"),
 ]
 
+# Closed mode: the closing run, which the Rust leaves as a comment, is put back, and the points are written from the first
+# corner in the input's order, without the last piece's end.
+CLOSED = [
+    one(
+        "runs to go round",
+        "let indices: Vec<usize> = (0..breaks.len()).collect();",
+        "if hooks::settings().closed && breaks.is_empty() { return kurbo; }"
+        " let mut indices: Vec<usize> = (0..breaks.len()).collect();",
+    ),
+    one(
+        "start of the contour",
+        "new_kurbo.push(kurbo.elements()[0]);",
+        "new_kurbo.push(hooks::start_at(&segs, &breaks).unwrap_or(kurbo.elements()[0]));",
+    ),
+    one("closing run", "// indices.push(0);", "if hooks::settings().closed { indices.push(0); }"),
+    one("segments of a run", "segs[bk0..bk1]", "hooks::between(&segs, bk0, bk1)"),
+    before(
+        "order of the points",
+        "remove_implied_oncurves(&mut new);",
+        "if hooks::settings().closed { new.reverse(); new.pop(); }",
+    ),
+]
+
+# The standard's rule for an implied point in closed mode, the Rust's own in the crate's.
+STANDARD = [
+    one(
+        f"implied in {c}",
+        f"this.{c} != (prev.{c} + next.{c}) / 2",
+        f"(if crate::hooks::settings().closed {{ 2 * this.{c} as i32 != prev.{c} as i32 + next.{c} as i32 }}"
+        f" else {{ this.{c} != (prev.{c} + next.{c}) / 2 }})",
+    )
+    for c in "xy"
+]
+
 ROOTS = [
     one(
         "root in the bend test",
@@ -91,6 +125,10 @@ ROOTS = [
 IMPLIED = [one("explicit points left out", "insert_explicit_oncurves(&mut contour);", "")]
 
 WORDS = [one("name of 16 bits", "use otspec::types::*;", "#[allow(non_camel_case_types)] type int16 = i16;")]
+
+IN_FONTCRUNCH = IMPORTS + ROOMS + RECORDS + SETTINGS + CLOSED
+IN_CONTOURUTILS = IMPLIED + STANDARD
+ALL = IN_FONTCRUNCH + ROOTS + IN_CONTOURUTILS + WORDS
 
 
 def apply(text, edits, where):
@@ -112,9 +150,9 @@ def cut(text):
 
 def edited(read, roots):
     """The three edited files by name; `read` gives a published file's text."""
-    edits = IMPORTS + ROOMS + RECORDS + SETTINGS + (ROOTS if roots else [])
+    edits = IN_FONTCRUNCH + (ROOTS if roots else [])
     return {
         "main.rs": apply(cut(read(FONTCRUNCH)), edits, FONTCRUNCH),
-        "fonttools/tables/glyf/contourutils.rs": apply(read(CONTOURUTILS), IMPLIED, CONTOURUTILS),
+        "fonttools/tables/glyf/contourutils.rs": apply(read(CONTOURUTILS), IN_CONTOURUTILS, CONTOURUTILS),
         "fonttools/tables/glyf/point.rs": apply(read(POINT), WORDS, POINT),
     }

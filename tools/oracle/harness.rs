@@ -66,6 +66,7 @@ fn options(mut args: impl Iterator<Item = String>) -> Result<Asked, String> {
             "--time" => asked.timed = true,
             "--penalty" => asked.settings.penalty = count(&arg, args.next())?,
             "--whole-units" => asked.settings.whole_units = true,
+            "--closed" => asked.settings.closed = true,
             "--runs" => asked.choose(Mode::Runs)?,
             "--corners" => asked.choose(Mode::Corners)?,
             "--breaks" => asked.choose(Mode::Breaks)?,

@@ -2,7 +2,7 @@
 //! Nothing here touches a number that the Rust works with, but for the settings.
 
 use super::{Break, Statelet, Thetas};
-use kurbo::{Point, QuadBez};
+use kurbo::{ParamCurve, PathEl, PathSeg, Point, QuadBez};
 use std::cell::{Cell, RefCell};
 use std::sync::OnceLock;
 
@@ -18,6 +18,8 @@ pub struct Settings {
     pub penalty: u32,
     /// breaks on whole units, as with the Rust's `HALF_STEP` false
     pub whole_units: bool,
+    /// the closing run too, and points in the input's order
+    pub closed: bool,
 }
 
 /// The Rust's own penalty, 1.0.
@@ -28,6 +30,7 @@ impl Default for Settings {
         Settings {
             penalty: CRATE_PENALTY,
             whole_units: false,
+            closed: false,
         }
     }
 }
@@ -105,6 +108,21 @@ pub fn pairs() -> u64 {
 
 pub fn runs() -> Vec<Run> {
     RUNS.with(|r| std::mem::take(&mut *r.borrow_mut()))
+}
+
+/// Where a closed contour starts: at its first corner. None in the crate's mode.
+pub fn start_at(segs: &[PathSeg], corners: &[usize]) -> Option<PathEl> {
+    let corner = corners.first().filter(|_| settings().closed)?;
+    Some(PathEl::MoveTo(segs[*corner].start()))
+}
+
+/// The segments from one corner to the next, going round past the last segment.
+pub fn between(segs: &[PathSeg], from: usize, to: usize) -> Vec<PathSeg> {
+    if settings().closed && to <= from {
+        [&segs[from..], &segs[..to]].concat()
+    } else {
+        segs[from..to].to_vec()
+    }
 }
 
 fn refuse(number: u32) -> ! {
