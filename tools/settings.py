@@ -16,11 +16,19 @@ HELP = """SETTINGS  given to both sides:
   --whole-units  breaks on whole units
   --closed       closed mode"""
 
+FALLEN = """
+  --fallen       each answer ends with the lookups that fell past the samples"""
+
 
 def add(parser):
     parser.add_argument("--penalty", type=int, default=CRATE_PENALTY, help=argparse.SUPPRESS)
     for word in CHOICES:
         parser.add_argument(word, action="store_true", help=argparse.SUPPRESS)
+
+
+def add_fallen(parser):
+    """For tools that compare whole answers: both sides then end each with the lookups that fell."""
+    parser.add_argument("--fallen", action="store_true", help=argparse.SUPPRESS)
 
 
 def chosen(options, word):
@@ -29,7 +37,8 @@ def chosen(options, word):
 
 def words(options):
     choices = [word for word in CHOICES if chosen(options, word)]
-    return ["--penalty", str(options.penalty), *choices]
+    counted = ["--fallen"] if getattr(options, "fallen", False) else []
+    return ["--penalty", str(options.penalty), *choices, *counted]
 
 
 def number(options):

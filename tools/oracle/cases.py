@@ -20,6 +20,10 @@ def reversed_answer(points):
 
 NAN = "7ff8000000000000"
 
+# lookups fall only from long runs, which have room on whole units alone
+HIGH = "--whole-units --penalty 256"
+FELL = "-1795 0 1 -1794 0 1 143 -4 0 -3 7 1 -1795 -900 1"
+
 # contour, answer
 WHOLE = [
     # document 01, "Values on both sides"
@@ -111,6 +115,16 @@ CHOSEN = [
     ("--whole-units", "0 0 1 32767 0 0 32767 32767 1", "refused 6"),
     ("--whole-units", "5 5 1 5 5 0 5 5 1", "ok 1 5 5 1 5 5 1 5 5 0 5 5 1"),
     ("--whole-units --penalty 0", "7 9 1", "refused 16"),
+    # lookups that fell: two a stage past the end; none where it is refused, though one fell before
+    ("--fallen", "7 9 1", "ok 0 7 9 1 fallen 0"),
+    ("--fallen", "5 5 1 5 5 0 5 5 1", "ok 1 5 5 1 5 5 1 5 5 0 5 5 1 fallen 0"),
+    ("--fallen", "0 0 0", "refused 4 fallen 0"),
+    ("--fallen --penalty 0", "7 9 1", "refused 16 fallen 0"),
+    ("--fallen", "0 0 1 700 0 0 700 700 1", "refused 7 fallen 0"),
+    ("--fallen", "1 2", "malformed"),
+    (f"--fallen {HIGH}", FELL, "ok 3641 -1795 -900 1 -3 7 1 64 2 0 -297 0 1 -1795 0 1 fallen 4"),
+    (HIGH, FELL, "ok 3641 -1795 -900 1 -3 7 1 64 2 0 -297 0 1 -1795 0 1"),
+    (f"--fallen {HIGH}", "1858 4 1 1857 4 1 -154 5 0 9 3 1 1858 508 1", "refused 8 fallen 0"),
 ]
 
 # contour, answer in closed mode; the answer of the crate's mode where it shows the difference
@@ -192,6 +206,24 @@ LINES = [
         [
             "ok 1 5 5 1 5 5 1 5 5 0 5 5 1",
             "run 0 samples 3 length 0000000000000000 breaks 1 pairs 1 unchanged",
+        ],
+    ),
+    (
+        "--runs --fallen",
+        "5 5 1 5 5 0 5 5 1",
+        [
+            "ok 1 5 5 1 5 5 1 5 5 0 5 5 1 fallen 0",
+            "run 0 samples 3 length 0000000000000000 breaks 1 pairs 1 unchanged fallen 0",
+        ],
+    ),
+    (
+        f"--runs --fallen {HIGH}",
+        FELL,
+        [
+            "ok 3641 -1795 -900 1 -3 7 1 64 2 0 -297 0 1 -1795 0 1 fallen 4",
+            "run 0 samples 1815 length 409c5388bd050777 breaks 1822 pairs 3641 score 404c485cb033ceb5 chain 2"
+            " 0 1500 c090580000000000 0000000000000000 1500 1821 4050000000000000 4000000000000000 fallen 4 0",
+            "run 1 copied fallen 0",
         ],
     ),
     (

@@ -54,6 +54,9 @@ ROOMS = [
     before("pairs tried", "if is_int(bk0.xy.x) && is_int(bk0.xy.y) {", "hooks::pair();"),
 ]
 
+# Both lookups, of a place and of a direction, quietly give this past the end of the samples.
+FALLS = [Edit("lookups that fall", "return Point::ZERO;", "hooks::fell(); return Point::ZERO;", 2)]
+
 # An answer remembers its two break numbers, which its quad does not give away.
 RECORDS = [
     after("numbers in an answer", "struct Statelet {", "from: usize, to: usize,"),
@@ -68,7 +71,7 @@ RECORDS = [
     before("copied line", "match segs[bk0] {", "hooks::copied(ix1);"),
     after("breaks of a run", "let breaks = self.find_breaks()?;", "hooks::broken(&breaks);"),
     after("unchanged run", "if new_quads.is_none() {", "hooks::unchanged();"),
-    after("chain of a run", "let mut sl: &Statelet = states[n].sts.as_ref().as_ref().unwrap();", "hooks::chained(sl);"),
+    after("chain of a run", "let mut sl: &Statelet = states[n].sts.as_ref().as_ref().unwrap();", "hooks::chained(self, &breaks, sl);"),
 ]
 
 # What a caller chooses; without a word each is as the Rust has it.
@@ -126,7 +129,7 @@ IMPLIED = [one("explicit points left out", "insert_explicit_oncurves(&mut contou
 
 WORDS = [one("name of 16 bits", "use otspec::types::*;", "#[allow(non_camel_case_types)] type int16 = i16;")]
 
-IN_FONTCRUNCH = IMPORTS + ROOMS + RECORDS + SETTINGS + CLOSED
+IN_FONTCRUNCH = IMPORTS + ROOMS + FALLS + RECORDS + SETTINGS + CLOSED
 IN_CONTOURUTILS = IMPLIED + STANDARD
 ALL = IN_FONTCRUNCH + ROOTS + IN_CONTOURUTILS + WORDS
 

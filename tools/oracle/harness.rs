@@ -30,6 +30,8 @@ enum Mode {
 struct Asked {
     mode: Mode,
     timed: bool,
+    /// the count of lookups that fell, at the end of each answer
+    fallen: bool,
     settings: Settings,
 }
 
@@ -43,7 +45,7 @@ pub fn main() {
     };
     hooks::choose(asked.settings);
     watch_panics();
-    match serve(asked.mode) {
+    match serve(&asked) {
         Ok(spent) if asked.timed => eprintln!("{:.6}", spent.as_secs_f64()),
         Ok(_) => {}
         // a reader that has seen enough is no fault of ours
@@ -64,6 +66,7 @@ fn options(mut args: impl Iterator<Item = String>) -> Result<Asked, String> {
                 std::process::exit(0)
             }
             "--time" => asked.timed = true,
+            "--fallen" => asked.fallen = true,
             "--penalty" => asked.settings.penalty = count(&arg, args.next())?,
             "--whole-units" => asked.settings.whole_units = true,
             "--closed" => asked.settings.closed = true,
@@ -74,6 +77,9 @@ fn options(mut args: impl Iterator<Item = String>) -> Result<Asked, String> {
             "--measures" => asked.choose(Mode::Measures(count(&arg, args.next())? as usize))?,
             _ => return Err(format!("unknown option {arg}")),
         }
+    }
+    if asked.fallen && !asked.works_runs() {
+        return Err("--fallen is of modes that work runs".to_string());
     }
     Ok(asked)
 }
@@ -92,10 +98,23 @@ impl Asked {
         self.mode = mode;
         Ok(())
     }
+
+    fn works_runs(&self) -> bool {
+        matches!(self.mode, Mode::Crunch | Mode::Runs)
+    }
+
+    /// The end of an answer, where it is asked for.
+    fn count(&self, fallen: u64) -> String {
+        if self.fallen {
+            format!(" fallen {fallen}")
+        } else {
+            String::new()
+        }
+    }
 }
 
 /// Answers every line; how long the work took, reading and parsing left out.
-fn serve(mode: Mode) -> io::Result<Duration> {
+fn serve(asked: &Asked) -> io::Result<Duration> {
     let mut input = io::BufReader::with_capacity(1 << 20, io::stdin().lock());
     let mut out = io::BufWriter::with_capacity(1 << 20, io::stdout().lock());
     let mut spent = Duration::ZERO;
@@ -104,10 +123,10 @@ fn serve(mode: Mode) -> io::Result<Duration> {
         match parse(&line) {
             None => writeln!(out, "malformed")?,
             Some(points) => match judge(&points) {
-                Some(number) => writeln!(out, "refused {number}")?,
+                Some(number) => writeln!(out, "refused {number}{}", asked.count(0))?,
                 None => {
                     let begun = Instant::now();
-                    answer(points, mode, &mut out)?;
+                    answer(points, asked, &mut out)?;
                     spent += begun.elapsed()
                 }
             },
@@ -235,16 +254,21 @@ impl std::fmt::Display for Bits {
     }
 }
 
-fn answer(points: Vec<GlyfPoint>, mode: Mode, out: &mut impl Write) -> io::Result<()> {
-    match mode {
-        Mode::Crunch => crunch(points, Keep::Nothing, out),
-        Mode::Runs => crunch(points, Keep::Runs, out),
+fn answer(points: Vec<GlyfPoint>, asked: &Asked, out: &mut impl Write) -> io::Result<()> {
+    match asked.mode {
+        Mode::Crunch => crunch(points, Keep::Nothing, asked, out),
+        Mode::Runs => crunch(points, Keep::Runs, asked, out),
         Mode::Corners => corners(&points, out),
-        Mode::Breaks | Mode::Samples | Mode::Measures(_) => surveys(&points, mode, out),
+        Mode::Breaks | Mode::Samples | Mode::Measures(_) => surveys(&points, asked.mode, out),
     }
 }
 
-fn crunch(points: Vec<GlyfPoint>, keep: Keep, out: &mut impl Write) -> io::Result<()> {
+fn crunch(
+    points: Vec<GlyfPoint>,
+    keep: Keep,
+    asked: &Asked,
+    out: &mut impl Write,
+) -> io::Result<()> {
     hooks::start(keep);
     let glyph = Glyph {
         contours: vec![points],
@@ -256,26 +280,31 @@ fn crunch(points: Vec<GlyfPoint>, keep: Keep, out: &mut impl Write) -> io::Resul
             for p in &crunched.contours[0] {
                 write!(out, " {} {} {}", p.x, p.y, p.on_curve as u8)?
             }
+            writeln!(out, "{}", asked.count(hooks::fallen()))?
         }
-        Err(stop) => write!(out, "{stop}")?,
+        Err(stop) => writeln!(out, "{stop}{}", asked.count(0))?,
     }
-    writeln!(out)?;
     for run in hooks::runs() {
-        describe(&run, result.as_ref().err(), out)?
+        describe(&run, result.as_ref().err(), asked, out)?
     }
     Ok(())
 }
 
-fn describe(run: &Run, stop: Option<&Stop>, out: &mut impl Write) -> io::Result<()> {
+fn describe(run: &Run, stop: Option<&Stop>, asked: &Asked, out: &mut impl Write) -> io::Result<()> {
     write!(out, "run {}", run.number)?;
     match (&run.ending, stop) {
-        (Ending::Copied, _) => return writeln!(out, " copied"),
-        (Ending::Open, Some(stop)) => return writeln!(out, " {stop}"),
+        (Ending::Copied, _) => return writeln!(out, " copied{}", asked.count(0)),
+        (Ending::Open, Some(stop)) => return writeln!(out, " {stop}{}", asked.count(0)),
         _ => {}
     }
     write!(out, " samples {} length {}", run.samples, Bits(run.length))?;
     write!(out, " breaks {} pairs {}", run.breaks, run.pairs)?;
-    if let Ending::Chain { score, pieces } = &run.ending {
+    if let Ending::Chain {
+        score,
+        pieces,
+        fallen,
+    } = &run.ending
+    {
         write!(out, " score {} chain {}", Bits(*score), pieces.len())?;
         for p in pieces {
             let control = p.control;
@@ -288,9 +317,13 @@ fn describe(run: &Run, stop: Option<&Stop>, out: &mut impl Write) -> io::Result<
                 Bits(control.y)
             )?
         }
+        write!(out, "{}", asked.count(run.fallen))?;
+        if asked.fallen {
+            write!(out, " {fallen}")?
+        }
         writeln!(out)
     } else {
-        writeln!(out, " unchanged")
+        writeln!(out, " unchanged{}", asked.count(run.fallen))
     }
 }
 

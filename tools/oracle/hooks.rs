@@ -1,4 +1,4 @@
-//! What the edited Rust calls: the settings, the rooms, the count of pairs, and a record of each run.
+//! What the edited Rust calls: the settings, the rooms, the counts, and a record of each run.
 //! Nothing here touches a number that the Rust works with, but for the settings.
 
 use super::{Break, Statelet, Thetas};
@@ -13,6 +13,7 @@ const BREAK_ROOM: usize = 2_048;
 pub struct Refused(pub u32);
 
 /// What a caller chooses, for all contours of a run of the program.
+#[derive(Clone, Copy)]
 pub struct Settings {
     /// of a piece, in sixteenths
     pub penalty: u32,
@@ -60,7 +61,12 @@ pub enum Ending {
     Open,
     Copied,
     Unchanged,
-    Chain { score: f64, pieces: Vec<Piece> },
+    Chain {
+        score: f64,
+        pieces: Vec<Piece>,
+        /// lookups that fall where the chain's own pieces are measured
+        fallen: u64,
+    },
 }
 
 pub struct Piece {
@@ -76,6 +82,7 @@ pub struct Run {
     pub length: f64,
     pub breaks: usize,
     pub pairs: u64,
+    pub fallen: u64,
     pub ending: Ending,
 }
 
@@ -91,6 +98,7 @@ pub enum Keep {
 
 thread_local! {
     static PAIRS: Cell<u64> = const { Cell::new(0) };
+    static FALLEN: Cell<u64> = const { Cell::new(0) };
     static KEEP: Cell<Keep> = const { Cell::new(Keep::Nothing) };
     static RUNS: RefCell<Vec<Run>> = const { RefCell::new(Vec::new()) };
 }
@@ -98,12 +106,17 @@ thread_local! {
 /// A new contour: forgets the one before, which may have stopped half way.
 pub fn start(keep: Keep) {
     PAIRS.with(|p| p.set(0));
+    FALLEN.with(|f| f.set(0));
     KEEP.with(|k| k.set(keep));
     RUNS.with(|r| r.borrow_mut().clear());
 }
 
 pub fn pairs() -> u64 {
     PAIRS.with(|p| p.get())
+}
+
+pub fn fallen() -> u64 {
+    FALLEN.with(|f| f.get())
 }
 
 pub fn runs() -> Vec<Run> {
@@ -149,6 +162,11 @@ pub fn pair() {
     PAIRS.with(|p| p.set(p.get() + 1))
 }
 
+#[cold]
+pub fn fell() {
+    FALLEN.with(|f| f.set(f.get() + 1))
+}
+
 fn add(number: usize, quads: &[QuadBez], ending: Ending) {
     let quads = quads.to_vec();
     let run = Run {
@@ -158,6 +176,7 @@ fn add(number: usize, quads: &[QuadBez], ending: Ending) {
         length: 0.0,
         breaks: 0,
         pairs: pairs(),
+        fallen: fallen(),
         ending,
     };
     RUNS.with(|r| r.borrow_mut().push(run))
@@ -196,21 +215,38 @@ pub fn broken(breaks: &[Break]) {
 }
 
 pub fn unchanged() {
-    last(|run| {
-        run.pairs = pairs() - run.pairs;
-        run.ending = Ending::Unchanged
-    })
+    last(|run| close(run, Ending::Unchanged))
 }
 
 /// The last break's answer, before the Rust walks it back to its quads.
-pub fn chained(answer: &Statelet) {
+pub fn chained(curve: &Thetas, breaks: &[Break], answer: &Statelet) {
     last(|run| {
-        run.pairs = pairs() - run.pairs;
-        run.ending = Ending::Chain {
+        let pieces = pieces(answer);
+        let ending = Ending::Chain {
             score: answer.score,
-            pieces: pieces(answer),
-        }
+            fallen: fallen_along(curve, breaks, &pieces),
+            pieces,
+        };
+        close(run, ending)
     })
+}
+
+/// A run is worked: its counts are what was added since it began.
+fn close(run: &mut Run, ending: Ending) {
+    run.pairs = pairs() - run.pairs;
+    run.fallen = fallen() - run.fallen;
+    run.ending = ending
+}
+
+/// What falls where these pieces are measured once more, which the optimiser's count does not see.
+fn fallen_along(curve: &Thetas, breaks: &[Break], pieces: &[Piece]) -> u64 {
+    let before = fallen();
+    for piece in pieces {
+        let (from, to) = (&breaks[piece.start], &breaks[piece.end]);
+        let quad = QuadBez::new(from.xy, piece.control, to.xy);
+        curve.measure_quad(from.s, to.s, &quad);
+    }
+    FALLEN.with(|f| f.replace(before)) - before
 }
 
 fn pieces(answer: &Statelet) -> Vec<Piece> {
