@@ -237,6 +237,33 @@ LINES = [
         "0 0 1 700 0 0 700 700 1 32767 700 0 32767 -32768 1 0 0 1",
         ["contour", "run 0 refused 7", "run 1 refused 6", "run 2 copied"],
     ),
+    # one run alone, whatever the others do; 16 before 10
+    ("--chain 0", "0 0 1 100 0 1 0 100 1", ["refused 10"]),
+    ("--chain 2", "0 0 1 100 0 1 0 100 1", ["refused 10"]),
+    ("--chain 1 --closed", "0 0 1 100 0 1 50 100 0", ["ok 1 400092556624e564 1 0 365 4049000000000000 4059000000000000"]),
+    ("--chain 0 --closed", "0 0 1 10 10 0", ["refused 10"]),
+    ("--chain 0 --penalty 0", "0 0 1 100 0 1 0 100 1", ["refused 16"]),
+    ("--chain 0", "7 9 128", ["refused 4"]),
+    ("--chain 0", "5 5 1 5 5 0 5 5 1", ["unchanged 1"]),
+    ("--chain 0", "0 0 1 700 0 0 700 700 1 32767 700 0 32767 -32768 1 0 0 1", ["refused 7"]),
+    ("--chain 1", "0 0 1 700 0 0 700 700 1 32767 700 0 32767 -32768 1 0 0 1", ["refused 6"]),
+    ("--chain 0", "0 0 1 432 433 0 410 410 1 -300 900 1", ["refused 8"]),
+    ("--chain 0 --fallen", "0 0 1 432 433 0 410 410 1 -300 900 1", ["refused 8 fallen 0"]),
+    ("--chain 0 --fallen", "5 5 1 5 5 0 5 5 1", ["unchanged 1 fallen 0"]),
+    # segments 4 and 0 hold the closing run's two breaks
+    (
+        "--chain 3 --segments --closed",
+        "50 0 1 100 0 1 100 60 1 0 60 1 0 0 1",
+        ["ok 1 3ff0000000000000 1 0 200 4049000000000000 0000000000000000 4 0"],
+    ),
+    (
+        f"--chain 0 --segments --fallen {HIGH}",
+        FELL,
+        [
+            "ok 3641 404c485cb033ceb5 2 0 1500 c090580000000000 0000000000000000 0 1"
+            " 1500 1821 4050000000000000 4000000000000000 1 1 fallen 4"
+        ],
+    ),
     ("--measures 2", "7 9 128", ["refused 4"]),
     (
         "--measures 2",

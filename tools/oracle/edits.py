@@ -65,10 +65,12 @@ RECORDS = [
     one(
         "start of a run",
         "let thetas = Thetas::new(&quadbezes);",
-        "if hooks::begin(ix1, &quadbezes) { continue; }"
+        "if hooks::begin(ix1, bk0, segs.len(), &quadbezes) { continue; }"
         " let thetas = Thetas::new(&quadbezes); hooks::sampled(&thetas);",
     ),
     before("copied line", "match segs[bk0] {", "hooks::copied(ix1);"),
+    after("start of the samples", "let mut arclen = 0_f64;", "hooks::sampling();"),
+    after("end of a quad's steps", "arclen = y[0]", "; hooks::quad_ended(arclen);"),
     after("breaks of a run", "let breaks = self.find_breaks()?;", "hooks::broken(&breaks);"),
     after("unchanged run", "if new_quads.is_none() {", "hooks::unchanged();"),
     after("chain of a run", "let mut sl: &Statelet = states[n].sts.as_ref().as_ref().unwrap();", "hooks::chained(self, &breaks, sl);"),

@@ -4,7 +4,7 @@
 
 use super::fonttools::tables::glyf::contourutils::glyf_contour_to_kurbo_contour;
 use super::fonttools::tables::glyf::{Glyph, Point as GlyfPoint};
-use super::hooks::{self, Ending, Keep, Refused, Run, Settings};
+use super::hooks::{self, Ending, Keep, Piece, Refused, Run, Settings};
 use super::{crunch_contour, crunch_glyph, intersect, segment_sp, Break, QBMonkeyPatch, Thetas};
 use kurbo::{PathSeg, Point, QuadBez};
 use std::cell::RefCell;
@@ -19,6 +19,7 @@ enum Mode {
     #[default]
     Crunch,
     Runs,
+    Chain(usize),
     Corners,
     Breaks,
     Samples,
@@ -32,6 +33,8 @@ struct Asked {
     timed: bool,
     /// the count of lookups that fell, at the end of each answer
     fallen: bool,
+    /// the segments of each piece's breaks
+    segments: bool,
     settings: Settings,
 }
 
@@ -67,10 +70,12 @@ fn options(mut args: impl Iterator<Item = String>) -> Result<Asked, String> {
             }
             "--time" => asked.timed = true,
             "--fallen" => asked.fallen = true,
+            "--segments" => asked.segments = true,
             "--penalty" => asked.settings.penalty = count(&arg, args.next())?,
             "--whole-units" => asked.settings.whole_units = true,
             "--closed" => asked.settings.closed = true,
             "--runs" => asked.choose(Mode::Runs)?,
+            "--chain" => asked.choose(Mode::Chain(count(&arg, args.next())? as usize))?,
             "--corners" => asked.choose(Mode::Corners)?,
             "--breaks" => asked.choose(Mode::Breaks)?,
             "--samples" => asked.choose(Mode::Samples)?,
@@ -80,6 +85,9 @@ fn options(mut args: impl Iterator<Item = String>) -> Result<Asked, String> {
     }
     if asked.fallen && !asked.works_runs() {
         return Err("--fallen is of modes that work runs".to_string());
+    }
+    if asked.segments && !asked.shows_chains() {
+        return Err("--segments is of --runs and --chain".to_string());
     }
     Ok(asked)
 }
@@ -100,7 +108,11 @@ impl Asked {
     }
 
     fn works_runs(&self) -> bool {
-        matches!(self.mode, Mode::Crunch | Mode::Runs)
+        matches!(self.mode, Mode::Crunch) || self.shows_chains()
+    }
+
+    fn shows_chains(&self) -> bool {
+        matches!(self.mode, Mode::Runs | Mode::Chain(_))
     }
 
     /// The end of an answer, where it is asked for.
@@ -258,6 +270,7 @@ fn answer(points: Vec<GlyfPoint>, asked: &Asked, out: &mut impl Write) -> io::Re
     match asked.mode {
         Mode::Crunch => crunch(points, Keep::Nothing, asked, out),
         Mode::Runs => crunch(points, Keep::Runs, asked, out),
+        Mode::Chain(number) => chain(&points, number, asked, out),
         Mode::Corners => corners(&points, out),
         Mode::Breaks | Mode::Samples | Mode::Measures(_) => surveys(&points, asked.mode, out),
     }
@@ -306,17 +319,7 @@ fn describe(run: &Run, stop: Option<&Stop>, asked: &Asked, out: &mut impl Write)
     } = &run.ending
     {
         write!(out, " score {} chain {}", Bits(*score), pieces.len())?;
-        for p in pieces {
-            let control = p.control;
-            write!(
-                out,
-                " {} {} {} {}",
-                p.start,
-                p.end,
-                Bits(control.x),
-                Bits(control.y)
-            )?
-        }
+        show_pieces(pieces, asked, out)?;
         write!(out, "{}", asked.count(run.fallen))?;
         if asked.fallen {
             write!(out, " {fallen}")?
@@ -325,6 +328,53 @@ fn describe(run: &Run, stop: Option<&Stop>, asked: &Asked, out: &mut impl Write)
     } else {
         writeln!(out, " unchanged{}", asked.count(run.fallen))
     }
+}
+
+fn show_pieces(pieces: &[Piece], asked: &Asked, out: &mut impl Write) -> io::Result<()> {
+    for p in pieces {
+        write!(out, " {} {}", p.start, p.end)?;
+        write!(out, " {} {}", Bits(p.control.x), Bits(p.control.y))?;
+        if asked.segments {
+            write!(out, " {} {}", p.segments[0], p.segments[1])?
+        }
+    }
+    Ok(())
+}
+
+/// One run alone, whatever the others do, as the command's `chain` gives it.
+fn chain(
+    points: &[GlyfPoint],
+    number: usize,
+    asked: &Asked,
+    out: &mut impl Write,
+) -> io::Result<()> {
+    let runs = listed(points);
+    let run = runs.iter().find(|run| run.number == number);
+    let Some(run) = run.filter(|run| !matches!(run.ending, Ending::Copied)) else {
+        return writeln!(out, "refused 10{}", asked.count(0));
+    };
+    hooks::start(Keep::Runs);
+    hooks::begin(run.number, run.first, run.of, &run.quads);
+    let worked = guarded(|| Thetas::new(&run.quads).optimize(hooks::settings().per_piece()));
+    match worked {
+        Err(stop) => return writeln!(out, "{stop}{}", asked.count(0)),
+        Ok(None) => write!(out, "unchanged {}", hooks::pairs())?,
+        Ok(Some(_)) => {
+            if let Some(Ending::Chain { score, pieces, .. }) =
+                hooks::runs().first().map(|r| &r.ending)
+            {
+                write!(
+                    out,
+                    "ok {} {} {}",
+                    hooks::pairs(),
+                    Bits(*score),
+                    pieces.len()
+                )?;
+                show_pieces(pieces, asked, out)?
+            }
+        }
+    }
+    writeln!(out, "{}", asked.count(hooks::fallen()))
 }
 
 fn corners(points: &[GlyfPoint], out: &mut impl Write) -> io::Result<()> {
@@ -351,10 +401,15 @@ fn straight(from: Point, to: Point) -> QuadBez {
 
 // ---- runs by themselves: the Rust chooses them, each is then surveyed whatever the others do
 
-fn surveys(points: &[GlyfPoint], mode: Mode, out: &mut impl Write) -> io::Result<()> {
+/// The runs that the Rust chooses, none of them worked.
+fn listed(points: &[GlyfPoint]) -> Vec<Run> {
     hooks::start(Keep::Curves);
     crunch_contour(glyf_contour_to_kurbo_contour(points));
-    let runs = hooks::runs();
+    hooks::runs()
+}
+
+fn surveys(points: &[GlyfPoint], mode: Mode, out: &mut impl Write) -> io::Result<()> {
+    let runs = listed(points);
     hooks::start(Keep::Nothing);
     writeln!(out, "contour")?;
     for run in runs {

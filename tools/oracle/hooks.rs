@@ -73,11 +73,18 @@ pub struct Piece {
     pub start: usize,
     pub end: usize,
     pub control: Point,
+    /// of its start break and of its end break
+    pub segments: [usize; 2],
 }
 
 pub struct Run {
     pub number: usize,
+    /// its first segment, of so many of the contour
+    pub first: usize,
+    pub of: usize,
     pub quads: Vec<QuadBez>,
+    /// of each break: the contour's segment that holds its length
+    pub segments: Vec<usize>,
     pub samples: usize,
     pub length: f64,
     pub breaks: usize,
@@ -101,6 +108,8 @@ thread_local! {
     static FALLEN: Cell<u64> = const { Cell::new(0) };
     static KEEP: Cell<Keep> = const { Cell::new(Keep::Nothing) };
     static RUNS: RefCell<Vec<Run>> = const { RefCell::new(Vec::new()) };
+    /// the running length after each quad of the last sampling
+    static ENDS: RefCell<Vec<f64>> = const { RefCell::new(Vec::new()) };
 }
 
 /// A new contour: forgets the one before, which may have stopped half way.
@@ -167,11 +176,13 @@ pub fn fell() {
     FALLEN.with(|f| f.set(f.get() + 1))
 }
 
-fn add(number: usize, quads: &[QuadBez], ending: Ending) {
-    let quads = quads.to_vec();
+fn add(number: usize, first: usize, of: usize, quads: &[QuadBez], ending: Ending) {
     let run = Run {
         number,
-        quads,
+        first,
+        of,
+        quads: quads.to_vec(),
+        segments: vec![],
         samples: 0,
         length: 0.0,
         breaks: 0,
@@ -189,18 +200,36 @@ fn last(change: impl FnOnce(&mut Run)) {
 }
 
 /// A run is about to be sampled; true if it is to be passed over.
-pub fn begin(number: usize, quads: &[QuadBez]) -> bool {
+pub fn begin(number: usize, first: usize, of: usize, quads: &[QuadBez]) -> bool {
     let keep = KEEP.with(|k| k.get());
     if keep != Keep::Nothing {
-        add(number, quads, Ending::Open);
+        add(number, first, of, quads, Ending::Open);
     }
     keep == Keep::Curves
 }
 
 pub fn copied(number: usize) {
     if KEEP.with(|k| k.get()) != Keep::Nothing {
-        add(number, &[], Ending::Copied)
+        add(number, 0, 0, &[], Ending::Copied)
     }
+}
+
+pub fn sampling() {
+    ENDS.with(|e| e.borrow_mut().clear())
+}
+
+pub fn quad_ended(length: f64) {
+    ENDS.with(|e| e.borrow_mut().push(length))
+}
+
+/// The place in the run of the segment that holds a length: the first whose end is not before it. A NaN is in the
+/// first, a length past the end in the last.
+fn holding(ends: &[f64], length: f64) -> usize {
+    if length.is_nan() {
+        return 0;
+    }
+    let found = ends.iter().position(|end| *end >= length);
+    found.unwrap_or(ends.len() - 1)
 }
 
 pub fn sampled(curve: &Thetas) {
@@ -211,7 +240,14 @@ pub fn sampled(curve: &Thetas) {
 }
 
 pub fn broken(breaks: &[Break]) {
-    last(|run| run.breaks = breaks.len())
+    last(|run| {
+        run.breaks = breaks.len();
+        run.segments = ENDS.with(|ends| {
+            let ends = ends.borrow();
+            let place = |b: &Break| (run.first + holding(&ends, b.s)) % run.of;
+            breaks.iter().map(place).collect()
+        })
+    })
 }
 
 pub fn unchanged() {
@@ -221,7 +257,7 @@ pub fn unchanged() {
 /// The last break's answer, before the Rust walks it back to its quads.
 pub fn chained(curve: &Thetas, breaks: &[Break], answer: &Statelet) {
     last(|run| {
-        let pieces = pieces(answer);
+        let pieces = pieces(answer, &run.segments);
         let ending = Ending::Chain {
             score: answer.score,
             fallen: fallen_along(curve, breaks, &pieces),
@@ -249,7 +285,7 @@ fn fallen_along(curve: &Thetas, breaks: &[Break], pieces: &[Piece]) -> u64 {
     FALLEN.with(|f| f.replace(before)) - before
 }
 
-fn pieces(answer: &Statelet) -> Vec<Piece> {
+fn pieces(answer: &Statelet, segments: &[usize]) -> Vec<Piece> {
     let mut pieces = vec![];
     let mut at = Some(answer);
     while let Some(one) = at {
@@ -257,6 +293,7 @@ fn pieces(answer: &Statelet) -> Vec<Piece> {
             start: one.from,
             end: one.to,
             control: one.quad.p1,
+            segments: [segments[one.from], segments[one.to]],
         });
         at = one.prev.as_deref();
     }
