@@ -11,7 +11,7 @@ CRATE_PENALTY = 16
 
 CHOICES = ("--whole-units", "--closed")
 
-HELP = """SETTINGS  given to both sides:
+HELP = """SETTINGS  given to whatever is run:
   --penalty N    of a piece, in sixteenths; the Rust's own, 16, by default
   --whole-units  breaks on whole units
   --closed       closed mode"""
