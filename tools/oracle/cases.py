@@ -264,6 +264,25 @@ LINES = [
             " 1500 1821 4050000000000000 4000000000000000 1 1 fallen 4"
         ],
     ),
+    # one piece that no optimiser takes, of which one stage falls
+    (
+        f"--bent --fallen {HIGH}",
+        FELL,
+        [
+            "contour",
+            "run 0 score 40891b566b74f7c1 chain 1 0 1821 4056800000000000 0000000000000000 fallen 2",
+            "run 1 copied fallen 0",
+        ],
+    ),
+    ("--bent --fallen", "0 0 1 -898 0 0 -855 -1 1 -533 -320 1", ["contour", "run 0 refused 8 fallen 0", "run 1 copied fallen 0"]),
+    # the optimiser's own where it takes one bent piece
+    (
+        "--bent --closed",
+        "0 0 1 100 0 1 50 100 0",
+        ["contour", "run 0 copied", "run 1 score 400092556624e564 chain 1 0 365 4049000000000000 4059000000000000"],
+    ),
+    # straight, so that no lines cross
+    ("--bent", "0 0 1 1 0 1 3 0 1 1 9 1", ["contour", "run 0 none", "run 1 copied"]),
     ("--measures 2", "7 9 128", ["refused 4"]),
     (
         "--measures 2",

@@ -5,7 +5,8 @@
 use super::fonttools::tables::glyf::contourutils::glyf_contour_to_kurbo_contour;
 use super::fonttools::tables::glyf::{Glyph, Point as GlyfPoint};
 use super::hooks::{self, Ending, Keep, Piece, Refused, Run, Settings};
-use super::{crunch_contour, crunch_glyph, intersect, segment_sp, Break, QBMonkeyPatch, Thetas};
+use super::{crunch_contour, crunch_glyph, intersect, segment_sp};
+use super::{Break, QBMonkeyPatch, Statelet, Thetas};
 use kurbo::{PathSeg, Point, QuadBez};
 use std::cell::RefCell;
 use std::io::{self, BufRead, Write};
@@ -20,6 +21,7 @@ enum Mode {
     Crunch,
     Runs,
     Chain(usize),
+    Bent,
     Corners,
     Breaks,
     Samples,
@@ -76,6 +78,7 @@ fn options(mut args: impl Iterator<Item = String>) -> Result<Asked, String> {
             "--closed" => asked.settings.closed = true,
             "--runs" => asked.choose(Mode::Runs)?,
             "--chain" => asked.choose(Mode::Chain(count(&arg, args.next())? as usize))?,
+            "--bent" => asked.choose(Mode::Bent)?,
             "--corners" => asked.choose(Mode::Corners)?,
             "--breaks" => asked.choose(Mode::Breaks)?,
             "--samples" => asked.choose(Mode::Samples)?,
@@ -108,7 +111,7 @@ impl Asked {
     }
 
     fn works_runs(&self) -> bool {
-        matches!(self.mode, Mode::Crunch) || self.shows_chains()
+        matches!(self.mode, Mode::Crunch | Mode::Bent) || self.shows_chains()
     }
 
     fn shows_chains(&self) -> bool {
@@ -271,6 +274,7 @@ fn answer(points: Vec<GlyfPoint>, asked: &Asked, out: &mut impl Write) -> io::Re
         Mode::Crunch => crunch(points, Keep::Nothing, asked, out),
         Mode::Runs => crunch(points, Keep::Runs, asked, out),
         Mode::Chain(number) => chain(&points, number, asked, out),
+        Mode::Bent => bent_pieces(&points, asked, out),
         Mode::Corners => corners(&points, out),
         Mode::Breaks | Mode::Samples | Mode::Measures(_) => surveys(&points, asked.mode, out),
     }
@@ -375,6 +379,51 @@ fn chain(
         }
     }
     writeln!(out, "{}", asked.count(hooks::fallen()))
+}
+
+/// Of each run the chain of one piece that is bent, whatever the optimiser finds.
+fn bent_pieces(points: &[GlyfPoint], asked: &Asked, out: &mut impl Write) -> io::Result<()> {
+    let runs = listed(points);
+    writeln!(out, "contour")?;
+    for run in runs {
+        write!(out, "run {}", run.number)?;
+        if let Ending::Copied = run.ending {
+            writeln!(out, " copied{}", asked.count(0))?;
+            continue;
+        }
+        hooks::start(Keep::Nothing);
+        match guarded(|| bent_piece(&run.quads)) {
+            Err(stop) => writeln!(out, " {stop}{}", asked.count(0))?,
+            Ok(None) => writeln!(out, " none{}", asked.count(0))?,
+            Ok(Some(piece)) => {
+                write!(out, " score {} chain 1", Bits(piece.score))?;
+                let control = piece.quad.p1;
+                write!(out, " {} {}", piece.from, piece.to)?;
+                write!(out, " {} {}", Bits(control.x), Bits(control.y))?;
+                writeln!(out, "{}", asked.count(hooks::fallen()))?
+            }
+        }
+    }
+    Ok(())
+}
+
+/// The bent piece from the first break to the last, scored by the Rust as a run's first piece.
+fn bent_piece(quads: &[QuadBez]) -> Option<Statelet> {
+    let curve = Thetas::new(quads);
+    let breaks = curve.find_breaks()?;
+    let (first, last) = (breaks.first()?, breaks.last()?);
+    let control = intersect(first.xy, first.dir, last.xy, last.dir)?;
+    let quad = QuadBez::new(first.xy, control.round(), last.xy);
+    let mut piece = Statelet {
+        from: 0,
+        to: breaks.len() - 1,
+        prev: None,
+        score: 0.0,
+        quad,
+    };
+    let measure = curve.measure_quad(first.s, last.s, &quad);
+    piece.combine(None, measure, quad, hooks::settings().per_piece());
+    Some(piece)
 }
 
 fn corners(points: &[GlyfPoint], out: &mut impl Write) -> io::Result<()> {
