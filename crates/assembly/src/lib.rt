@@ -265,7 +265,7 @@ fn crunch_round(
     close_up(c, points, s)
 }
 
-// The points of a contour that none of refusals 1 to 5 is given for, in the scratch row.
+// The points of a contour that none of refusals 1 to 5 and 16 is given for, in the scratch row.
 pub fn crunch_points(
     xs: &[i16],
     ys: &[i16],

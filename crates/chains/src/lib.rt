@@ -108,7 +108,7 @@ fn chain_run(
     put_worked(worked, answers, links, starts, ends, cxs, cys)
 }
 
-// Run k of a contour that none of refusals 1 to 5 is given for.
+// Run k of a contour that none of refusals 1 to 5 and 16 is given for.
 fn chain_fine(
     xs: &[i16],
     ys: &[i16],

@@ -53,7 +53,7 @@ ofRun half settings c sampleRow breakRow xs ys fs Nothing = Verdict.Refused 10
 ofRun half settings c sampleRow breakRow xs ys fs (Between first count) =
     ofSurvey half (penaltyOf settings) c (surveyOf sampleRow breakRow xs ys fs first count (gridOf settings))
 
--- refusals 1 to 5 first
+-- refusals 1 to 5, and then 16, first
 abbrev pub afterJudging : Judged → D.Verdict → D.Verdict
 afterJudging (Judged.Refused k) v = Verdict.Refused k
 afterJudging Judged.Fine v = v

@@ -107,7 +107,7 @@ fn check_run(
     }
 }
 
-// Run k of a contour that none of refusals 1 to 5 is given for.
+// Run k of a contour that none of refusals 1 to 5 and 16 is given for.
 fn check_fine(
     xs: &[i16],
     ys: &[i16],

@@ -35,7 +35,7 @@ module _ (closed : Bool) where
   outcomeOf room (State.ended ps pairs) = written room ps pairs
   outcomeOf room (State.going ps pairs) = written room ps pairs
 
--- ---- the whole: refusals 1 to 5 first
+-- ---- the whole: refusals 1 to 5, and then 16, first
 
 abbrev pub afterJudging : Judged → Outcome → Outcome
 afterJudging (Judged.Refused k) o = refused k
