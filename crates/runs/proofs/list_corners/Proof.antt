@@ -25,9 +25,10 @@ returns : tie.Need-returns
 unfolding cornerList
 returns c =
     let listed = c .before .before .list-marks .ensures in
-    let marks = c .before .before .before .before .before .before .segment-sp in
-    (rw (← marks .ensures .0) (listed .0),
-    (omega (arith, listed .1, marks .kept .1 .1 .1 .0), λ some. omega (arith, first-low _ (listed .0) some, marks .kept .1 .1 .1 .0)))
+    let marks = c .before .before .before .before .before .before .segment-sp in (
+      rw (← marks .ensures .0) (listed .0),
+      (omega (arith, listed .1, marks .kept .1 .1 .1 .0), λ some. omega (arith, first-low _ (listed .0) some, marks .kept .1 .1 .1 .0)),
+    )
 
 pub list-corners-spec : {M : Type 1} → statement M
 list-corners-spec =
