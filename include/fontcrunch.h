@@ -43,13 +43,19 @@
  * `whole_units` is 0 where breaks are rounded to half units, as the Rust rounds them. Any other number has them
  * rounded to whole units, for engines that misdraw implied points on half ones.
  *
+ * `closed` is 0 for the crate's mode, that of the Rust, and any other number for closed mode, in which nothing is
+ * lost: what lies before the first corner and after the last is a run too.
+ *
  *
  * RUNS, BREAKS, CHAINS
  *
- * Corners cut a contour into runs, numbered from 0: run k lies between corners k and k + 1. What lies before
- * the first corner and after the last is in no run and is not written. A run that is a single line is copied.
- * Any other is worked: places along it, rounded to half or whole units, are its breaks, numbered from 0, and
- * pieces are sought that lead from the first break to the last.
+ * Corners cut a contour into runs, numbered from 0: run k lies between corners k and k + 1. In the crate's mode
+ * what lies before the first corner and after the last is in no run and is not written. In closed mode it is the
+ * last run, which goes round from the last corner to the first: m corners make m runs, one corner a run all
+ * round, and a contour with no corner is left unchanged.
+ *
+ * A run that is a single line is copied. Any other is worked: places along it, rounded to half or whole units,
+ * are its breaks, numbered from 0, and pieces are sought that lead from the first break to the last.
  *
  * A chain is the pieces of one run, in order: each piece's start and end break numbers and its control point.
  * Its score says how far the pieces are from the run, with the penalty for each. Scores and controls are
@@ -124,8 +130,8 @@ enum {
     /* a sample is asked for at the last stored place, where the Rust that this follows would stop */
     FONTCRUNCH_PAST_LAST_SAMPLE = 8,
     /* fontcrunch_crunch: the points, counted before implied ones are dropped, are more than the shortest of
-       ox, oy, of and points has places. fontcrunch_chain: the pieces are more than the shortest of starts,
-       ends, cxs and cys has places */
+       ox, oy, of and points has places; in closed mode the end that is not written does not count.
+       fontcrunch_chain: the pieces are more than the shortest of starts, ends, cxs and cys has places */
     FONTCRUNCH_OUTPUT_TOO_SHORT = 9,
     /* fontcrunch_chain and fontcrunch_check: there is no such run, or it is one copied line */
     FONTCRUNCH_NO_SUCH_RUN = 10,
@@ -211,17 +217,20 @@ typedef struct WhyReport {
 
 /*
  * Crunches a contour. Its points are written to the first places of ox, oy and of, and no other place of
- * these rows is touched. The points come out in reverse order, with implied points dropped. A refusal writes
- * no point.
+ * these rows is touched. Implied points are dropped. A refusal writes no point.
  *
- * A run for which no chain is found leaves the whole contour unchanged: then its own points come out,
- * reversed, with the start at both ends. That is no refusal.
+ * In the crate's mode the points come out in reverse order. In closed mode they come out in order, from the first
+ * corner on; this start is not written again at the end, but stands for the end of the last piece, wherever that
+ * break was rounded to. It is dropped itself where it is implied.
+ *
+ * A run for which no chain is found leaves the whole contour unchanged: then its own points come out, in the
+ * crate's mode reversed and with the start at both ends, in closed mode as they stand. That is no refusal.
  */
 CrunchReport fontcrunch_crunch(
     const int16_t *xs, size_t xs_len,
     const int16_t *ys, size_t ys_len,
     const uint8_t *flags, size_t flags_len,
-    uint32_t penalty, uint32_t whole_units,
+    uint32_t penalty, uint32_t whole_units, uint32_t closed,
     int16_t *ox, size_t ox_len,
     int16_t *oy, size_t oy_len,
     uint8_t *of, size_t of_len,
@@ -241,7 +250,7 @@ ChainReport fontcrunch_chain(
     const int16_t *xs, size_t xs_len,
     const int16_t *ys, size_t ys_len,
     const uint8_t *flags, size_t flags_len,
-    size_t k, uint32_t penalty, uint32_t whole_units,
+    size_t k, uint32_t penalty, uint32_t whole_units, uint32_t closed,
     uint32_t *starts, size_t starts_len,
     uint32_t *ends, size_t ends_len,
     double *cxs, size_t cxs_len,
@@ -262,7 +271,7 @@ CheckReport fontcrunch_check(
     const int16_t *xs, size_t xs_len,
     const int16_t *ys, size_t ys_len,
     const uint8_t *flags, size_t flags_len,
-    size_t k, uint32_t penalty, uint32_t whole_units,
+    size_t k, uint32_t penalty, uint32_t whole_units, uint32_t closed,
     const uint32_t *starts, size_t starts_len,
     const uint32_t *ends, size_t ends_len,
     const double *cxs, size_t cxs_len,

@@ -9,11 +9,15 @@ import argparse
 # the Rust's penalty 1.0, in sixteenths
 CRATE_PENALTY = 16
 
-CHOICES = ("--whole-units",)
+CHOICES = ("--whole-units", "--closed")
 
-HELP = """SETTINGS  given to both sides:
+HELP = """SETTINGS  given to whatever is run:
   --penalty N    of a piece, in sixteenths; the Rust's own, 16, by default
-  --whole-units  breaks on whole units"""
+  --whole-units  breaks on whole units
+  --closed       closed mode"""
+
+FALLEN = """
+  --fallen       each answer ends with the lookups that fell past the samples"""
 
 
 def add(parser):
@@ -22,13 +26,19 @@ def add(parser):
         parser.add_argument(word, action="store_true", help=argparse.SUPPRESS)
 
 
+def add_fallen(parser):
+    """For tools that compare whole answers: both sides then end each with the lookups that fell."""
+    parser.add_argument("--fallen", action="store_true", help=argparse.SUPPRESS)
+
+
 def chosen(options, word):
     return getattr(options, word[2:].replace("-", "_"))
 
 
 def words(options):
     choices = [word for word in CHOICES if chosen(options, word)]
-    return ["--penalty", str(options.penalty), *choices]
+    counted = ["--fallen"] if getattr(options, "fallen", False) else []
+    return ["--penalty", str(options.penalty), *choices, *counted]
 
 
 def number(options):

@@ -15,8 +15,9 @@
 
 enum { IN = FONTCRUNCH_POINTS_IN, OUT = FONTCRUNCH_POINTS_OUT, PIECES = FONTCRUNCH_PIECES };
 
-/* By its name, and not by the default: these are the points that the Rust gives. It has breaks on half units. */
-enum { PENALTY = FONTCRUNCH_CRATE_PENALTY, WHOLE_UNITS = 0 };
+/* By its name, and not by the default: these are the points that the Rust gives. It has breaks on half
+   units, and does not write what lies outside the corners. */
+enum { PENALTY = FONTCRUNCH_CRATE_PENALTY, WHOLE_UNITS = 0, CLOSED = 0 };
 
 /* A line takes at most 64 KiB, and is followed by its end. */
 enum { LINE = 65536 + 2 };
@@ -73,7 +74,7 @@ static bool read_contour(char *line)
 static CrunchReport crunch(void)
 {
     return fontcrunch_crunch(
-        contour.xs, contour.n, contour.ys, contour.n, contour.flags, contour.n, PENALTY, WHOLE_UNITS,
+        contour.xs, contour.n, contour.ys, contour.n, contour.flags, contour.n, PENALTY, WHOLE_UNITS, CLOSED,
         crunched.xs, OUT, crunched.ys, OUT, crunched.flags, OUT,
         samples, FONTCRUNCH_SAMPLES, breaks, FONTCRUNCH_BREAKS,
         answers, FONTCRUNCH_ANSWERS, links, FONTCRUNCH_ANSWERS, points, OUT);
@@ -82,7 +83,7 @@ static CrunchReport crunch(void)
 static ChainReport chain_of_run(size_t k)
 {
     return fontcrunch_chain(
-        contour.xs, contour.n, contour.ys, contour.n, contour.flags, contour.n, k, PENALTY, WHOLE_UNITS,
+        contour.xs, contour.n, contour.ys, contour.n, contour.flags, contour.n, k, PENALTY, WHOLE_UNITS, CLOSED,
         chain.starts, PIECES, chain.ends, PIECES, chain.cxs, PIECES, chain.cys, PIECES,
         samples, FONTCRUNCH_SAMPLES, breaks, FONTCRUNCH_BREAKS,
         answers, FONTCRUNCH_ANSWERS, links, FONTCRUNCH_ANSWERS);
@@ -91,7 +92,7 @@ static ChainReport chain_of_run(size_t k)
 static CheckReport check_of_run(size_t k, size_t pieces, double score)
 {
     return fontcrunch_check(
-        contour.xs, contour.n, contour.ys, contour.n, contour.flags, contour.n, k, PENALTY, WHOLE_UNITS,
+        contour.xs, contour.n, contour.ys, contour.n, contour.flags, contour.n, k, PENALTY, WHOLE_UNITS, CLOSED,
         chain.starts, pieces, chain.ends, pieces, chain.cxs, pieces, chain.cys, pieces, score,
         samples, FONTCRUNCH_SAMPLES, breaks, FONTCRUNCH_BREAKS,
         answers, FONTCRUNCH_ANSWERS, links, FONTCRUNCH_ANSWERS);

@@ -276,6 +276,44 @@ def late_small(rng):
     return kept(contour)
 
 
+# Steps to the control and on to the end of curves whose measure falls past the samples without being refused: after a line of one
+# unit the first break alone has a direction of its own, so that only pieces from there overshoot, and by more than is stored.
+FALLING = [
+    (1937, -4, -146, 11),
+    (1866, -2, -125, 7),
+    (1850, -4, -154, 9),
+    (2078, -1, -130, 6),
+    (1997, -3, -167, 6),
+    (2029, -4, -145, 12),
+    (2121, -4, -177, 9),
+    (2089, -4, -139, 13),
+    (1806, -2, -139, 5),
+    (1961, -1, -115, 5),
+    (2148, -1, -134, 3),
+    (2016, -1, -168, 2),
+]
+
+
+@family("fallen", 0, "on whole units: runs of about 1,800 units whose lookups fall past the samples, most of them with no refusal")
+def fallen(rng):
+    dx, dy, back_x, back_y = rng.choice(FALLING)
+    if rng.randrange(4) == 0:
+        # near one that falls: most are refused by 8 or have none that fall
+        dx, back_x = dx + rng.randint(-9, 9), back_x + rng.randint(-9, 9)
+    control = 1 + dx, dy
+    end = control[0] + back_x, control[1] + back_y
+    contour = [on(0, 0), on(1, 0), off(*control), on(*end), on(0, rng.randrange(-1500, -300))]
+    # the samples fall to (0, 0), so an end near there costs little
+    contour = moved(contour, -end[0], -end[1])
+    if rng.randrange(4) == 0:
+        # across the start: only closed mode works this run
+        contour = contour[3:] + contour[:3]
+    if rng.randrange(2):
+        contour = [(y, x, f) for x, y, f in contour]
+    side_x, side_y = rng.choice([1, -1]), rng.choice([1, -1])
+    return moved([(x * side_x, y * side_y, f) for x, y, f in contour], *near(rng, rng.choice([3, 9, 30])))
+
+
 # ---- smooth curves
 
 

@@ -105,7 +105,7 @@ static uint32_t choice(void) { return below(2) ? 0 : (uint32_t)any(); }
 static void crunch(Row in[3]) {
     Row out[3] = {row(length(60), 2), row(length(60), 2), row(length(60), 1)}, work[4], points = row(length(60), 6);
     scratch(work);
-    CrunchReport r = fontcrunch_crunch(IN(in), penalty(), choice(), out[0].at, out[0].places, out[1].at, out[1].places, out[2].at,
+    CrunchReport r = fontcrunch_crunch(IN(in), penalty(), choice(), choice(), out[0].at, out[0].places, out[1].at, out[1].places, out[2].at,
                                        out[2].places, WORK(work), points.at, points.places);
     demand(r.number <= 9 || r.number == 16, "a number of the documents");
     demand(r.number == 0 || (r.points == 0 && r.pairs == 0), "a refusal reports no point and no pair");
@@ -117,9 +117,9 @@ static void crunch(Row in[3]) {
 
 static void chain(Row in[3], size_t run) {
     Row rows[4] = {row(length(20), 4), row(length(20), 4), row(length(20), 8), row(length(20), 8)}, work[4];
-    uint32_t cost = penalty(), whole_units = choice();
+    uint32_t cost = penalty(), whole_units = choice(), closed = choice();
     scratch(work);
-    ChainReport r = fontcrunch_chain(IN(in), run, cost, whole_units, WORK(rows), WORK(work));
+    ChainReport r = fontcrunch_chain(IN(in), run, cost, whole_units, closed, WORK(rows), WORK(work));
     demand(r.number <= 10 || r.number == 16, "a number of the documents");
     demand(r.number == 0 || (r.pieces == 0 && r.pairs == 0 && r.score_bits == 0), "a refusal reports nothing else");
     for (int i = 0; i < 4; i++) demand(kept(rows[i], r.pieces), "places beyond the pieces stay");
@@ -132,7 +132,7 @@ static void chain(Row in[3], size_t run) {
     }
     for (int i = 0; i < 4; i++)
         for (size_t k = 0; k < work[i].places * work[i].size; k++) ((uint8_t *)work[i].at)[k] = (uint8_t)any();
-    CheckReport v = fontcrunch_check(IN(in), run, cost, whole_units, WORK(given), fontcrunch_score(r), WORK(work));
+    CheckReport v = fontcrunch_check(IN(in), run, cost, whole_units, closed, WORK(given), fontcrunch_score(r), WORK(work));
     demand(r.pieces == 0 || (v.number == 0 && v.accepted == 1), "a chain is accepted");
     demand(v.number == 0 || v.accepted == 0, "a refusal accepts nothing");
     cleared(work);

@@ -54,6 +54,9 @@ ROOMS = [
     before("pairs tried", "if is_int(bk0.xy.x) && is_int(bk0.xy.y) {", "hooks::pair();"),
 ]
 
+# Both lookups, of a place and of a direction, quietly give this past the end of the samples.
+FALLS = [Edit("lookups that fall", "return Point::ZERO;", "hooks::fell(); return Point::ZERO;", 2)]
+
 # An answer remembers its two break numbers, which its quad does not give away.
 RECORDS = [
     after("numbers in an answer", "struct Statelet {", "from: usize, to: usize,"),
@@ -62,13 +65,15 @@ RECORDS = [
     one(
         "start of a run",
         "let thetas = Thetas::new(&quadbezes);",
-        "if hooks::begin(ix1, &quadbezes) { continue; }"
+        "if hooks::begin(ix1, bk0, segs.len(), &quadbezes) { continue; }"
         " let thetas = Thetas::new(&quadbezes); hooks::sampled(&thetas);",
     ),
     before("copied line", "match segs[bk0] {", "hooks::copied(ix1);"),
+    after("start of the samples", "let mut arclen = 0_f64;", "hooks::sampling();"),
+    after("end of a quad's steps", "arclen = y[0]", "; hooks::quad_ended(arclen);"),
     after("breaks of a run", "let breaks = self.find_breaks()?;", "hooks::broken(&breaks);"),
     after("unchanged run", "if new_quads.is_none() {", "hooks::unchanged();"),
-    after("chain of a run", "let mut sl: &Statelet = states[n].sts.as_ref().as_ref().unwrap();", "hooks::chained(sl);"),
+    after("chain of a run", "let mut sl: &Statelet = states[n].sts.as_ref().as_ref().unwrap();", "hooks::chained(self, &breaks, sl);"),
 ]
 
 # What a caller chooses; without a word each is as the Rust has it.
@@ -77,6 +82,40 @@ SETTINGS = [
     one("half units as a constant", "const HALF_STEP: bool = true;", ""),
     # once the constant is gone its name stands where it is read, and nowhere else
     one("half units where they are read", "HALF_STEP", "hooks::settings().half_step()"),
+]
+
+# Closed mode: the closing run, which the Rust leaves as a comment, is put back, and the points are written from the first
+# corner in the input's order, without the last piece's end.
+CLOSED = [
+    one(
+        "runs to go round",
+        "let indices: Vec<usize> = (0..breaks.len()).collect();",
+        "if hooks::settings().closed && breaks.is_empty() { return kurbo; }"
+        " let mut indices: Vec<usize> = (0..breaks.len()).collect();",
+    ),
+    one(
+        "start of the contour",
+        "new_kurbo.push(kurbo.elements()[0]);",
+        "new_kurbo.push(hooks::start_at(&segs, &breaks).unwrap_or(kurbo.elements()[0]));",
+    ),
+    one("closing run", "// indices.push(0);", "if hooks::settings().closed { indices.push(0); }"),
+    one("segments of a run", "segs[bk0..bk1]", "hooks::between(&segs, bk0, bk1)"),
+    before(
+        "order of the points",
+        "remove_implied_oncurves(&mut new);",
+        "if hooks::settings().closed { new.reverse(); new.pop(); }",
+    ),
+]
+
+# The standard's rule for an implied point in closed mode, the Rust's own in the crate's.
+STANDARD = [
+    one(
+        f"implied in {c}",
+        f"this.{c} != (prev.{c} + next.{c}) / 2",
+        f"(if crate::hooks::settings().closed {{ 2 * this.{c} as i32 != prev.{c} as i32 + next.{c} as i32 }}"
+        f" else {{ this.{c} != (prev.{c} + next.{c}) / 2 }})",
+    )
+    for c in "xy"
 ]
 
 ROOTS = [
@@ -91,6 +130,10 @@ ROOTS = [
 IMPLIED = [one("explicit points left out", "insert_explicit_oncurves(&mut contour);", "")]
 
 WORDS = [one("name of 16 bits", "use otspec::types::*;", "#[allow(non_camel_case_types)] type int16 = i16;")]
+
+IN_FONTCRUNCH = IMPORTS + ROOMS + FALLS + RECORDS + SETTINGS + CLOSED
+IN_CONTOURUTILS = IMPLIED + STANDARD
+ALL = IN_FONTCRUNCH + ROOTS + IN_CONTOURUTILS + WORDS
 
 
 def apply(text, edits, where):
@@ -112,9 +155,9 @@ def cut(text):
 
 def edited(read, roots):
     """The three edited files by name; `read` gives a published file's text."""
-    edits = IMPORTS + ROOMS + RECORDS + SETTINGS + (ROOTS if roots else [])
+    edits = IN_FONTCRUNCH + (ROOTS if roots else [])
     return {
         "main.rs": apply(cut(read(FONTCRUNCH)), edits, FONTCRUNCH),
-        "fonttools/tables/glyf/contourutils.rs": apply(read(CONTOURUTILS), IMPLIED, CONTOURUTILS),
+        "fonttools/tables/glyf/contourutils.rs": apply(read(CONTOURUTILS), IN_CONTOURUTILS, CONTOURUTILS),
         "fonttools/tables/glyf/point.rs": apply(read(POINT), WORDS, POINT),
     }

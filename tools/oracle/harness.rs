@@ -4,8 +4,9 @@
 
 use super::fonttools::tables::glyf::contourutils::glyf_contour_to_kurbo_contour;
 use super::fonttools::tables::glyf::{Glyph, Point as GlyfPoint};
-use super::hooks::{self, Ending, Keep, Refused, Run, Settings};
-use super::{crunch_contour, crunch_glyph, intersect, segment_sp, Break, QBMonkeyPatch, Thetas};
+use super::hooks::{self, Ending, Keep, Piece, Refused, Run, Settings};
+use super::{crunch_contour, crunch_glyph, intersect, segment_sp};
+use super::{Break, QBMonkeyPatch, Statelet, Thetas};
 use kurbo::{PathSeg, Point, QuadBez};
 use std::cell::RefCell;
 use std::io::{self, BufRead, Write};
@@ -19,6 +20,8 @@ enum Mode {
     #[default]
     Crunch,
     Runs,
+    Chain(usize),
+    Bent,
     Corners,
     Breaks,
     Samples,
@@ -30,6 +33,10 @@ enum Mode {
 struct Asked {
     mode: Mode,
     timed: bool,
+    /// the count of lookups that fell, at the end of each answer
+    fallen: bool,
+    /// the segments of each piece's breaks
+    segments: bool,
     settings: Settings,
 }
 
@@ -43,7 +50,7 @@ pub fn main() {
     };
     hooks::choose(asked.settings);
     watch_panics();
-    match serve(asked.mode) {
+    match serve(&asked) {
         Ok(spent) if asked.timed => eprintln!("{:.6}", spent.as_secs_f64()),
         Ok(_) => {}
         // a reader that has seen enough is no fault of ours
@@ -64,15 +71,26 @@ fn options(mut args: impl Iterator<Item = String>) -> Result<Asked, String> {
                 std::process::exit(0)
             }
             "--time" => asked.timed = true,
+            "--fallen" => asked.fallen = true,
+            "--segments" => asked.segments = true,
             "--penalty" => asked.settings.penalty = count(&arg, args.next())?,
             "--whole-units" => asked.settings.whole_units = true,
+            "--closed" => asked.settings.closed = true,
             "--runs" => asked.choose(Mode::Runs)?,
+            "--chain" => asked.choose(Mode::Chain(count(&arg, args.next())? as usize))?,
+            "--bent" => asked.choose(Mode::Bent)?,
             "--corners" => asked.choose(Mode::Corners)?,
             "--breaks" => asked.choose(Mode::Breaks)?,
             "--samples" => asked.choose(Mode::Samples)?,
             "--measures" => asked.choose(Mode::Measures(count(&arg, args.next())? as usize))?,
             _ => return Err(format!("unknown option {arg}")),
         }
+    }
+    if asked.fallen && !asked.works_runs() {
+        return Err("--fallen is of modes that work runs".to_string());
+    }
+    if asked.segments && !asked.shows_chains() {
+        return Err("--segments is of --runs and --chain".to_string());
     }
     Ok(asked)
 }
@@ -91,10 +109,27 @@ impl Asked {
         self.mode = mode;
         Ok(())
     }
+
+    fn works_runs(&self) -> bool {
+        matches!(self.mode, Mode::Crunch | Mode::Bent) || self.shows_chains()
+    }
+
+    fn shows_chains(&self) -> bool {
+        matches!(self.mode, Mode::Runs | Mode::Chain(_))
+    }
+
+    /// The end of an answer, where it is asked for.
+    fn count(&self, fallen: u64) -> String {
+        if self.fallen {
+            format!(" fallen {fallen}")
+        } else {
+            String::new()
+        }
+    }
 }
 
 /// Answers every line; how long the work took, reading and parsing left out.
-fn serve(mode: Mode) -> io::Result<Duration> {
+fn serve(asked: &Asked) -> io::Result<Duration> {
     let mut input = io::BufReader::with_capacity(1 << 20, io::stdin().lock());
     let mut out = io::BufWriter::with_capacity(1 << 20, io::stdout().lock());
     let mut spent = Duration::ZERO;
@@ -103,10 +138,10 @@ fn serve(mode: Mode) -> io::Result<Duration> {
         match parse(&line) {
             None => writeln!(out, "malformed")?,
             Some(points) => match judge(&points) {
-                Some(number) => writeln!(out, "refused {number}")?,
+                Some(number) => writeln!(out, "refused {number}{}", asked.count(0))?,
                 None => {
                     let begun = Instant::now();
-                    answer(points, mode, &mut out)?;
+                    answer(points, asked, &mut out)?;
                     spent += begun.elapsed()
                 }
             },
@@ -234,16 +269,23 @@ impl std::fmt::Display for Bits {
     }
 }
 
-fn answer(points: Vec<GlyfPoint>, mode: Mode, out: &mut impl Write) -> io::Result<()> {
-    match mode {
-        Mode::Crunch => crunch(points, Keep::Nothing, out),
-        Mode::Runs => crunch(points, Keep::Runs, out),
+fn answer(points: Vec<GlyfPoint>, asked: &Asked, out: &mut impl Write) -> io::Result<()> {
+    match asked.mode {
+        Mode::Crunch => crunch(points, Keep::Nothing, asked, out),
+        Mode::Runs => crunch(points, Keep::Runs, asked, out),
+        Mode::Chain(number) => chain(&points, number, asked, out),
+        Mode::Bent => bent_pieces(&points, asked, out),
         Mode::Corners => corners(&points, out),
-        Mode::Breaks | Mode::Samples | Mode::Measures(_) => surveys(&points, mode, out),
+        Mode::Breaks | Mode::Samples | Mode::Measures(_) => surveys(&points, asked.mode, out),
     }
 }
 
-fn crunch(points: Vec<GlyfPoint>, keep: Keep, out: &mut impl Write) -> io::Result<()> {
+fn crunch(
+    points: Vec<GlyfPoint>,
+    keep: Keep,
+    asked: &Asked,
+    out: &mut impl Write,
+) -> io::Result<()> {
     hooks::start(keep);
     let glyph = Glyph {
         contours: vec![points],
@@ -255,42 +297,133 @@ fn crunch(points: Vec<GlyfPoint>, keep: Keep, out: &mut impl Write) -> io::Resul
             for p in &crunched.contours[0] {
                 write!(out, " {} {} {}", p.x, p.y, p.on_curve as u8)?
             }
+            writeln!(out, "{}", asked.count(hooks::fallen()))?
         }
-        Err(stop) => write!(out, "{stop}")?,
+        Err(stop) => writeln!(out, "{stop}{}", asked.count(0))?,
     }
-    writeln!(out)?;
     for run in hooks::runs() {
-        describe(&run, result.as_ref().err(), out)?
+        describe(&run, result.as_ref().err(), asked, out)?
     }
     Ok(())
 }
 
-fn describe(run: &Run, stop: Option<&Stop>, out: &mut impl Write) -> io::Result<()> {
+fn describe(run: &Run, stop: Option<&Stop>, asked: &Asked, out: &mut impl Write) -> io::Result<()> {
     write!(out, "run {}", run.number)?;
     match (&run.ending, stop) {
-        (Ending::Copied, _) => return writeln!(out, " copied"),
-        (Ending::Open, Some(stop)) => return writeln!(out, " {stop}"),
+        (Ending::Copied, _) => return writeln!(out, " copied{}", asked.count(0)),
+        (Ending::Open, Some(stop)) => return writeln!(out, " {stop}{}", asked.count(0)),
         _ => {}
     }
     write!(out, " samples {} length {}", run.samples, Bits(run.length))?;
     write!(out, " breaks {} pairs {}", run.breaks, run.pairs)?;
-    if let Ending::Chain { score, pieces } = &run.ending {
+    if let Ending::Chain {
+        score,
+        pieces,
+        fallen,
+    } = &run.ending
+    {
         write!(out, " score {} chain {}", Bits(*score), pieces.len())?;
-        for p in pieces {
-            let control = p.control;
-            write!(
-                out,
-                " {} {} {} {}",
-                p.start,
-                p.end,
-                Bits(control.x),
-                Bits(control.y)
-            )?
+        show_pieces(pieces, asked, out)?;
+        write!(out, "{}", asked.count(run.fallen))?;
+        if asked.fallen {
+            write!(out, " {fallen}")?
         }
         writeln!(out)
     } else {
-        writeln!(out, " unchanged")
+        writeln!(out, " unchanged{}", asked.count(run.fallen))
     }
+}
+
+fn show_pieces(pieces: &[Piece], asked: &Asked, out: &mut impl Write) -> io::Result<()> {
+    for p in pieces {
+        write!(out, " {} {}", p.start, p.end)?;
+        write!(out, " {} {}", Bits(p.control.x), Bits(p.control.y))?;
+        if asked.segments {
+            write!(out, " {} {}", p.segments[0], p.segments[1])?
+        }
+    }
+    Ok(())
+}
+
+/// One run alone, whatever the others do, as the command's `chain` gives it.
+fn chain(
+    points: &[GlyfPoint],
+    number: usize,
+    asked: &Asked,
+    out: &mut impl Write,
+) -> io::Result<()> {
+    let runs = listed(points);
+    let run = runs.iter().find(|run| run.number == number);
+    let Some(run) = run.filter(|run| !matches!(run.ending, Ending::Copied)) else {
+        return writeln!(out, "refused 10{}", asked.count(0));
+    };
+    hooks::start(Keep::Runs);
+    hooks::begin(run.number, run.first, run.of, &run.quads);
+    let worked = guarded(|| Thetas::new(&run.quads).optimize(hooks::settings().per_piece()));
+    match worked {
+        Err(stop) => return writeln!(out, "{stop}{}", asked.count(0)),
+        Ok(None) => write!(out, "unchanged {}", hooks::pairs())?,
+        Ok(Some(_)) => {
+            if let Some(Ending::Chain { score, pieces, .. }) =
+                hooks::runs().first().map(|r| &r.ending)
+            {
+                write!(
+                    out,
+                    "ok {} {} {}",
+                    hooks::pairs(),
+                    Bits(*score),
+                    pieces.len()
+                )?;
+                show_pieces(pieces, asked, out)?
+            }
+        }
+    }
+    writeln!(out, "{}", asked.count(hooks::fallen()))
+}
+
+/// Of each run the chain of one piece that is bent, whatever the optimiser finds.
+fn bent_pieces(points: &[GlyfPoint], asked: &Asked, out: &mut impl Write) -> io::Result<()> {
+    let runs = listed(points);
+    writeln!(out, "contour")?;
+    for run in runs {
+        write!(out, "run {}", run.number)?;
+        if let Ending::Copied = run.ending {
+            writeln!(out, " copied{}", asked.count(0))?;
+            continue;
+        }
+        hooks::start(Keep::Nothing);
+        match guarded(|| bent_piece(&run.quads)) {
+            Err(stop) => writeln!(out, " {stop}{}", asked.count(0))?,
+            Ok(None) => writeln!(out, " none{}", asked.count(0))?,
+            Ok(Some(piece)) => {
+                write!(out, " score {} chain 1", Bits(piece.score))?;
+                let control = piece.quad.p1;
+                write!(out, " {} {}", piece.from, piece.to)?;
+                write!(out, " {} {}", Bits(control.x), Bits(control.y))?;
+                writeln!(out, "{}", asked.count(hooks::fallen()))?
+            }
+        }
+    }
+    Ok(())
+}
+
+/// The bent piece from the first break to the last, scored by the Rust as a run's first piece.
+fn bent_piece(quads: &[QuadBez]) -> Option<Statelet> {
+    let curve = Thetas::new(quads);
+    let breaks = curve.find_breaks()?;
+    let (first, last) = (breaks.first()?, breaks.last()?);
+    let control = intersect(first.xy, first.dir, last.xy, last.dir)?;
+    let quad = QuadBez::new(first.xy, control.round(), last.xy);
+    let mut piece = Statelet {
+        from: 0,
+        to: breaks.len() - 1,
+        prev: None,
+        score: 0.0,
+        quad,
+    };
+    let measure = curve.measure_quad(first.s, last.s, &quad);
+    piece.combine(None, measure, quad, hooks::settings().per_piece());
+    Some(piece)
 }
 
 fn corners(points: &[GlyfPoint], out: &mut impl Write) -> io::Result<()> {
@@ -317,10 +450,15 @@ fn straight(from: Point, to: Point) -> QuadBez {
 
 // ---- runs by themselves: the Rust chooses them, each is then surveyed whatever the others do
 
-fn surveys(points: &[GlyfPoint], mode: Mode, out: &mut impl Write) -> io::Result<()> {
+/// The runs that the Rust chooses, none of them worked.
+fn listed(points: &[GlyfPoint]) -> Vec<Run> {
     hooks::start(Keep::Curves);
     crunch_contour(glyf_contour_to_kurbo_contour(points));
-    let runs = hooks::runs();
+    hooks::runs()
+}
+
+fn surveys(points: &[GlyfPoint], mode: Mode, out: &mut impl Write) -> io::Result<()> {
+    let runs = listed(points);
     hooks::start(Keep::Nothing);
     writeln!(out, "contour")?;
     for run in runs {

@@ -1,7 +1,7 @@
 //! Asks for chains, checks them, and checks copies that were damaged on purpose; `tools/chains/check`
 //! holds what this prints to the oracle.
 //!
-//! usage: chains [--penalty N] [--whole-units], by default as the Rust has it.
+//! usage: chains [--penalty N] [--whole-units] [--closed], by default as the Rust has it.
 //!
 //! Input: a run number and a contour on each line, `K x y f x y f ...`. Output, a line each:
 //! `refused N`, `pairs P unchanged`, or `pairs P score S chain C [START END CX CY]*C`, as the oracle
@@ -34,6 +34,7 @@ fn settings(mut words: impl Iterator<Item = String>) -> Settings {
         match word.as_str() {
             "--penalty" => settings.penalty = words.next().and_then(|n| n.parse().ok()).expect("a penalty"),
             "--whole-units" => settings.whole_units = true,
+            "--closed" => settings.closed = true,
             _ => panic!("there is no option {word}"),
         }
     }

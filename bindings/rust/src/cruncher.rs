@@ -35,7 +35,7 @@ impl Point {
 /// A crunched contour.
 #[derive(Clone, Debug, PartialEq, Eq)]
 pub struct Crunched {
-    /// Its points, in reverse order, with implied points dropped.
+    /// Its points, with implied points dropped: in reverse order, or in closed mode in order.
     pub points: Vec<Point>,
     /// How many pairs of breaks were tried, over all runs.
     pub pairs: usize,
@@ -100,7 +100,8 @@ impl Cruncher {
     /// Crunches a contour.
     ///
     /// A run for which no chain is found leaves the whole contour unchanged: then its own points come out,
-    /// reversed, with the start at both ends.
+    /// reversed, with the start at both ends. In closed mode they come out as they stand, and so do those of a
+    /// contour with no corner.
     pub fn crunch(&mut self, points: &[Point]) -> Result<Crunched, Refusal> {
         self.take_contour(points);
         let report = entries::crunch(&self.contour, self.settings, &mut self.output, &mut self.scratch);

@@ -22,17 +22,18 @@
 //!
 //! # Settings
 //!
-//! A [`Cruncher`] is made with [`Settings`]: the penalty of a piece, by default 2.0, and whether breaks are on half
-//! units, as by default, or on whole ones. [`Settings::of_crate`] has those of the Rust which this follows: a
-//! penalty of 1.0, and half units.
+//! A [`Cruncher`] is made with [`Settings`]: the penalty of a piece, by default 2.0; whether breaks are on half
+//! units, as by default, or on whole ones; and whether contours are crunched in closed mode, as by default they are
+//! not. [`Settings::of_crate`] has those of the Rust which this follows: a penalty of 1.0, half units, not closed.
 //!
 //! # Runs and chains
 //!
 //! Corners cut a contour into runs, numbered from 0: run k lies between corners k and k + 1. What lies
-//! before the first corner and after the last is in no run, and is not written. A run that is a single line
-//! is copied; any other is worked. Places along it, rounded to half or whole units, are its breaks, and the
-//! [`Chain`] of a run leads over pieces from its first break to its last. Anyone can have a chain checked
-//! with [`Cruncher::check`], which measures it anew and seeks nothing, at the settings that it was made with.
+//! before the first corner and after the last is in no run, and is not written, or in closed mode it is the last
+//! run, which goes round. A run that is a single line is copied; any other is worked. Places along it, rounded to
+//! half or whole units, are its breaks, and the [`Chain`] of a run leads over pieces from its first break to its
+//! last. Anyone can have a chain checked with [`Cruncher::check`], which measures it anew and seeks nothing, at
+//! the settings that it was made with.
 //!
 //! [`Cruncher::why`] tells which tests make the start of a segment a corner.
 //!

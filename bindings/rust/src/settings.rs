@@ -23,19 +23,23 @@ pub struct Settings {
     /// Whether breaks are rounded to whole units instead of half ones, for engines that misdraw implied points
     /// on half units.
     pub whole_units: bool,
+    /// Whether a last run goes round from the last corner to the first, so that nothing is lost. Then points come
+    /// out in order, from the first corner on, and the start is not written again at the end. Without it the mode is
+    /// that of the Rust which this follows.
+    pub closed: bool,
 }
 
 impl Settings {
     /// Those of the Rust that this follows, whose points come out with them.
     pub const fn of_crate() -> Settings {
-        Settings { penalty: CRATE_PENALTY, whole_units: false }
+        Settings { penalty: CRATE_PENALTY, whole_units: false, closed: false }
     }
 }
 
 /// A gentler penalty than the Rust's: display families came out with too many pieces.
 impl Default for Settings {
     fn default() -> Settings {
-        Settings { penalty: DEFAULT_PENALTY, whole_units: false }
+        Settings { penalty: DEFAULT_PENALTY, whole_units: false, closed: false }
     }
 }
 
@@ -45,7 +49,7 @@ mod tests {
 
     #[test]
     fn the_two_sets_that_have_names() {
-        assert_eq!(Settings::default(), Settings { penalty: 32, whole_units: false });
-        assert_eq!(Settings::of_crate(), Settings { penalty: 16, whole_units: false });
+        assert_eq!(Settings::default(), Settings { penalty: 32, whole_units: false, closed: false });
+        assert_eq!(Settings::of_crate(), Settings { penalty: 16, whole_units: false, closed: false });
     }
 }

@@ -242,6 +242,14 @@ fn whole_units() {
 }
 
 #[test]
+fn closed() {
+    let curve = "0 0 1 100 0 1 50 100 0";
+    assert_eq!(answers_to(&["--closed"], curve), ["ok 1 0 0 1 100 0 1 50 100 0"]);
+    assert_eq!(answers_to(&["clean", "--crunch", "--closed"], curve), ["ok 1 0 0 1 100 0 1 50 100 0"]);
+    assert_eq!(answers_to(&[], curve), ["ok 0 100 0 1 0 0 1"]);
+}
+
+#[test]
 fn a_penalty_that_is_no_number_is_a_wrong_command_line() {
     let wrong = run(&["--penalty", "1.5"], b"7 9 1\n");
     assert_eq!(wrong.status.code(), Some(2));
@@ -375,6 +383,19 @@ fn a_picture_shows_the_grid_of_the_breaks() {
     assert_eq!(grid_lines(&whole), 2 * 11);
     // where the lines would be too near to each other, there are none
     assert_eq!(grid_lines(&drawn("coarse", "0 0 1 1000 0 1 0 1000 1\n")), 0);
+}
+
+/// The colour of what is lost.
+const LOST: &str = "#e07b00";
+
+#[test]
+fn a_closed_picture_has_nothing_that_is_lost() {
+    let input = "0 0 1 100 0 1 50 100 0\n0 0 1 10 10 0\n";
+    let open = drawn("open", input);
+    assert!(open.contains(LOST) && open.contains("the crate's mode"));
+    let closed = drawn_with(&["--closed"], "closed", input);
+    assert!(!closed.contains(LOST) && closed.contains("closed mode"));
+    assert!(closed.contains("unchanged: there is no corner, 0 pairs tried"));
 }
 
 #[test]

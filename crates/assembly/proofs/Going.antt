@@ -2,13 +2,15 @@
 use Prim.Native.Nat.{ℕ, suc, _+_, _*_, _≤_, _<_}
 use native.Mathlib.Numerals.{add-one}
 use native.Mathlib.Omega.{arith}
+use mathlib.Core.Bool.{Bool, true, false}
 use mathlib.Core.List.{List, [], _∷_}
 use mathlib.Core.Path.{_≡_, refl, sym, ap, subst, _∙_}
 use lib.Ieee.{Float}
 use lib.IntN.{ℤ}
-use lib.ListN.{length, take, drop}
+use lib.ListN.{length, take, drop, getD}
 use lib.Seq.{length-take-le}
-use Rattle.runs.specs.Runs.{Span, cornerList, between, runsOf, runAt, Listed}
+use Rattle.corners.specs.Segments.{startOf}
+use Rattle.runs.specs.Runs.{Span, stopsOf, between, runAt, Listed}
 use Rattle.runs.specs.Laws.{run-here, run-none, runs-end}
 use Rattle.runs.specs.declared.Run.{Run}
 use Rattle.runs.specs.declared.Run.the-variants.{Between, Nothing}
@@ -17,11 +19,13 @@ use Rattle.settings.specs.declared.Settings.{Settings}
 use Rattle.optimize.specs.Laws.{mostPairs}
 use Rattle.edition.specs.Edition.{Rooms}
 use Rattle.edition.specs.Scratch.{roomsOf}
-use Rattle.contour.specs.Points.{Points, startPoint}
-use Rattle.contour.specs.Writing.{Wrote, written}
+use Rattle.contour.specs.Points.{Points, pointAs, startPoint, unchangedIn}
+use Rattle.contour.specs.Writing.{Wrote, Closed, written}
+use Rattle.contour.specs.Laws.{nothing-written}
 use Rattle.contour.specs.declared.Written.{Written}
-use Rattle.assembly.specs.Assembly.{State, refused, ended, going, afterRun, crunchAll, crunchRuns}
-use Rattle.assembly.specs.Stands.{Stands, stops, ends, goes, pairsIn}
+use Rattle.assembly.specs.Assembly.{State, refused, ended, going, closedUp, afterRun, crunchAll, crunchBetween, crunchRound, crunchIn, crunchRuns}
+use Rattle.assembly.specs.Laws.{stays-refused, stays-ended}
+use Rattle.assembly.specs.Stands.{Stands, stops, ends, goes, pairsIn, ClosesUp}
 use Rattle.assembly.specs.declared.Crunching as C
 use Rattle.assembly.specs.declared.Crunching.the-variants as Crunching
 use Rattle.assembly.specs.declared.Progress.{Progress}
@@ -66,17 +70,6 @@ module _ (xs ys : List ℤ) (fs corners : List ℕ) (settings : Settings) (s₀ 
 
   abbrev along : List Span → State → State
   along rs s = crunchAll rooms settings xs ys fs rs s
-
-  -- once refused, or ended, a state stays
-  stays-refused : (rs : List Span) (n : ℕ) → along rs (refused n) ≡ refused n
-  unfolding crunchAll
-  stays-refused [] n = refl
-  stays-refused (r ∷ rs) n = stays-refused rs n
-
-  stays-ended : (rs : List Span) (ps : Points) (n : ℕ) → along rs (ended ps n) ≡ ended ps n
-  unfolding crunchAll
-  stays-ended [] ps n = refl
-  stays-ended (r ∷ rs) ps n = stays-ended rs ps n
 
   none-left : {rs : List Span} (s : State) → rs ≡ [] → along rs s ≡ s
   unfolding crunchAll
@@ -124,7 +117,7 @@ module _ (xs ys : List ℤ) (fs corners : List ℕ) (settings : Settings) (s₀ 
 
   module _ {s b a : List (List Float)} {l : List ℕ} {points : Points} {p : Progress} {k : ℕ} (now : Running s b a l points p k) where
     -- no sum of pairs is too large
-    pub running-few : k < length corners → length corners ≤ 1024 → p .pairs ≤ 4294967296
+    pub running-few : k < length corners → length corners ≤ 1025 → p .pairs ≤ 4294967296
     running-few h few = omega (arith, now .few)
 
     finished : drop k (between corners) ≡ [] → Whole points (Crunching.Going p)
@@ -167,12 +160,12 @@ module _ (xs ys : List ℤ) (fs corners : List ℕ) (settings : Settings) (s₀ 
       pub run-refused : {n : ℕ} → c ≡ Crunching.Refused n → Whole points' (Crunching.Refused n)
       run-refused {n} h ps wrote =
           let so : after ps wrote ≡ refused n = refused-for (after-stands ps wrote) h in
-          rw (after-left ps wrote, so, stays-refused (drop (suc k) (between corners)) n) (stops refl)
+          rw (after-left ps wrote, so, stays-refused rooms settings xs ys fs (drop (suc k) (between corners)) n) (stops refl)
 
       pub run-ended : {q : Progress} → c ≡ Crunching.Ended q → Whole points' (Crunching.Ended q)
       run-ended {q} h ps wrote =
           let so = ended-for (after-stands ps wrote) h in
-          rw (after-left ps wrote, so .is, stays-ended (drop (suc k) (between corners)) (so .points) (q .pairs)) (ends refl (so .wrote) refl)
+          rw (after-left ps wrote, so .is, stays-ended rooms settings xs ys fs (drop (suc k) (between corners)) (so .points) (q .pairs)) (ends refl (so .wrote) refl)
 
       pub run-on : {s' b' a' : List (List Float)} {l' : List ℕ} {q : Progress} → c ≡ Crunching.Going q → pairsIn c ≤ p .pairs + mostPairs → k < length corners →
           length s' ≡ length s → length b' ≡ length b → length a' ≡ length a → length l' ≡ length l → length points' ≡ length points → Running s' b' a' l' points' q (k + 1)
@@ -190,18 +183,58 @@ module _ (xs ys : List ℤ) (fs corners : List ℕ) (settings : Settings) (s₀ 
                 record { sofar = so .points; wrote = so .wrote; left = rw add-one (after-left ps wrote ∙ ap (along (drop (suc k) (between corners))) (so .is)) };
           }
 
--- ---- `crunch_points`: the runs between the corners, after the start point
+-- ---- `close_up`
 
-pub points-stand : (rooms : Rooms) (settings : Settings) (xs ys : List ℤ) (fs : List ℕ) {corners : List ℕ} → corners ≡ cornerList xs ys fs →
-    {row row' : Points} {room : ℕ} {w : Written} {c : C.Crunching} → length row ≡ room → Wrote row w (written room (startPoint xs ys ∷ [])) →
-    ((ps : Points) → Wrote row w (written (length row) ps) → Stands (length row) row' (crunchAll rooms settings xs ys fs (between corners) (going ps 0)) c) →
-    Stands room row' (crunchRuns rooms settings xs ys fs) c
-unfolding crunchRuns runsOf
-points-stand rooms settings xs ys fs {corners} listed {row} {row'} {room} {w} {c} long wrote then =
-    let start = startPoint xs ys ∷ [] in
-    let there = then start (subst (λ (n : ℕ). Wrote row w (written n start)) (sym long) wrote) in
-    let all = subst (λ (l : List ℕ). Stands (length row) row' (crunchAll rooms settings xs ys fs (between l) (going start 0)) c) listed there in
-    subst (λ (n : ℕ). Stands n row' (crunchAll rooms settings xs ys fs (between (cornerList xs ys fs)) (going start 0)) c) long all
+pub refused-closes : (s : List ℤ) {row : Points} {c : C.Crunching} {n : ℕ} → c ≡ Crunching.Refused n → ClosesUp row row c s (Crunching.Refused n)
+refused-closes s h x stands = rw (refused-for stands h) (stops refl)
 
-pub listed-few : {row list : List ℕ} {n : ℕ} → Listed row n list → length row ≤ 1024 → length (take n row) ≤ 1024
+pub ended-closes : (s : List ℤ) {row : Points} {c : C.Crunching} {p : Progress} → c ≡ Crunching.Ended p → ClosesUp row row c s (Crunching.Ended p)
+ended-closes s h x stands = let so = ended-for stands h in rw (so .is) (ends refl (so .wrote) refl)
+
+pub going-closes : (s : List ℤ) {old new : Points} {c : C.Crunching} {p : Progress} {w : Written} → c ≡ Crunching.Going p → Closed old (p .w) new w s →
+    ClosesUp old new c s (Crunching.Going (record { w = w; pairs = p .pairs }))
+going-closes s h closed x stands = let so = going-for stands h in rw (so .is) (goes refl (closed (so .points) (so .wrote)) refl)
+
+module _ (rooms : Rooms) (settings : Settings) (xs ys : List ℤ) (fs : List ℕ) where
+  -- ---- `crunch_round`
+
+  pub no-stops : (list : List ℕ) → length list ≡ 0 → {row : Points} {room : ℕ} {w : Written} → Wrote row w (written room (unchangedIn xs ys fs (settings .closed))) →
+      Stands room row (crunchRound rooms settings xs ys fs list) (Crunching.Ended (record { w = w; pairs = 0 }))
+  no-stops [] e wrote = ends refl wrote refl
+  no-stops (a ∷ list) e wrote = absurd (omega (arith, e))
+
+  pub round-stands : (list : List ℕ) → (length list ≡ 0 → ⊥) → {a : ℕ} {s : List ℤ} → a ≡ startOf fs (getD list 0 0) → s ≡ pointAs true xs ys a →
+      {row row′ row″ : Points} {w : Written} {c r : C.Crunching} → w ≡ record { count = 0; over = false } →
+      ((ps : Points) → Wrote row w (written (length row) ps) → Stands (length row) row′ (crunchAll rooms settings xs ys fs (between list) (going ps 0)) c) →
+      length row′ ≡ length row → ClosesUp row′ row″ c s r → Stands (length row) row″ (crunchRound rooms settings xs ys fs list) r
+  round-stands [] some place start none then same closes = absurd (some refl)
+  round-stands (b ∷ list) some {a} {s} place start {row} {row′} {row″} {w} {c} {r} none then same closes =
+      let begun : Wrote row w (written (length row) []) = rw none (nothing-written row) in
+      let worked = subst (λ (n : ℕ). Stands n row′ (crunchAll rooms settings xs ys fs (between (b ∷ list)) (going [] 0)) c) (sym same) (then [] begun) in
+      let round = subst (λ (n : ℕ). Stands n row″ (closedUp s (crunchAll rooms settings xs ys fs (between (b ∷ list)) (going [] 0))) r) same (closes _ worked) in
+      subst (λ (q : List ℤ). Stands (length row) row″ (closedUp q (crunchAll rooms settings xs ys fs (between (b ∷ list)) (going [] 0))) r)
+      (start ∙ ap (pointAs true xs ys) place) round
+
+  -- ---- `crunch_points`, by the mode
+
+  module _ {list : List ℕ} (listed : list ≡ stopsOf (settings .closed) xs ys fs) {row′ : Points} {room : ℕ} {c : C.Crunching} where
+    pub closed-stand : settings .closed ≡ true → Stands room row′ (crunchRound rooms settings xs ys fs list) c → Stands room row′ (crunchRuns rooms settings xs ys fs) c
+    unfolding crunchRuns
+    closed-stand mode there =
+        subst (λ (b : Bool). Stands room row′ (crunchIn rooms settings xs ys fs b (stopsOf (settings .closed) xs ys fs)) c) (sym mode)
+        (subst (λ (l : List ℕ). Stands room row′ (crunchRound rooms settings xs ys fs l) c) listed there)
+
+    -- the crate's: the runs between the corners, after the start point
+    pub points-stand : settings .closed ≡ false → {row : Points} {w : Written} → length row ≡ room → Wrote row w (written room (startPoint xs ys ∷ [])) →
+        ((ps : Points) → Wrote row w (written (length row) ps) → Stands (length row) row′ (crunchAll rooms settings xs ys fs (between list) (going ps 0)) c) →
+        Stands room row′ (crunchRuns rooms settings xs ys fs) c
+    unfolding crunchRuns
+    points-stand mode {row} {w} long wrote then =
+        let start = startPoint xs ys ∷ [] in
+        let there = then start (subst (λ (n : ℕ). Wrote row w (written n start)) (sym long) wrote) in
+        let all = subst (λ (l : List ℕ). Stands (length row) row′ (crunchBetween rooms settings xs ys fs l) c) listed there in
+        subst (λ (b : Bool). Stands room row′ (crunchIn rooms settings xs ys fs b (stopsOf (settings .closed) xs ys fs)) c) (sym mode)
+        (subst (λ (n : ℕ). Stands n row′ (crunchBetween rooms settings xs ys fs (stopsOf (settings .closed) xs ys fs)) c) long all)
+
+pub listed-few : {row list : List ℕ} {n : ℕ} → Listed row n list → length row ≤ 1025 → length (take n row) ≤ 1025
 listed-few {row} {n = n} listed few = omega (arith, length-take-le n row (listed .within), listed .within)

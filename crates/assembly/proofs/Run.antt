@@ -26,7 +26,7 @@ use Rattle.edition.specs.declared.Worked as W
 use Rattle.edition.specs.declared.Worked.the-variants as Worked
 use Rattle.pieces.specs.Slots.{quadsOf, Stored}
 use Rattle.pieces.proofs.Within.{solved-within}
-use Rattle.contour.specs.Points.{Points, pointsOf, piecesPoints, unchangedPoints}
+use Rattle.contour.specs.Points.{Points, pointsOf, piecesPoints, unchangedIn}
 use Rattle.contour.specs.Writing.{Wrote, Appended, written}
 use Rattle.contour.specs.Laws.{wrote-after}
 use Rattle.contour.specs.declared.Written.{Written}
@@ -76,17 +76,17 @@ module _ {penalty : Float} {breaks : Row} {answers : List (List Float)} {links :
 
   -- ---- an edition's step
 
-  module _ {x : Result} {r : W.Worked} (works : Works penalty breaks answers links x r) (xs ys : List ℤ) (fs : List ℕ) where
-    pub refused-stands : {k room : ℕ} {row : Points} (ps : Points) (pairs : ℕ) → r ≡ Worked.Refused k → Stands room row (added xs ys fs x ps pairs) (Crunching.Refused k)
+  module _ {x : Result} {r : W.Worked} (works : Works penalty breaks answers links x r) (itself : Points) where
+    pub refused-stands : {k room : ℕ} {row : Points} (ps : Points) (pairs : ℕ) → r ≡ Worked.Refused k → Stands room row (added itself x ps pairs) (Crunching.Refused k)
     refused-stands ps pairs h = rw (works-refused works h) (stops refl)
 
-    pub unchanged-stands : {p room : ℕ} {row : Points} {w : Written} (ps : Points) (pairs : ℕ) → r ≡ Worked.Unchanged p → Wrote row w (written room (unchangedPoints xs ys fs)) →
-        Stands room row (added xs ys fs x ps pairs) (Crunching.Ended (record { w = w; pairs = pairs + p }))
+    pub unchanged-stands : {p room : ℕ} {row : Points} {w : Written} (ps : Points) (pairs : ℕ) → r ≡ Worked.Unchanged p → Wrote row w (written room itself) →
+        Stands room row (added itself x ps pairs) (Crunching.Ended (record { w = w; pairs = pairs + p }))
     unchanged-stands ps pairs h wrote = rw (works-unchanged works h) (ends refl wrote refl)
 
     pub done-stands : {n k p : ℕ} {row₀ row : Points} {w₀ w : Written} (ps : Points) (pairs : ℕ) → r ≡ Worked.Done n k p →
         ((a : Answer) → Holds Anywhere (take n breaks) answers links k a → Appended row₀ w₀ row w (piecesPoints (quadsOf a))) → Wrote row₀ w₀ (written (length row₀) ps) →
-        Stands (length row₀) row (added xs ys fs x ps pairs) (Crunching.Going (record { w = w; pairs = pairs + p }))
+        Stands (length row₀) row (added itself x ps pairs) (Crunching.Going (record { w = w; pairs = pairs + p }))
     done-stands {row₀ = row₀} ps pairs h pushed wrote =
         let so = done works h in
         rw (so .is) (goes refl (wrote-after (length row₀) ps (piecesPoints (quadsOf (so .answer))) refl (pushed (so .answer) (so .held)) wrote) refl)
@@ -101,9 +101,9 @@ module _ (rooms : Rooms) (penalty : Float) (xs ys : List ℤ) (fs : List ℕ) (f
       ap (afterSurvey (rooms .answers) (rooms .links) penalty)
       (ap (surveyOf (rooms .samples) (rooms .breaks) xs ys fs first count) (sym grid) ∙ survey ∙ ap (surveyIn samples breaks) is)
 
-pub worked-so : (xs ys : List ℤ) (fs : List ℕ) (ps : Points) (n : ℕ) {x y : Result} {room : ℕ} {row : Points} {c : C.Crunching} → x ≡ y →
-    Stands room row (added xs ys fs y ps n) c → Stands room row (added xs ys fs x ps n) c
-worked-so xs ys fs ps n {room = room} {row = row} {c = c} e stands = subst (λ (z : Result). Stands room row (added xs ys fs z ps n) c) (sym e) stands
+pub worked-so : (itself ps : Points) (n : ℕ) {x y : Result} {room : ℕ} {row : Points} {c : C.Crunching} → x ≡ y →
+    Stands room row (added itself y ps n) c → Stands room row (added itself x ps n) c
+worked-so itself ps n {room = room} {row = row} {c = c} e stands = subst (λ (z : Result). Stands room row (added itself z ps n) c) (sym e) stands
 
 -- ---- a run, copied or worked
 
@@ -122,7 +122,7 @@ module _ (rooms : Rooms) (settings : Settings) (xs ys : List ℤ) (fs : List ℕ
       subst (λ (b : Bool). Stands (length row₀) row (runIf rooms settings xs ys fs b run ps pairs) (Crunching.Going (record { w = w; pairs = pairs }))) (sym (tested test-so)) (goes refl there refl)
 
   pub worked-stands : copied ≡ false → {room : ℕ} {row : Points} {c : C.Crunching} (ps : Points) (pairs : ℕ) →
-      Stands room row (added xs ys fs (resultOf rooms settings xs ys fs run) ps pairs) c → Stands room row (afterRun rooms settings xs ys fs run ps pairs) c
+      Stands room row (added (unchangedIn xs ys fs (settings .closed)) (resultOf rooms settings xs ys fs run) ps pairs) c → Stands room row (afterRun rooms settings xs ys fs run ps pairs) c
   unfolding afterRun
   worked-stands test-so {room} {row} {c} ps pairs stands =
       subst (λ (b : Bool). Stands room row (runIf rooms settings xs ys fs b run ps pairs) c) (sym (tested test-so)) stands

@@ -1,2 +1,3 @@
 pub mod Assembly
 pub mod Stands
+pub mod Laws

@@ -3,11 +3,12 @@ use Prim.Native.Nat.{ℕ, _+_, _≤_}
 use mathlib.Core.Path.{_≡_}
 use lib.IntN.{ℤ}
 use mathlib.Core.List.{List}
+use lib.ListN.{length}
 use Rattle.rows.specs.Lent.{Lent, before, after, room}
 use Rattle.contour.specs.Points.{Points}
 use Rattle.contour.specs.Writing.{Wrote, written}
 use Rattle.optimize.specs.Laws.{mostPairs}
-use Rattle.assembly.specs.Assembly.{State, refused, ended, going}
+use Rattle.assembly.specs.Assembly.{State, refused, ended, going, closedUp}
 use Rattle.assembly.specs.declared.Crunching as C
 use Rattle.assembly.specs.declared.Crunching.the-variants as Crunching
 use Rattle.assembly.specs.declared.Progress.{Progress}
@@ -32,3 +33,7 @@ Onward state old new p long r = (ps : Points) → Wrote old (p .w) (written long
 pub record Adds (state : Points → ℕ → State) (row : Lent (List ℤ)) (p : Progress) (r : C.Crunching) : Type 0 where
   pub stands : Onward state (before row) (after row) p (room row) r
   pub pairs : pairsIn r ≤ p .pairs + mostPairs
+
+-- what stood for a state stands for the same one closed up
+abbrev pub ClosesUp : Points → Points → C.Crunching → List ℤ → C.Crunching → Type 0
+ClosesUp old new c s r = (x : State) → Stands (length old) old x c → Stands (length old) new (closedUp s x) r

@@ -10,10 +10,11 @@ ghost use lib.ListN.{length};
 ghost use Rattle.rows.specs.Lent.{before, after, room};
 ghost use Rattle.runs.specs.Runs.{between};
 ghost use Rattle.settings.specs.Settings.{penaltyOf};
+ghost use Rattle.contour.specs.Points.{unchangedIn};
 ghost use Rattle.edition.specs.Edition.{editionOf, Found};
 ghost use Rattle.edition.specs.Scratch.{roomsIn};
-ghost use Rattle.assembly.specs.Assembly.{going, added, resultOf, afterRun, crunchAll, crunchRuns};
-ghost use Rattle.assembly.specs.Stands.{Stands, Onward, Adds};
+ghost use Rattle.assembly.specs.Assembly.{going, added, resultOf, afterRun, crunchAll, crunchRound, crunchRuns};
+ghost use Rattle.assembly.specs.Stands.{Stands, Onward, Adds, ClosesUp};
 
 // The points written, and the pairs tried.
 pub struct Progress {
@@ -43,13 +44,13 @@ pub fn step(
     points: &mut [[i16; 3]],
 ) -> Crunching
     requires { ⌜ Found (now breaks) × (p .pairs ≤ 4294967296) ⌝ }
-    ensures { λ r. ⌜ Adds (added (before xs) (before ys) (before flags)
+    ensures { λ r. ⌜ Adds (added (unchangedIn (before xs) (before ys) (before flags) (settings .closed))
         (editionOf (room answers) (room links) (before samples) (before breaks) (penaltyOf settings))) points p r ⌝ }
 {
     match edition::edition(samples, breaks, answers, links, settings.per_piece()) {
         Worked::Refused(k) => Crunching::Refused(k),
         Worked::Unchanged(pairs) => {
-            let w = contour::unchanged(xs, ys, flags, points);
+            let w = contour::unchanged_in(xs, ys, flags, settings.closed, points);
             Crunching::Ended(Progress {
                 w,
                 pairs: p.pairs + pairs,
@@ -81,7 +82,7 @@ fn work_run(
     points: &mut [[i16; 3]],
 ) -> Crunching
     requires { ⌜ p .pairs ≤ 4294967296 ⌝ }
-    ensures { λ r. ⌜ Adds (added (before xs) (before ys) (before flags) (resultOf (roomsIn samples breaks answers links) settings
+    ensures { λ r. ⌜ Adds (added (unchangedIn (before xs) (before ys) (before flags) (settings .closed)) (resultOf (roomsIn samples breaks answers links) settings
         (before xs) (before ys) (before flags) (record { first = first; count = count }))) points p r ⌝ }
 {
     match survey::survey(
@@ -96,7 +97,7 @@ fn work_run(
     ) {
         Surveyed::Refused(k) => Crunching::Refused(k),
         Surveyed::Past => {
-            let w = contour::unchanged(xs, ys, flags, points);
+            let w = contour::unchanged_in(xs, ys, flags, settings.closed, points);
             Crunching::Ended(Progress { w, pairs: p.pairs })
         }
         Surveyed::Rows(n, m) => {
@@ -156,12 +157,12 @@ fn crunch_run(
     )
 }
 
-// The runs between listed corners, in order.
+// The runs between listed stops, in order.
 fn crunch_runs(
     xs: &[i16],
     ys: &[i16],
     flags: &[u8],
-    corners: &[usize],
+    stops: &[usize],
     settings: Settings,
     from: Progress,
     samples: &mut [[f64; 4]],
@@ -170,14 +171,14 @@ fn crunch_runs(
     links: &mut [u32],
     points: &mut [[i16; 3]],
 ) -> Crunching
-    requires { ⌜ (length (now corners) ≤ 1024) × (from .pairs ≡ 0) ⌝ }
+    requires { ⌜ (length (now stops) ≤ 1025) × (from .pairs ≡ 0) ⌝ }
     ensures { λ r. ⌜ Onward (λ ps pairs. crunchAll (roomsIn samples breaks answers links) settings (before xs) (before ys) (before flags)
-        (between (before corners)) (going ps pairs)) (before points) (after points) from (room points) r ⌝ }
+        (between (before stops)) (going ps pairs)) (before points) (after points) from (room points) r ⌝ }
 {
     let mut p = from;
     let mut k = 0;
-    while k < corners.len() {
-        let Run::Between(first, count) = runs::run_at(corners, k) else {
+    while k < stops.len() {
+        let Run::Between(first, count) = runs::run_at(stops, k) else {
             return Crunching::Going(p);
         };
         match crunch_run(
@@ -209,7 +210,62 @@ fn crunch_runs(
     Crunching::Going(p)
 }
 
-// The points of a contour that none of refusals 1 to 5 is given for, in the scratch row.
+// Closed: round from the start s.
+fn close_up(c: Crunching, points: &mut [[i16; 3]], s: [i16; 3]) -> Crunching
+    ensures { λ r. ⌜ ClosesUp (before points) (after points) c s r ⌝ }
+{
+    match c {
+        Crunching::Refused(k) => Crunching::Refused(k),
+        Crunching::Ended(p) => Crunching::Ended(p),
+        Crunching::Going(p) => {
+            let w = contour::close(points, p.w, s);
+            Crunching::Going(Progress { w, pairs: p.pairs })
+        }
+    }
+}
+
+// Closed mode: the runs from the first corner round to it. No corner leaves the contour unchanged.
+fn crunch_round(
+    xs: &[i16],
+    ys: &[i16],
+    flags: &[u8],
+    stops: &[usize],
+    settings: Settings,
+    samples: &mut [[f64; 4]],
+    breaks: &mut [[f64; 5]],
+    answers: &mut [[f64; 3]],
+    links: &mut [u32],
+    points: &mut [[i16; 3]],
+) -> Crunching
+    requires { ⌜ length (now stops) ≤ 1025 ⌝ }
+    ensures { λ r. ⌜ Stands (room points) (after points)
+        (crunchRound (roomsIn samples breaks answers links) settings (before xs) (before ys) (before flags) (before stops)) r ⌝ }
+{
+    if stops.len() == 0 {
+        let w = contour::unchanged_in(xs, ys, flags, settings.closed, points);
+        return Crunching::Ended(Progress { w, pairs: 0 });
+    }
+    let s = contour::point_as(true, xs, ys, corners::start_of(flags, stops[0]));
+    let c = crunch_runs(
+        xs,
+        ys,
+        flags,
+        stops,
+        settings,
+        Progress {
+            w: contour::nothing(),
+            pairs: 0,
+        },
+        samples,
+        breaks,
+        answers,
+        links,
+        points,
+    );
+    close_up(c, points, s)
+}
+
+// The points of a contour that none of refusals 1 to 5 and 16 is given for, in the scratch row.
 pub fn crunch_points(
     xs: &[i16],
     ys: &[i16],
@@ -224,8 +280,22 @@ pub fn crunch_points(
     ensures { λ r. ⌜ Stands (room points) (after points)
         (crunchRuns (roomsIn samples breaks answers links) settings (before xs) (before ys) (before flags)) r ⌝ }
 {
-    let mut list = [0usize; 1024];
-    let n = runs::list_corners(xs, ys, flags, &mut list);
+    let mut list = [0usize; 1025];
+    let n = runs::list_stops(xs, ys, flags, settings.closed, &mut list);
+    if settings.closed {
+        return crunch_round(
+            xs,
+            ys,
+            flags,
+            &list[..n],
+            settings,
+            samples,
+            breaks,
+            answers,
+            links,
+            points,
+        );
+    }
     let w = contour::start(xs, ys, points);
     crunch_runs(
         xs,

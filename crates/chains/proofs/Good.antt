@@ -46,7 +46,7 @@ module _ (rooms : Rooms) (room : ℕ) (settings : Settings) (xs ys : List ℤ) (
   abbrev penalty : Float
   penalty = penaltyOf settings
 
-  solved-good : (first count : ℕ) → numberedRun xs ys fs k ≡ Between first count → (a : Answer) (p : ℕ) → workOf rooms (gridOf settings) penalty xs ys fs first count ≡ Edition.solved a p →
+  solved-good : (first count : ℕ) → numberedRun (settings .closed) xs ys fs k ≡ Between first count → (a : Answer) (p : ℕ) → workOf rooms (gridOf settings) penalty xs ys fs first count ≡ Edition.solved a p →
       scoreOf a ≡ score → GoodRun
   solved-good first count run a p e s =
       let o = work-solved rooms (gridOf settings) penalty xs ys fs first count a p e in
@@ -63,21 +63,21 @@ module _ (rooms : Rooms) (room : ℕ) (settings : Settings) (xs ys : List ℤ) (
         least = λ n. subst (λ (x : Float). Least x (lastScores measure (o .breaks) penalty)) s (how-good measure (o .breaks) penalty a p (o .fine .some) (o .is) n);
       }
 
-  over-good : (first count : ℕ) → numberedRun xs ys fs k ≡ Between first count → (a : Answer) (p : ℕ) → workOf rooms (gridOf settings) penalty xs ys fs first count ≡ Edition.solved a p →
+  over-good : (first count : ℕ) → numberedRun (settings .closed) xs ys fs k ≡ Between first count → (a : Answer) (p : ℕ) → workOf rooms (gridOf settings) penalty xs ys fs first count ≡ Edition.solved a p →
       (over : Bool) → overIf over (piecesOf a) (scoreOf a) p ≡ chained ps score pairs → GoodRun
   over-good first count run a p e true h = absurd (omega (arith, ap isChained h))
   over-good first count run a p e false h = let same : scoreOf a ≡ score = cc in solved-good first count run a p e same
 
-  written-good : (first count : ℕ) → numberedRun xs ys fs k ≡ Between first count → (x : Result) → workOf rooms (gridOf settings) penalty xs ys fs first count ≡ x → written room x ≡ chained ps score pairs → GoodRun
+  written-good : (first count : ℕ) → numberedRun (settings .closed) xs ys fs k ≡ Between first count → (x : Result) → workOf rooms (gridOf settings) penalty xs ys fs first count ≡ x → written room x ≡ chained ps score pairs → GoodRun
   written-good first count run (Edition.refused n) e h = absurd (omega (arith, ap isChained h))
   written-good first count run (Edition.unchanged p) e h = absurd (omega (arith, ap isChained h))
   written-good first count run (Edition.solved a p) e h = over-good first count run a p e (ltb room (length (piecesOf a))) h
 
-  run-good : (r : Run) → numberedRun xs ys fs k ≡ r → ofRun rooms room settings xs ys fs r ≡ chained ps score pairs → GoodRun
+  run-good : (r : Run) → numberedRun (settings .closed) xs ys fs k ≡ r → ofRun rooms room settings xs ys fs r ≡ chained ps score pairs → GoodRun
   run-good Nothing e h = absurd (omega (arith, ap isChained h))
   run-good (Between first count) e h = written-good first count e _ refl h
 
-  judged-good : (j : Judged) → afterJudging j (ofRun rooms room settings xs ys fs (numberedRun xs ys fs k)) ≡ chained ps score pairs → GoodRun
+  judged-good : (j : Judged) → afterJudging j (ofRun rooms room settings xs ys fs (numberedRun (settings .closed) xs ys fs k)) ≡ chained ps score pairs → GoodRun
   judged-good (Judged.Refused n) h = absurd (omega (arith, ap isChained h))
   judged-good Judged.Fine h = run-good _ refl h
 

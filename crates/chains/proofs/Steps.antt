@@ -124,17 +124,17 @@ module _ (rooms : Rooms) (settings : Settings) (c : Chain) (xs ys : List ℤ) (f
       ∙ ap (λ (g : Grid). handing (written (roomOf c) (workOf rooms g penalty xs ys fs first count)) c) e
       ∙ ap (λ (p : Float). handing (written (roomOf c) (workOf rooms (gridOf settings) p xs ys fs first count)) c) f
 
-  pub numbered-handed : (k : ℕ) {r s : Run} → r ≡ numberedRun xs ys fs k → r ≡ s → h ≡ handing (ofRun rooms (roomOf c) settings xs ys fs s) c →
-      h ≡ handing (ofRun rooms (roomOf c) settings xs ys fs (numberedRun xs ys fs k)) c
+  pub numbered-handed : (k : ℕ) {r s : Run} → r ≡ numberedRun (settings .closed) xs ys fs k → r ≡ s → h ≡ handing (ofRun rooms (roomOf c) settings xs ys fs s) c →
+      h ≡ handing (ofRun rooms (roomOf c) settings xs ys fs (numberedRun (settings .closed) xs ys fs k)) c
   numbered-handed k e as-s is = is ∙ ap (λ (r : Run). handing (ofRun rooms (roomOf c) settings xs ys fs r) c) (sym as-s ∙ e)
 
   pub judged-handed : (k : ℕ) {r s : Judged} → r ≡ judgedFor settings xs ys fs → r ≡ s →
-      h ≡ handing (afterJudging s (ofRun rooms (roomOf c) settings xs ys fs (numberedRun xs ys fs k))) c →
+      h ≡ handing (afterJudging s (ofRun rooms (roomOf c) settings xs ys fs (numberedRun (settings .closed) xs ys fs k))) c →
       h ≡ handing (chainOf rooms (roomOf c) settings xs ys fs k) c
   unfolding chainOf
   judged-handed k e as-s is =
       is
-      ∙ ap (λ (r : Judged). handing (afterJudging r (ofRun rooms (roomOf c) settings xs ys fs (numberedRun xs ys fs k))) c) (sym as-s ∙ e)
+      ∙ ap (λ (r : Judged). handing (afterJudging r (ofRun rooms (roomOf c) settings xs ys fs (numberedRun (settings .closed) xs ys fs k))) c) (sym as-s ∙ e)
 
 -- ---- the entry
 

@@ -35,7 +35,7 @@ written room (Edition.refused k) = refused k
 written room (Edition.unchanged p) = unchanged p
 written room (Edition.solved a p) = overIf (ltb room (length (piecesOf a))) (piecesOf a) (scoreOf a) p
 
--- refusals 1 to 5 first
+-- refusals 1 to 5, and then 16, first
 abbrev pub afterJudging : Judged → Outcome → Outcome
 afterJudging (Judged.Refused k) o = refused k
 afterJudging Judged.Fine o = o
@@ -49,4 +49,4 @@ module _ (rooms : Rooms) (room : ℕ) (settings : Settings) (xs ys : List ℤ) (
 
   -- of run k
   unfoldable pub chainOf : ℕ → Outcome
-  chainOf k = afterJudging (judgedFor settings xs ys fs) (ofRun (numberedRun xs ys fs k))
+  chainOf k = afterJudging (judgedFor settings xs ys fs) (ofRun (numberedRun (settings .closed) xs ys fs k))

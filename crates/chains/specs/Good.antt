@@ -30,7 +30,7 @@ use Rattle.chains.specs.declared.Chained.the-variants as Chained
 pub record Good (rooms : Rooms) (settings : Settings) (xs ys : List ℤ) (fs : List ℕ) (k : ℕ) (score : Float) : Type 0 where
   pub first : ℕ
   pub count : ℕ
-  pub run : numberedRun xs ys fs k ≡ Between first count
+  pub run : numberedRun (settings .closed) xs ys fs k ≡ Between first count
   pub samples : List Sample
   pub breaks : Row
   pub survey : surveyOf (rooms .samples) (rooms .breaks) xs ys fs first count (gridOf settings) ≡ surveyed samples breaks

@@ -108,7 +108,7 @@ fn chain_run(
     put_worked(worked, answers, links, starts, ends, cxs, cys)
 }
 
-// Run k of a contour that none of refusals 1 to 5 is given for.
+// Run k of a contour that none of refusals 1 to 5 and 16 is given for.
 fn chain_fine(
     xs: &[i16],
     ys: &[i16],
@@ -125,9 +125,9 @@ fn chain_fine(
     links: &mut [u32],
 ) -> Chained
     ensures { λ r. ⌜ Hands (ofRun (roomsIn samples breaks answers links) (roomOf (chainIn starts ends cxs cys .entry)) settings
-        (before xs) (before ys) (before flags) (numberedRun (before xs) (before ys) (before flags) k)) (chainIn starts ends cxs cys) r ⌝ }
+        (before xs) (before ys) (before flags) (numberedRun (settings .closed) (before xs) (before ys) (before flags) k)) (chainIn starts ends cxs cys) r ⌝ }
 {
-    match runs::numbered_run(xs, ys, flags, k) {
+    match runs::numbered_run(xs, ys, flags, settings.closed, k) {
         Run::Nothing => Chained::Refused(10),
         Run::Between(first, count) => {
             chain_run(

@@ -30,7 +30,7 @@ survey-is sampleRow breakRow xs ys fs first count samples breaks grid e is =
 
 module _ (xs ys : List ℤ) (fs : List ℕ) (k : ℕ) (settings : Settings) (c : Given) (s b a : List (List Float)) (l : List ℕ) {r : D.Verdict} where
   pub whole-is : {half : ℕ} → half ≡ min (length a) (length l) →
-      r ≡ afterJudging (judgedFor settings xs ys fs) (ofRun (half / 2) settings c (length s) (length b) xs ys fs (numberedRun xs ys fs k)) →
+      r ≡ afterJudging (judgedFor settings xs ys fs) (ofRun (half / 2) settings c (length s) (length b) xs ys fs (numberedRun (settings .closed) xs ys fs k)) →
       r ≡ wholeOf (inputs xs ys fs) settings k c (work s b a l)
   unfolding checkOf
   whole-is e is = is ∙ rw e refl

@@ -53,7 +53,7 @@ ofRun half settings c sampleRow breakRow xs ys fs Nothing = Verdict.Refused 10
 ofRun half settings c sampleRow breakRow xs ys fs (Between first count) =
     ofSurvey half (penaltyOf settings) c (surveyOf sampleRow breakRow xs ys fs first count (gridOf settings))
 
--- refusals 1 to 5 first
+-- refusals 1 to 5, and then 16, first
 abbrev pub afterJudging : Judged → D.Verdict → D.Verdict
 afterJudging (Judged.Refused k) v = Verdict.Refused k
 afterJudging Judged.Fine v = v
@@ -62,4 +62,4 @@ afterJudging Judged.Fine v = v
 unfoldable pub checkOf : Rooms → Settings → List ℤ → List ℤ → List ℕ → Given → ℕ → D.Verdict
 checkOf rooms settings xs ys fs c k =
     afterJudging (judgedFor settings xs ys fs)
-    (ofRun (answerRoom (rooms .answers) (rooms .links)) settings c (rooms .samples) (rooms .breaks) xs ys fs (numberedRun xs ys fs k))
+    (ofRun (answerRoom (rooms .answers) (rooms .links)) settings c (rooms .samples) (rooms .breaks) xs ys fs (numberedRun (settings .closed) xs ys fs k))

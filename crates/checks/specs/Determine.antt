@@ -71,7 +71,7 @@ pub record Accepted (rooms : Rooms) (settings : Settings) (xs ys : List ℤ) (fs
   pub samples : List Sample
   pub breaks : Row
   pub fine : judgedFor settings xs ys fs ≡ Judged.Fine
-  pub run : numberedRun xs ys fs k ≡ Between first count
+  pub run : numberedRun (settings .closed) xs ys fs k ≡ Between first count
   pub survey : surveyOf (rooms .samples) (rooms .breaks) xs ys fs first count (gridOf settings) ≡ Survey.surveyed samples breaks
   pub room : length breaks ≤ answerRoom (rooms .answers) (rooms .links)
   pub valid : Valid samples breaks (penaltyOf settings) (c .starts) (c .ends) (c .xs) (c .ys) (c .score)
@@ -101,7 +101,7 @@ tested-yes true v e = absurd (omega (arith, ap isYes e))
 tested-yes false v e = (refl, e)
 
 module _ (rooms : Rooms) (settings : Settings) (xs ys : List ℤ) (fs : List ℕ) (k : ℕ) (c : Given) where
-  surveyed-yes : (first count : ℕ) → judgedFor settings xs ys fs ≡ Judged.Fine → numberedRun xs ys fs k ≡ Between first count → (s : Survey) →
+  surveyed-yes : (first count : ℕ) → judgedFor settings xs ys fs ≡ Judged.Fine → numberedRun (settings .closed) xs ys fs k ≡ Between first count → (s : Survey) →
       surveyOf (rooms .samples) (rooms .breaks) xs ys fs first count (gridOf settings) ≡ s →
       ofSurvey (half rooms) (penaltyOf settings) c s ≡ Verdict.Yes → Accepted rooms settings xs ys fs k c
   surveyed-yes first count fine run (Survey.refused n) survey e = absurd (omega (arith, ap isYes e))
@@ -120,13 +120,13 @@ module _ (rooms : Rooms) (settings : Settings) (xs ys : List ℤ) (fs : List ℕ
         valid = obeys settings samples breaks c .0 (yes-of _ (tested .1));
       }
 
-  run-yes : judgedFor settings xs ys fs ≡ Judged.Fine → (r : Run) → numberedRun xs ys fs k ≡ r →
+  run-yes : judgedFor settings xs ys fs ≡ Judged.Fine → (r : Run) → numberedRun (settings .closed) xs ys fs k ≡ r →
       ofRun (half rooms) settings c (rooms .samples) (rooms .breaks) xs ys fs r ≡ Verdict.Yes → Accepted rooms settings xs ys fs k c
   run-yes fine Nothing run e = absurd (omega (arith, ap isYes e))
   run-yes fine (Between first count) run e = surveyed-yes first count fine run _ refl e
 
   judged-yes : (j : Judged) → judgedFor settings xs ys fs ≡ j →
-      afterJudging j (ofRun (half rooms) settings c (rooms .samples) (rooms .breaks) xs ys fs (numberedRun xs ys fs k)) ≡ Verdict.Yes →
+      afterJudging j (ofRun (half rooms) settings c (rooms .samples) (rooms .breaks) xs ys fs (numberedRun (settings .closed) xs ys fs k)) ≡ Verdict.Yes →
       Accepted rooms settings xs ys fs k c
   judged-yes (Judged.Refused n) fine e = absurd (omega (arith, ap isYes e))
   judged-yes Judged.Fine fine e = run-yes fine _ refl e

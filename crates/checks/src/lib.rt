@@ -107,7 +107,7 @@ fn check_run(
     }
 }
 
-// Run k of a contour that none of refusals 1 to 5 is given for.
+// Run k of a contour that none of refusals 1 to 5 and 16 is given for.
 fn check_fine(
     xs: &[i16],
     ys: &[i16],
@@ -124,9 +124,9 @@ fn check_fine(
     breaks: &mut [[f64; 5]],
 ) -> Verdict
     ensures { λ r. ⌜ r ≡ ofRun half settings (given starts ends cxs cys score)
-        (room samples) (room breaks) (before xs) (before ys) (before flags) (numberedRun (before xs) (before ys) (before flags) k) ⌝ }
+        (room samples) (room breaks) (before xs) (before ys) (before flags) (numberedRun (settings .closed) (before xs) (before ys) (before flags) k) ⌝ }
 {
-    match runs::numbered_run(xs, ys, flags, k) {
+    match runs::numbered_run(xs, ys, flags, settings.closed, k) {
         Run::Nothing => Verdict::Refused(10),
         Run::Between(first, count) => {
             check_run(
@@ -165,7 +165,7 @@ fn check_judged(
     breaks: &mut [[f64; 5]],
 ) -> Verdict
     ensures { λ r. ⌜ r ≡ afterJudging (judgedFor settings (before xs) (before ys) (before flags)) (ofRun half settings (given starts ends cxs cys score)
-        (room samples) (room breaks) (before xs) (before ys) (before flags) (numberedRun (before xs) (before ys) (before flags) k)) ⌝ }
+        (room samples) (room breaks) (before xs) (before ys) (before flags) (numberedRun (settings .closed) (before xs) (before ys) (before flags) k)) ⌝ }
 {
     match settings.judge(xs, ys, flags) {
         Judged::Refused(n) => Verdict::Refused(n),

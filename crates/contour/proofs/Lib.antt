@@ -1,5 +1,6 @@
 -- What the proofs share; those that are `pub`, with other crates too. From `Values` on: theorems on the definitions, for a reader, which no proof of a function uses.
 mod Pushing
+mod Closing
 mod Reversal
 pub mod Sixteen
 mod Dropping

@@ -1,4 +1,5 @@
 -- Worked values of the definitions, by computation. Assumes nothing.
+use mathlib.Core.Bool.{false}
 use mathlib.Core.List.{List, [], _∷_, map}
 use mathlib.Core.Path.{_≡_, refl}
 use lib.IntN.{ℤ, pos, negsuc}
@@ -24,7 +25,7 @@ unfolding cutOf
 halves = refl
 
 -- (5, 5) on, off, on: unchanged, so on, on, off, on. The start is written twice.
-doubled : finished (unchangedPoints (pos 5 ∷ pos 5 ∷ pos 5 ∷ []) (pos 5 ∷ pos 5 ∷ pos 5 ∷ []) (1 ∷ 0 ∷ 1 ∷ []))
+doubled : finished false (unchangedPoints (pos 5 ∷ pos 5 ∷ pos 5 ∷ []) (pos 5 ∷ pos 5 ∷ pos 5 ∷ []) (1 ∷ 0 ∷ 1 ∷ []))
     ≡ on (pos 5) (pos 5) ∷ on (pos 5) (pos 5) ∷ off (pos 5) (pos 5) ∷ on (pos 5) (pos 5) ∷ []
 unfolding pointsTo countOf placeAfter endOf segFrom dropFrom look impliedAt isImplied cutOf Ieee.ofInt Ieee.round Ieee.size Ieee.toSigned
 doubled = refl

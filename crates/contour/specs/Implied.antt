@@ -79,7 +79,12 @@ module _ (implied : List ℤ → List ℤ → List ℤ → Bool) where
   abbrev pub dropImplied : Points → Points
   dropImplied ps = dropFrom ps 0
 
--- ---- the end: the row is reversed, then implied points are dropped
+-- ---- the end: in the crate's mode the row is reversed; then implied points are dropped
 
-abbrev pub finished : Points → Points
-finished ps = dropImplied isImplied (reverse ps)
+-- in closed mode the order of the input points is kept
+abbrev pub orderedIn : Bool → Points → Points
+orderedIn true ps = ps
+orderedIn false ps = reverse ps
+
+abbrev pub finished : Bool → Points → Points
+finished closed ps = dropImplied isImplied (orderedIn closed ps)

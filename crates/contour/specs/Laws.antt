@@ -3,10 +3,10 @@
 use Prim.Native.Nat.{ℕ, zero, suc, _+_, _-_, _≤_, _<_}
 use native.Mathlib.Nat.{le-refl, le-trans}
 use mathlib.Core.Bool.{Bool, true, false}
-use mathlib.Core.List.{List, _++_, append-assoc, reverse}
+use mathlib.Core.List.{List, [], _++_, append-assoc, reverse}
 use mathlib.Core.Path.{_≡_, refl, sym, ap, _∙_}
 use native.Mathlib.Omega.{arith}
-use borrow.Author.Tests.{lt-ltb, ltb-true, ltb-false}
+use borrow.Author.Tests.{lt-ltb, le-ltb, ltb-true, ltb-false}
 use lib.Dec.{ltb}
 use lib.IntN.{ℤ}
 use lib.ListN.{length, take, drop, length-append, length-take, length-drop, length-reverse}
@@ -15,6 +15,11 @@ use Rattle.contour.specs.Points.{Points}
 use Rattle.contour.specs.Implied.{removed, impliedAt, look, dropFrom, dropImplied, isImplied, finished}
 use Rattle.contour.specs.declared.Written.{Written}
 use Rattle.contour.specs.Writing.{Writing, so, over, unlessOver, written, extended, writingIn, Wrote, Holds}
+
+-- nothing is written yet
+pub nothing-written : (row : Points) → Wrote row (record { count = 0; over = false }) (written (length row) [])
+unfolding written
+nothing-written row = record { within = omega arith; is = rw (le-ltb (length row) 0 (omega arith)) refl }
 
 pub extended-written : (room : ℕ) (ps qs : Points) → extended room (written room ps) qs ≡ written room (ps ++ qs)
 unfolding written
@@ -79,5 +84,6 @@ module _ (implied : List ℤ → List ℤ → List ℤ → Bool) where
   unfolding dropFrom
   dropped-shorter ps = look-shorter (length ps - 0) (impliedAt implied ps 0) ps 0
 
-pub finished-shorter : (ps : Points) → length (finished ps) ≤ length ps
-finished-shorter ps = rw (length-reverse ps) at (dropped-shorter isImplied (reverse ps))
+pub finished-shorter : (closed : Bool) (ps : Points) → length (finished closed ps) ≤ length ps
+finished-shorter true ps = dropped-shorter isImplied ps
+finished-shorter false ps = rw (length-reverse ps) at (dropped-shorter isImplied (reverse ps))

@@ -1,11 +1,12 @@
 -- Points that are written to a row with a room: the points so far, or that there were more than the room. Definitions only.
 use Prim.Native.Nat.{ℕ, _≤_}
 use mathlib.Core.Bool.{Bool, true, false}
-use mathlib.Core.List.{_++_}
+use mathlib.Core.List.{List, _++_}
 use mathlib.Core.Path.{_≡_}
 use lib.Dec.{ltb}
+use lib.IntN.{ℤ}
 use lib.ListN.{length, take}
-use Rattle.contour.specs.Points.{Points}
+use Rattle.contour.specs.Points.{Points, around}
 use Rattle.contour.specs.declared.Written.{Written}
 
 pub data Writing : Type 0 where
@@ -38,6 +39,10 @@ pub record Wrote (row : Points) (w : Written) (s : Writing) : Type 0 where
 -- a row₀ with w written becomes a row with r written: the points ps come after the others
 abbrev pub Appended : Points → Written → Points → Written → Points → Type 0
 Appended row₀ w row r ps = Wrote row r (extended (length row₀) (writingIn row₀ w) ps)
+
+-- a row₀ with w written becomes a row with r written: whatever points they were go round from s
+abbrev pub Closed : Points → Written → Points → Written → List ℤ → Type 0
+Closed row₀ w row r s = (ps : Points) → Wrote row₀ w (written (length row₀) ps) → Wrote row r (written (length row₀) (around s ps))
 
 -- the first n places hold the points ps
 pub record Holds (row : Points) (n : ℕ) (ps : Points) : Type 0 where

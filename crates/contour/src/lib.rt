@@ -4,13 +4,14 @@ use corners::Seg;
 use geometry::Point;
 use geometry::Quad;
 ghost use mathlib.Core.Path.{_≡_};
+ghost use mathlib.Core.Bool.{false};
 ghost use mathlib.Core.List.{[], _∷_, _++_, reverse};
 ghost use Prim.Native.Nat.{_-_, _<_, _≤_};
 ghost use lib.IntN.{pos, _+ℤ_};
 ghost use lib.ListN.{length, take, drop, getD, set};
 ghost use Rattle.corners.specs.Corners.{previous};
-ghost use Rattle.contour.specs.Points.{onPoint, offPoint, startPoint, pointsOf, piecePoints, unchangedPoints};
-ghost use Rattle.contour.specs.Writing.{written, Wrote, Appended, Holds};
+ghost use Rattle.contour.specs.Points.{onPoint, offPoint, pointAs, startPoint, pointsOf, piecePoints, unchangedPoints, cameTo, unchangedIn};
+ghost use Rattle.contour.specs.Writing.{written, Wrote, Appended, Closed, Holds};
 ghost use Rattle.contour.specs.Implied.{cutOf, middleOf, offCurve, midway, isImplied, impliedAt, removed, dropImplied, finished};
 ghost use Rattle.contour.specs.Output.{column, flagOf, flags, front, outputs, given};
 
@@ -76,22 +77,38 @@ pub fn push_piece(points: &mut [[i16; 3]], w: Written, q: Quad) -> Written
     push(points, v, on_curve(q.p2))
 }
 
-// A contour's first coordinate, 0 where it has no point.
-fn first(row: &[i16]) -> i16
-    ensures { λ r. ⌜ r ≡ getD (now (row .entry)) 0 (pos 0) ⌝ }
+// A contour's coordinate at a place, 0 where it has no such point.
+fn coordinate(row: &[i16], i: usize) -> i16
+    ensures { λ r. ⌜ r ≡ getD (now (row .entry)) i (pos 0) ⌝ }
 {
-    if 0 < row.len() { row[0] } else { 0 }
+    if i < row.len() { row[i] } else { 0 }
+}
+
+// The point at a place, on-curve or off.
+pub fn point_as(on: bool, xs: &[i16], ys: &[i16], i: usize) -> [i16; 3]
+    ensures { λ r. ⌜ r ≡ pointAs on (now (xs .entry)) (now (ys .entry)) i ⌝ }
+{
+    if on {
+        return [coordinate(xs, i), coordinate(ys, i), 1];
+    }
+    [coordinate(xs, i), coordinate(ys, i), 0]
+}
+
+// No point yet.
+pub fn nothing() -> Written
+    ensures { λ r. ⌜ r ≡ record { count = 0; over = false } ⌝ }
+{
+    Written {
+        count: 0,
+        over: false,
+    }
 }
 
 // The start point alone.
 pub fn start(xs: &[i16], ys: &[i16], points: &mut [[i16; 3]]) -> Written
     ensures { λ r. ⌜ Wrote (now (points .exit)) r (written (length (now (points .entry))) (startPoint (now (xs .entry)) (now (ys .entry)) ∷ [])) ⌝ }
 {
-    let none = Written {
-        count: 0,
-        over: false,
-    };
-    push(points, none, [first(xs), first(ys), 1])
+    push(points, nothing(), point_as(true, xs, ys, 0))
 }
 
 // The contour as it came: its start, and each segment's points. The closing segment is one of its own, so the
@@ -107,6 +124,62 @@ pub fn unchanged(xs: &[i16], ys: &[i16], flags: &[u8], points: &mut [[i16; 3]]) 
         w = push_seg(points, w, corners::read_from(xs, ys, flags, a));
         a = corners::end_of(flags, a);
         k += 1;
+    }
+    w
+}
+
+// In closed mode: the points in their order, the start not again.
+fn unchanged_closed(xs: &[i16], ys: &[i16], flags: &[u8], points: &mut [[i16; 3]]) -> Written
+    ensures { λ r. ⌜ Wrote (now (points .exit)) r (written (length (now (points .entry))) (cameTo (now (xs .entry)) (now (ys .entry)) (now (flags .entry)) (length (now (flags .entry))))) ⌝ }
+{
+    let mut w = nothing();
+    let mut i = 0;
+    while i < flags.len() {
+        w = push(points, w, point_as(refusals::is_on(flags[i]), xs, ys, i));
+        i += 1;
+    }
+    w
+}
+
+// The contour itself, by the mode.
+pub fn unchanged_in(xs: &[i16], ys: &[i16], flags: &[u8], closed: bool, points: &mut [[i16; 3]]) -> Written
+    ensures { λ r. ⌜ Wrote (now (points .exit)) r (written (length (now (points .entry))) (unchangedIn (now (xs .entry)) (now (ys .entry)) (now (flags .entry)) closed)) ⌝ }
+{
+    if closed {
+        return unchanged_closed(xs, ys, flags, points);
+    }
+    unchanged(xs, ys, flags, points)
+}
+
+// ---- going round
+
+// The point s before the first n, whose last goes.
+fn put_first(points: &mut [[i16; 3]], n: usize, s: [i16; 3])
+    requires { ⌜ n ≤ length (now points) ⌝ }
+    ensures { λ _. ⌜ now (points .exit) ≡ take n (s ∷ now (points .entry)) ++ drop n (now (points .entry)) ⌝ }
+{
+    let mut carried = s;
+    let mut i = 0;
+    while i < n {
+        let p = points[i];
+        points[i] = carried;
+        carried = p;
+        i += 1;
+    }
+}
+
+// The start first, and the last piece's end, for which it stands, not again.
+pub fn close(points: &mut [[i16; 3]], w: Written, s: [i16; 3]) -> Written
+    ensures { λ r. ⌜ Closed (now (points .entry)) w (now (points .exit)) r s ⌝ }
+{
+    if w.over {
+        return w;
+    }
+    if w.count == 0 {
+        return push(points, w, s);
+    }
+    if w.count <= points.len() {
+        put_first(points, w.count, s);
     }
     w
 }
@@ -239,11 +312,14 @@ pub fn drop_implied(points: &mut [[i16; 3]], n: usize) -> usize
     left
 }
 
-// The written points reversed, without those that are implied: how many are left.
-pub fn finish(points: &mut [[i16; 3]], w: Written) -> usize
+// The written points, reversed in the crate's mode, without those that are implied: how many are left.
+pub fn finish(points: &mut [[i16; 3]], w: Written, closed: bool) -> usize
     requires { ⌜ w .count ≤ length (now points) ⌝ }
-    ensures { λ r. ⌜ Holds (now (points .exit)) r (finished (take (w .count) (now (points .entry)))) ⌝ }
+    ensures { λ r. ⌜ Holds (now (points .exit)) r (finished closed (take (w .count) (now (points .entry)))) ⌝ }
 {
+    if closed {
+        return drop_implied(points, w.count);
+    }
     reverse(points, w.count);
     drop_implied(points, w.count)
 }

@@ -7,14 +7,15 @@ use mathlib.Core.Path.{_≡_, refl, sym, ap, _∙_}
 use lib.IntN.{ℤ}
 use Rattle.settings.specs.Settings.{gridOf, penaltyOf}
 use Rattle.settings.specs.declared.Settings.{Settings}
-use Rattle.contour.specs.Points.{Points, unchangedPoints}
-use Rattle.runs.specs.Runs.{Span, runsOf, isCopied}
+use Rattle.contour.specs.Points.{Points}
+use Rattle.runs.specs.Runs.{Span, between, stopsOf, runsOf, isCopied}
 use Rattle.runs.specs.declared.Run.the-variants.{Between}
 use Rattle.edition.specs.Edition.{Result, Rooms}
 use Rattle.edition.specs.Edition as Edition
 use Rattle.edition.proofs.Causes.{unchanged-exactly}
 use Rattle.survey.specs.Never.{Sixteen}
-use Rattle.assembly.specs.Assembly.{State, refused, ended, going, added, resultOf, runIf, afterRun, onward, crunchAll, crunchRuns}
+use Rattle.assembly.specs.Assembly.{State, refused, ended, going, added, closedUp, itself, resultOf, runIf, afterRun, onward, crunchAll, crunchRound, crunchIn, crunchRuns}
+use Rattle.assembly.specs.Laws.{stays-refused, stays-ended}
 use Rattle.crunch.specs.Crunch.{crunchOf}
 use Rattle.crunch.specs.Cause.{Worked, Refused, Stops, Stuck, here, later, EndsUnchanged, ComesOut, OneCause}
 
@@ -35,17 +36,7 @@ module _ (rooms : Rooms) (settings : Settings) (xs ys : List ℤ) (fs : List ℕ
 
   -- ended, with the contour itself
   abbrev Leaves : State → Type 0
-  Leaves s = (pairs : ℕ) × (s ≡ ended (unchangedPoints xs ys fs) pairs)
-
-  refused-stays : (rs : List Span) (n : ℕ) → along rs (refused n) ≡ refused n
-  unfolding crunchAll
-  refused-stays [] n = refl
-  refused-stays (r ∷ rs) n = refused-stays rs n
-
-  ended-stays : (rs : List Span) (ps : Points) (n : ℕ) → along rs (ended ps n) ≡ ended ps n
-  unfolding crunchAll
-  ended-stays [] ps n = refl
-  ended-stays (r ∷ rs) ps n = ended-stays rs ps n
+  Leaves s = (pairs : ℕ) × (s ≡ ended (itself rooms settings xs ys fs) pairs)
 
   module _ (sx : Sixteen xs) (sy : Sixteen ys) where
     -- ---- one run, by what follows it
@@ -59,8 +50,8 @@ module _ (rooms : Rooms) (settings : Settings) (xs ys : List ℤ) (fs : List ℕ
       -- what was ended has the cause
       module _ (cause : (ps : Points) (pairs : ℕ) → Leaves (along rs (going ps pairs)) → Stuck rooms settings xs ys fs rs) where
         added-stuck : (x : Result) → resultOf rooms settings xs ys fs r ≡ x → Worked rooms settings xs ys fs r → (ps : Points) (pairs : ℕ) →
-            Leaves (along rs (added xs ys fs x ps pairs)) → Stuck rooms settings xs ys fs (r ∷ rs)
-        added-stuck (Edition.refused k) e w ps pairs h = absurd (omega (arith, ap isEnded (sym (refused-stays rs k) ∙ h .1)))
+            Leaves (along rs (added (itself rooms settings xs ys fs) x ps pairs)) → Stuck rooms settings xs ys fs (r ∷ rs)
+        added-stuck (Edition.refused k) e w ps pairs h = absurd (omega (arith, ap isEnded (sym (stays-refused rooms settings xs ys fs rs k) ∙ h .1)))
         added-stuck (Edition.unchanged p) e w ps pairs h = here w (stops-by e)
         added-stuck (Edition.solved a p) e w ps pairs h = later (unrefused e refl) (cause _ _ h)
 
@@ -71,11 +62,11 @@ module _ (rooms : Rooms) (settings : Settings) (xs ys : List ℤ) (fs : List ℕ
 
       -- and the cause ends it
       module _ (leaves : Stuck rooms settings xs ys fs rs → (ps : Points) (pairs : ℕ) → Leaves (along rs (going ps pairs))) where
-        ends : (ps : Points) (n : ℕ) → ps ≡ unchangedPoints xs ys fs → Leaves (along rs (ended ps n))
-        ends ps n e = (n, ended-stays rs ps n ∙ ap (λ (q : Points). ended q n) e)
+        ends : (ps : Points) (n : ℕ) → ps ≡ itself rooms settings xs ys fs → Leaves (along rs (ended ps n))
+        ends ps n e = (n, stays-ended rooms settings xs ys fs rs ps n ∙ ap (λ (q : Points). ended q n) e)
 
         added-leaves : (x : Result) → resultOf rooms settings xs ys fs r ≡ x → Worked rooms settings xs ys fs r →
-            (Refused rooms settings xs ys fs r → ⊥) → Stuck rooms settings xs ys fs rs → (ps : Points) (pairs : ℕ) → Leaves (along rs (added xs ys fs x ps pairs))
+            (Refused rooms settings xs ys fs r → ⊥) → Stuck rooms settings xs ys fs rs → (ps : Points) (pairs : ℕ) → Leaves (along rs (added (itself rooms settings xs ys fs) x ps pairs))
         added-leaves (Edition.refused k) e w n s ps pairs = absurd (n (w, (k, e)))
         added-leaves (Edition.unchanged p) e w n s ps pairs = ends _ _ refl
         added-leaves (Edition.solved a p) e w n s ps pairs = leaves s _ _
@@ -111,9 +102,9 @@ module _ (rooms : Rooms) (settings : Settings) (xs ys : List ℤ) (fs : List ℕ
   data Kept : State → Type 0 where
     was-refused : (k : ℕ) → Kept (refused k)
     goes : (ps : Points) (pairs : ℕ) → Kept (going ps pairs)
-    ends-so : (pairs : ℕ) → Kept (ended (unchangedPoints xs ys fs) pairs)
+    ends-so : (pairs : ℕ) → Kept (ended (itself rooms settings xs ys fs) pairs)
 
-  added-kept : (x : Result) (ps : Points) (pairs : ℕ) → Kept (added xs ys fs x ps pairs)
+  added-kept : (x : Result) (ps : Points) (pairs : ℕ) → Kept (added (itself rooms settings xs ys fs) x ps pairs)
   added-kept (Edition.refused k) ps pairs = was-refused k
   added-kept (Edition.unchanged p) ps pairs = ends-so _
   added-kept (Edition.solved a p) ps pairs = goes _ _
@@ -133,20 +124,37 @@ module _ (rooms : Rooms) (settings : Settings) (xs ys : List ℤ) (fs : List ℕ
   all-kept [] h = h
   all-kept (r ∷ rs) h = all-kept rs (onward-kept r h)
 
-  kept-is : {s : State} → Kept s → (ps : Points) (pairs : ℕ) → s ≡ ended ps pairs → s ≡ ended (unchangedPoints xs ys fs) pairs
+  closed-kept : (p : List ℤ) {s : State} → Kept s → Kept (closedUp p s)
+  closed-kept p (was-refused k) = was-refused k
+  closed-kept p (goes ps pairs) = goes _ pairs
+  closed-kept p (ends-so pairs) = ends-so pairs
+
+  round-kept : (stops : List ℕ) → Kept (crunchRound rooms settings xs ys fs stops)
+  round-kept [] = ends-so 0
+  round-kept (a ∷ stops) = closed-kept _ (all-kept (between (a ∷ stops)) (goes _ _))
+
+  mode-kept : (closed : Bool) (stops : List ℕ) → Kept (crunchIn rooms settings xs ys fs closed stops)
+  mode-kept true stops = round-kept stops
+  mode-kept false stops = all-kept (between stops) (goes _ _)
+
+  kept-is : {s : State} → Kept s → (ps : Points) (pairs : ℕ) → s ≡ ended ps pairs → s ≡ ended (itself rooms settings xs ys fs) pairs
   kept-is (was-refused k) ps pairs e = absurd (omega (arith, ap isEnded e))
   kept-is (goes qs n) ps pairs e = absurd (omega (arith, ap isEnded e))
-  kept-is (ends-so n) ps pairs e = let same : n ≡ pairs = cc in ap (ended (unchangedPoints xs ys fs)) same
+  kept-is (ends-so n) ps pairs e = let same : n ≡ pairs = cc in ap (ended (itself rooms settings xs ys fs)) same
 
   pub ends-unchanged : EndsUnchanged rooms settings xs ys fs
   unfolding crunchRuns
-  ends-unchanged ps pairs e = kept-is (all-kept (runsOf xs ys fs) (goes _ _)) ps pairs e
+  ends-unchanged ps pairs e = kept-is (mode-kept (settings .closed) (stopsOf (settings .closed) xs ys fs)) ps pairs e
 
   pub comes-out : ComesOut rooms settings xs ys fs
   unfolding crunchOf
   comes-out room pairs fine e = rw (fine, e) refl
 
 pub one-cause : (rooms : Rooms) (settings : Settings) (xs ys : List ℤ) (fs : List ℕ) → OneCause rooms settings xs ys fs
-unfolding crunchRuns
-one-cause rooms settings xs ys fs sx sy =
-    (all-stuck rooms settings xs ys fs sx sy (runsOf xs ys fs) _ _, λ s. all-leaves rooms settings xs ys fs sx sy (runsOf xs ys fs) s _ _)
+unfolding crunchRuns runsOf
+one-cause rooms settings xs ys fs mode sx sy =
+    let runs = between (stopsOf false xs ys fs) in
+    let crate : crunchIn rooms settings xs ys fs (settings .closed) (stopsOf (settings .closed) xs ys fs) ≡ crunchIn rooms settings xs ys fs false (stopsOf false xs ys fs) =
+    ap (λ (b : Bool). crunchIn rooms settings xs ys fs b (stopsOf b xs ys fs)) mode in
+    (λ h. all-stuck rooms settings xs ys fs sx sy runs _ _ (h .0, sym crate ∙ h .1),
+     λ s. let left = all-leaves rooms settings xs ys fs sx sy runs s _ _ in (left .0, crate ∙ left .1))

@@ -28,17 +28,17 @@ use Rattle.crunch.specs.declared.Crunched.the-variants as Crunched
 
 -- ---- `finish_points`
 
-pub over-gives : (row : Points) {row' : Points} (p : Progress) → p .w .over ≡ true → Gives row' (outcomeBy row p) (Crunched.Refused 9)
-over-gives row p h = rw h (no refl)
+pub over-gives : (closed : Bool) (row : Points) {row' : Points} (p : Progress) → p .w .over ≡ true → Gives row' (outcomeBy closed row p) (Crunched.Refused 9)
+over-gives closed row p h = rw h (no refl)
 
-pub all-gives : (row : Points) (p : Progress) → p .w .over ≡ false → {row' : Points} {n : ℕ} → Holds row' n (finished (take (p .w .count) row)) →
-    Gives row' (outcomeBy row p) (Crunched.Points n (p .pairs))
-all-gives row p h held = rw h (yes refl held)
+pub all-gives : (closed : Bool) (row : Points) (p : Progress) → p .w .over ≡ false → {row' : Points} {n : ℕ} → Holds row' n (finished closed (take (p .w .count) row)) →
+    Gives row' (outcomeBy closed row p) (Crunched.Points n (p .pairs))
+all-gives closed row p h held = rw h (yes refl held)
 
 -- ---- `finish`, whose answer is one of three
 
-pub gives-by : (row : Points) {row' : Points} {c d : C.Crunching} {r : D.Crunched} → c ≡ d → Gives row' (outcomeIn row d) r → Gives row' (outcomeIn row c) r
-gives-by row {row'} {r = r} e g = subst (λ (x : C.Crunching). Gives row' (outcomeIn row x) r) (sym e) g
+pub gives-by : (closed : Bool) (row : Points) {row' : Points} {c d : C.Crunching} {r : D.Crunched} → c ≡ d → Gives row' (outcomeIn closed row d) r → Gives row' (outcomeIn closed row c) r
+gives-by closed row {row'} {r = r} e g = subst (λ (x : C.Crunching). Gives row' (outcomeIn closed row x) r) (sym e) g
 
 pub counted-by : (row : Points) {c d : C.Crunching} → c ≡ d → Counted row c → Counted row d
 counted-by row e h = subst (Counted row) e h
@@ -50,29 +50,32 @@ counted {row = row} (stops e) = subst (Counted row) (sym e) tt
 counted {row = row} (ends e wrote pairs) = subst (Counted row) (sym e) (wrote .within)
 counted {row = row} (goes e wrote pairs) = subst (Counted row) (sym e) (wrote .within)
 
-abbrev byWriting : ℕ → Writing → Outcome
-byWriting pairs (so ps) = crunched (finished ps) pairs
-byWriting pairs over = refused 9
+module _ (closed : Bool) where
+  abbrev byWriting : ℕ → Writing → Outcome
+  byWriting pairs (so ps) = crunched (finished closed ps) pairs
+  byWriting pairs over = refused 9
 
-by-writing : (b : Bool) (ps : Points) (pairs : ℕ) → overIf b ps pairs ≡ byWriting pairs (unlessOver b ps)
-by-writing true ps pairs = refl
-by-writing false ps pairs = refl
+  by-writing : (b : Bool) (ps : Points) (pairs : ℕ) → overIf closed b ps pairs ≡ byWriting pairs (unlessOver b ps)
+  by-writing true ps pairs = refl
+  by-writing false ps pairs = refl
 
-written-is : (room : ℕ) {row : Points} {p : Progress} (ps : Points) (n : ℕ) → Wrote row (p .w) (written room ps) → p .pairs ≡ n → outcomeBy row p ≡ S.written room ps n
-unfolding written
-written-is room {row} {p} ps n wrote pairs =
-    by-writing (p .w .over) (take (p .w .count) row) (p .pairs)
-    ∙ ap (byWriting (p .pairs)) (wrote .is)
-    ∙ sym (by-writing (ltb room (length ps)) ps (p .pairs))
-    ∙ ap (overIf (ltb room (length ps)) ps) pairs
+  written-is : (room : ℕ) {row : Points} {p : Progress} (ps : Points) (n : ℕ) → Wrote row (p .w) (written room ps) → p .pairs ≡ n →
+      outcomeBy closed row p ≡ S.written closed room ps n
+  unfolding written
+  written-is room {row} {p} ps n wrote pairs =
+      by-writing (p .w .over) (take (p .w .count) row) (p .pairs)
+      ∙ ap (byWriting (p .pairs)) (wrote .is)
+      ∙ sym (by-writing (ltb room (length ps)) ps (p .pairs))
+      ∙ ap (overIf closed (ltb room (length ps)) ps) pairs
 
-outcome-is : {room : ℕ} {row : Points} {s : State} {c : C.Crunching} → Stands room row s c → outcomeIn row c ≡ outcomeOf room s
-outcome-is {row = row} (stops e) = ap (outcomeIn row) e
-outcome-is {room} {row} (ends {ps = ps} {n = n} e wrote pairs) = ap (outcomeIn row) e ∙ written-is room ps n wrote pairs
-outcome-is {room} {row} (goes {ps = ps} {n = n} e wrote pairs) = ap (outcomeIn row) e ∙ written-is room ps n wrote pairs
+  outcome-is : {room : ℕ} {row : Points} {s : State} {c : C.Crunching} → Stands room row s c → outcomeIn closed row c ≡ outcomeOf closed room s
+  outcome-is {row = row} (stops e) = ap (outcomeIn closed row) e
+  outcome-is {room} {row} (ends {ps = ps} {n = n} e wrote pairs) = ap (outcomeIn closed row) e ∙ written-is room ps n wrote pairs
+  outcome-is {room} {row} (goes {ps = ps} {n = n} e wrote pairs) = ap (outcomeIn closed row) e ∙ written-is room ps n wrote pairs
 
-pub gives-outcome : {room : ℕ} {row row' : Points} {s : State} {c : C.Crunching} {r : D.Crunched} → Stands room row s c → Gives row' (outcomeIn row c) r → Gives row' (outcomeOf room s) r
-gives-outcome {row' = row'} {r = r} stands g = subst (λ (x : Outcome). Gives row' x r) (outcome-is stands) g
+  pub gives-outcome : {room : ℕ} {row row' : Points} {s : State} {c : C.Crunching} {r : D.Crunched} → Stands room row s c →
+      Gives row' (outcomeIn closed row c) r → Gives row' (outcomeOf closed room s) r
+  gives-outcome {row' = row'} {r = r} stands g = subst (λ (x : Outcome). Gives row' x r) (outcome-is stands) g
 
 -- ---- `put_out`
 

@@ -23,9 +23,9 @@ use Rattle.crunch.specs.declared.Crunched as D
 -- ---- `crunch_into`
 
 module _ (rooms : Rooms) (room : ℕ) (settings : Settings) (xs ys : List ℤ) (fs : List ℕ) {j k : Judged} (e : j ≡ judgedFor settings xs ys fs) (h : j ≡ k) {row : Points} {r : D.Crunched} where
-  pub judged-gives : Gives row (afterJudging k (outcomeOf room (crunchRuns rooms settings xs ys fs))) r → Gives row (crunchOf rooms room settings xs ys fs) r
+  pub judged-gives : Gives row (afterJudging k (outcomeOf (settings .closed) room (crunchRuns rooms settings xs ys fs))) r → Gives row (crunchOf rooms room settings xs ys fs) r
   unfolding crunchOf
-  judged-gives g = subst (λ (x : Judged). Gives row (afterJudging x (outcomeOf room (crunchRuns rooms settings xs ys fs))) r) (sym h ∙ e) g
+  judged-gives g = subst (λ (x : Judged). Gives row (afterJudging x (outcomeOf (settings .closed) room (crunchRuns rooms settings xs ys fs))) r) (sym h ∙ e) g
 
 -- ---- `crunch`: the shortest row
 

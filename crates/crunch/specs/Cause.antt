@@ -1,4 +1,4 @@
--- A contour is left unchanged for one cause: a worked run has no answer at its last break after its first pair, and no run before it is refused. The
+-- A contour is left unchanged, in the crate's mode, for one cause: a worked run has no answer at its last break after its first pair, and no run before it is refused. The
 -- theorems, `ends-unchanged`, `comes-out` and `one-cause`, stand in proofs/Cause.antt. Definitions only.
 use Prim.Native.Nat.{ℕ}
 use mathlib.Core.Bool.{false}
@@ -8,7 +8,7 @@ use mathlib.Core.Path.{_≡_}
 use lib.IntN.{ℤ}
 use Rattle.settings.specs.Settings.{gridOf, penaltyOf, judgedFor}
 use Rattle.settings.specs.declared.Settings.{Settings}
-use Rattle.contour.specs.Points.{Points, unchangedPoints}
+use Rattle.contour.specs.Points.{Points}
 use Rattle.runs.specs.Runs.{Span, runsOf, isCopied}
 use Rattle.runs.specs.declared.Run.the-variants.{Between}
 use Rattle.edition.specs.Causes.{Unanswered}
@@ -16,7 +16,7 @@ use Rattle.edition.specs.Edition.{Rooms}
 use Rattle.edition.specs.Edition as Edition
 use Rattle.refusals.specs.declared.Judged.the-variants as Judged
 use Rattle.survey.specs.Never.{Sixteen}
-use Rattle.assembly.specs.Assembly.{ended, resultOf, crunchRuns}
+use Rattle.assembly.specs.Assembly.{ended, itself, resultOf, crunchRuns}
 use Rattle.crunch.specs.Crunch.{written, crunchOf}
 
 module _ (rooms : Rooms) (settings : Settings) (xs ys : List ℤ) (fs : List ℕ) where
@@ -37,7 +37,7 @@ module _ (rooms : Rooms) (settings : Settings) (xs ys : List ℤ) (fs : List ℕ
 
   -- the work ends with the contour itself, after so many pairs
   abbrev pub LeftUnchanged : ℕ → Type 0
-  LeftUnchanged pairs = crunchRuns rooms settings xs ys fs ≡ ended (unchangedPoints xs ys fs) pairs
+  LeftUnchanged pairs = crunchRuns rooms settings xs ys fs ≡ ended (itself rooms settings xs ys fs) pairs
 
   -- work that ends with any points ends with these, and they are what comes of a contour that is not refused 1 to 5
   abbrev pub EndsUnchanged : Type 0
@@ -46,7 +46,8 @@ module _ (rooms : Rooms) (settings : Settings) (xs ys : List ℤ) (fs : List ℕ
   abbrev pub ComesOut : Type 0
   ComesOut =
       (room pairs : ℕ) → judgedFor settings xs ys fs ≡ Judged.Fine → LeftUnchanged pairs →
-      crunchOf rooms room settings xs ys fs ≡ written room (unchangedPoints xs ys fs) pairs
+      crunchOf rooms room settings xs ys fs ≡ written (settings .closed) room (itself rooms settings xs ys fs) pairs
 
+  -- in the crate's mode
   abbrev pub OneCause : Type 0
-  OneCause = Sixteen xs → Sixteen ys → ((pairs : ℕ) × LeftUnchanged pairs) ↔ Stuck (runsOf xs ys fs)
+  OneCause = settings .closed ≡ false → Sixteen xs → Sixteen ys → ((pairs : ℕ) × LeftUnchanged pairs) ↔ Stuck (runsOf false xs ys fs)

@@ -22,19 +22,20 @@ pub data Outcome : Type 0 where
 
 -- ---- the end: refusal 9 last, counted before implied points are dropped
 
-abbrev pub overIf : Bool → Points → ℕ → Outcome
-overIf true ps pairs = refused 9
-overIf false ps pairs = crunched (finished ps) pairs
+module _ (closed : Bool) where
+  abbrev pub overIf : Bool → Points → ℕ → Outcome
+  overIf true ps pairs = refused 9
+  overIf false ps pairs = crunched (finished closed ps) pairs
 
-abbrev pub written : ℕ → Points → ℕ → Outcome
-written room ps pairs = overIf (ltb room (length ps)) ps pairs
+  abbrev pub written : ℕ → Points → ℕ → Outcome
+  written room ps pairs = overIf (ltb room (length ps)) ps pairs
 
-abbrev pub outcomeOf : ℕ → State → Outcome
-outcomeOf room (State.refused k) = refused k
-outcomeOf room (State.ended ps pairs) = written room ps pairs
-outcomeOf room (State.going ps pairs) = written room ps pairs
+  abbrev pub outcomeOf : ℕ → State → Outcome
+  outcomeOf room (State.refused k) = refused k
+  outcomeOf room (State.ended ps pairs) = written room ps pairs
+  outcomeOf room (State.going ps pairs) = written room ps pairs
 
--- ---- the whole: refusals 1 to 5 first
+-- ---- the whole: refusals 1 to 5, and then 16, first
 
 abbrev pub afterJudging : Judged → Outcome → Outcome
 afterJudging (Judged.Refused k) o = refused k
@@ -42,4 +43,5 @@ afterJudging Judged.Fine o = o
 
 -- with a room for so many points
 unfoldable pub crunchOf : Rooms → ℕ → Settings → List ℤ → List ℤ → List ℕ → Outcome
-crunchOf rooms room settings xs ys fs = afterJudging (judgedFor settings xs ys fs) (outcomeOf room (crunchRuns rooms settings xs ys fs))
+crunchOf rooms room settings xs ys fs =
+    afterJudging (judgedFor settings xs ys fs) (outcomeOf (settings .closed) room (crunchRuns rooms settings xs ys fs))

@@ -13,7 +13,7 @@ use lib.ListN.{length}
 use Rattle.refusals.specs.declared.Judged.{Judged}
 use Rattle.refusals.specs.declared.Judged.the-variants as Judged
 use Rattle.rows.specs.Lent.{Inputs, inputs}
-use Rattle.runs.specs.Runs.{Span, runsOf, isCopied}
+use Rattle.runs.specs.Runs.{Span, between, stopsOf, isCopied}
 use Rattle.runs.specs.declared.Run.the-variants.{Between}
 use Rattle.refusals.specs.Refusals.{judged}
 use Rattle.settings.specs.Settings.{gridOf, penaltyOf, thenSettings, judgedFor}
@@ -24,7 +24,7 @@ use Rattle.edition.specs.Laws.{Within, work-same}
 use Rattle.edition.specs.Scratch.{roomsOf}
 use Rattle.contour.specs.Points.{Points}
 use Rattle.contour.specs.Laws.{finished-shorter}
-use Rattle.assembly.specs.Assembly.{State, ended, going, added, resultOf, runIf, afterRun, onward, crunchAll, crunchRuns}
+use Rattle.assembly.specs.Assembly.{State, ended, going, added, closedUp, itself, resultOf, runIf, afterRun, onward, crunchAll, crunchRound, crunchIn, crunchRuns}
 use Rattle.assembly.specs.Assembly as State
 use Rattle.crunch.specs.Crunch.{Outcome, crunched, overIf, outcomeOf, afterJudging, crunchOf}
 use Rattle.crunch.specs.Crunch as Outcome
@@ -34,14 +34,15 @@ use Rattle.crunch.specs.Entry.{report, answerOf, Rows, pointRoom, wholeO
 abbrev pub pointsIn : Outcome → ℕ
 pointsIn x = report (answerOf x) .points
 
-over-within : (room : ℕ) (ps : Points) (pairs : ℕ) (b : Bool) → ltb room (length ps) ≡ b → pointsIn (overIf b ps pairs) ≤ room
-over-within room ps pairs true e = omega arith
-over-within room ps pairs false e = le-trans (finished-shorter ps) (ltb-false room (length ps) e)
+module _ (closed : Bool) where
+  over-within : (room : ℕ) (ps : Points) (pairs : ℕ) (b : Bool) → ltb room (length ps) ≡ b → pointsIn (overIf closed b ps pairs) ≤ room
+  over-within room ps pairs true e = omega arith
+  over-within room ps pairs false e = le-trans (finished-shorter closed ps) (ltb-false room (length ps) e)
 
-state-within : (room : ℕ) (s : State) → pointsIn (outcomeOf room s) ≤ room
-state-within room (State.refused k) = omega arith
-state-within room (ended ps pairs) = over-within room ps pairs (ltb room (length ps)) refl
-state-within room (going ps pairs) = over-within room ps pairs (ltb room (length ps)) refl
+  state-within : (room : ℕ) (s : State) → pointsIn (outcomeOf closed room s) ≤ room
+  state-within room (State.refused k) = omega arith
+  state-within room (ended ps pairs) = over-within room ps pairs (ltb room (length ps)) refl
+  state-within room (going ps pairs) = over-within room ps pairs (ltb room (length ps)) refl
 
 judged-within : (room : ℕ) (j : Judged) (x : Outcome) → pointsIn x ≤ room → pointsIn (afterJudging j x) ≤ room
 judged-within room (Judged.Refused k) x few = omega arith
@@ -51,7 +52,7 @@ pub points-within : (i : Inputs) (settings : Settings) (t : Rows) → pointsIn (
 unfolding crunchOf
 points-within (inputs xs ys fs) settings t =
     let runs = crunchRuns (roomsOf (t .work)) settings xs ys fs in
-    judged-within (pointRoom t) (judgedFor settings xs ys fs) (outcomeOf (pointRoom t) runs) (state-within (pointRoom t) runs)
+    judged-within (pointRoom t) (judgedFor settings xs ys fs) (outcomeOf (settings .closed) (pointRoom t) runs) (state-within (settings .closed) (pointRoom t) runs)
 
 -- ---- refusal 3
 
@@ -65,7 +66,7 @@ module _ (xs ys : List ℤ) (fs : List ℕ) {n : ℕ} (lx : length xs ≡ n) (ly
   pub many-refused : (rooms : Rooms) (room : ℕ) (settings : Settings) → crunchOf rooms room settings xs ys fs ≡ Outcome.refused 3
   unfolding crunchOf judgedFor
   many-refused rooms room settings =
-      ap (λ (j : Judged). afterJudging (thenSettings settings j) (outcomeOf room (crunchRuns rooms settings xs ys fs))) many-judged
+      ap (λ (j : Judged). afterJudging (thenSettings settings j) (outcomeOf (settings .closed) room (crunchRuns rooms settings xs ys fs))) many-judged
 
 -- ---- longer rows
 
@@ -84,7 +85,7 @@ shortState (ended ps pairs) = false
 shortState (going ps pairs) = false
 
 module _ (rooms rooms' : Rooms) (within : Within rooms rooms') (settings : Settings) (xs ys : List ℤ) (fs : List ℕ) where
-  not-short : (ps : Points) (pairs : ℕ) (x : Result) → shortState (added xs ys fs x ps pairs) ≡ false → (k : ℕ) → forRoom k ≡ true → x ≡ Edition.refused k → ⊥
+  not-short : (ps : Points) (pairs : ℕ) (x : Result) → shortState (added (itself rooms settings xs ys fs) x ps pairs) ≡ false → (k : ℕ) → forRoom k ≡ true → x ≡ Edition.refused k → ⊥
   not-short ps pairs x e k lacking h = let z : _≡_ {A = ℕ} 0 1 = cc in omega arith
 
   run-same : (copied : Bool) (r : Span) (ps : Points) (pairs : ℕ) → shortState (runIf rooms settings xs ys fs copied r ps pairs) ≡ false →
@@ -92,7 +93,7 @@ module _ (rooms rooms' : Rooms) (within : Within rooms rooms') (settings : Setti
   run-same true r ps pairs e = refl
   run-same false r ps pairs e =
       let fits = not-short ps pairs (resultOf rooms settings xs ys fs r) e in
-      ap (λ (x : Result). added xs ys fs x ps pairs)
+      ap (λ (x : Result). added (itself rooms settings xs ys fs) x ps pairs)
       (work-same rooms rooms' within (gridOf settings) (penaltyOf settings) xs ys fs (r .first) (r .count) (fits 6 refl) (fits 7 refl))
 
   onward-same : (r : Span) (s s' : State) → (shortState s ≡ false → s' ≡ s) → shortState (onward rooms settings xs ys fs r s) ≡ false →
@@ -109,22 +110,38 @@ module _ (rooms rooms' : Rooms) (within : Within rooms rooms') (settings : Setti
   all-same [] s s' same e = same e
   all-same (r ∷ rs) s s' same e = all-same rs _ _ (onward-same r s s' same) e
 
+  -- closing up refuses nothing
+  closed-same : (p : List ℤ) (x x' : State) → (shortState x ≡ false → x' ≡ x) → shortState (closedUp p x) ≡ false → closedUp p x' ≡ closedUp p x
+  closed-same p (State.refused k) x' same e = ap (closedUp p) (same e)
+  closed-same p (ended ps pairs) x' same e = ap (closedUp p) (same refl)
+  closed-same p (going ps pairs) x' same e = ap (closedUp p) (same refl)
+
+  round-same : (stops : List ℕ) → shortState (crunchRound rooms settings xs ys fs stops) ≡ false →
+      crunchRound rooms' settings xs ys fs stops ≡ crunchRound rooms settings xs ys fs stops
+  round-same [] e = refl
+  round-same (a ∷ stops) e = closed-same _ _ _ (all-same (between (a ∷ stops)) _ _ (λ h. refl)) e
+
+  mode-same : (closed : Bool) (stops : List ℕ) → shortState (crunchIn rooms settings xs ys fs closed stops) ≡ false →
+      crunchIn rooms' settings xs ys fs closed stops ≡ crunchIn rooms settings xs ys fs closed stops
+  mode-same true stops e = round-same stops e
+  mode-same false stops e = all-same (between stops) _ _ (λ h. refl) e
+
   runs-same : shortState (crunchRuns rooms settings xs ys fs) ≡ false → crunchRuns rooms' settings xs ys fs ≡ crunchRuns rooms settings xs ys fs
   unfolding crunchRuns
-  runs-same e = all-same (runsOf xs ys fs) _ _ (λ h. refl) e
+  runs-same e = mode-same (settings .closed) (stopsOf (settings .closed) xs ys fs) e
 
-module _ (room room' : ℕ) (more : room ≤ room') where
-  over-same : (ps : Points) (pairs : ℕ) (over : Bool) → ltb room (length ps) ≡ over → short (overIf over ps pairs) ≡ false →
-      overIf (ltb room' (length ps)) ps pairs ≡ overIf over ps pairs
+module _ (closed : Bool) (room room' : ℕ) (more : room ≤ room') where
+  over-same : (ps : Points) (pairs : ℕ) (over : Bool) → ltb room (length ps) ≡ over → short (overIf closed over ps pairs) ≡ false →
+      overIf closed (ltb room' (length ps)) ps pairs ≡ overIf closed over ps pairs
   over-same ps pairs true t e = let z : _≡_ {A = ℕ} 0 1 = cc in absurd (omega arith)
   over-same ps pairs false t e =
       let few : length ps ≤ room = ltb-false room (length ps) t in
       rw (le-ltb room' (length ps) (omega arith)) refl
 
-  outcome-same : (s s' : State) → (shortState s ≡ false → s' ≡ s) → short (outcomeOf room s) ≡ false → outcomeOf room' s' ≡ outcomeOf room s
-  outcome-same (State.refused k) s' same e = ap (outcomeOf room') (same e)
-  outcome-same (ended ps pairs) s' same e = ap (outcomeOf room') (same refl) ∙ over-same ps pairs _ refl e
-  outcome-same (going ps pairs) s' same e = ap (outcomeOf room') (same refl) ∙ over-same ps pairs _ refl e
+  outcome-same : (s s' : State) → (shortState s ≡ false → s' ≡ s) → short (outcomeOf closed room s) ≡ false → outcomeOf closed room' s' ≡ outcomeOf closed room s
+  outcome-same (State.refused k) s' same e = ap (outcomeOf closed room') (same e)
+  outcome-same (ended ps pairs) s' same e = ap (outcomeOf closed room') (same refl) ∙ over-same ps pairs _ refl e
+  outcome-same (going ps pairs) s' same e = ap (outcomeOf closed room') (same refl) ∙ over-same ps pairs _ refl e
 
 judged-same : (j : Judged) (x x' : Outcome) → (short x ≡ false → x' ≡ x) → short (afterJudging j x) ≡ false → afterJudging j x' ≡ afterJudging j x
 judged-same (Judged.Refused k) x x' same e = refl
@@ -135,4 +152,4 @@ pub more-room : (rooms rooms' : Rooms) (room room' : ℕ) (settings : Settings) 
     short (crunchOf rooms room settings xs ys fs) ≡ false → crunchOf rooms' room' settings xs ys fs ≡ crunchOf rooms room settings xs ys fs
 unfolding crunchOf
 more-room rooms rooms' room room' settings xs ys fs within more e =
-    judged-same (judgedFor settings xs ys fs) _ _ (outcome-same room room' more _ _ (runs-same rooms rooms' within settings xs ys fs)) e
+    judged-same (judgedFor settings xs ys fs) _ _ (outcome-same (settings .closed) room room' more _ _ (runs-same rooms rooms' within settings xs ys fs)) e

@@ -1,5 +1,6 @@
 -- What the steps before the copying out leave in the row for points. Definitions only.
 use Prim.Native.Nat.{ℕ, _≤_}
+use mathlib.Core.Bool.{Bool}
 use mathlib.Core.Path.{_≡_}
 use lib.ListN.{length, take}
 use Rattle.contour.specs.Points.{Points}
@@ -18,13 +19,13 @@ pub data Gives (row : Points) : Outcome → D.Crunched → Type 0 where
   yes : {r : D.Crunched} {ps : Points} {n p : ℕ} → r ≡ Crunched.Points n p → Holds row n ps → Gives row (crunched ps p) r
 
 -- what becomes of the points in the row
-abbrev pub outcomeBy : Points → Progress → Outcome
-outcomeBy row p = overIf (p .w .over) (take (p .w .count) row) (p .pairs)
+abbrev pub outcomeBy : Bool → Points → Progress → Outcome
+outcomeBy closed row p = overIf closed (p .w .over) (take (p .w .count) row) (p .pairs)
 
-abbrev pub outcomeIn : Points → C.Crunching → Outcome
-outcomeIn row (Crunching.Refused k) = refused k
-outcomeIn row (Crunching.Ended p) = outcomeBy row p
-outcomeIn row (Crunching.Going p) = outcomeBy row p
+abbrev pub outcomeIn : Bool → Points → C.Crunching → Outcome
+outcomeIn closed row (Crunching.Refused k) = refused k
+outcomeIn closed row (Crunching.Ended p) = outcomeBy closed row p
+outcomeIn closed row (Crunching.Going p) = outcomeBy closed row p
 
 -- the points that are counted stand in the row
 abbrev pub Counted : Points → C.Crunching → Type 0

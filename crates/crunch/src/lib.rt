@@ -23,27 +23,27 @@ pub enum Crunched {
     Points(usize, usize),
 }
 
-// Reversed, without implied points; or there were more points than the room.
-fn finish_points(p: Progress, points: &mut [[i16; 3]]) -> Crunched
+// Reversed in the crate's mode, without implied points; or there were more points than the room.
+fn finish_points(p: Progress, closed: bool, points: &mut [[i16; 3]]) -> Crunched
     requires { ⌜ p .w .count ≤ length (now points) ⌝ }
-    ensures { λ r. ⌜ Gives (after points) (outcomeBy (before points) p) r ⌝ }
+    ensures { λ r. ⌜ Gives (after points) (outcomeBy closed (before points) p) r ⌝ }
 {
     let w = p.w;
     if w.over {
         return Crunched::Refused(9);
     }
-    let n = contour::finish(points, w);
+    let n = contour::finish(points, w, closed);
     Crunched::Points(n, p.pairs)
 }
 
-fn finish(c: Crunching, points: &mut [[i16; 3]]) -> Crunched
+fn finish(c: Crunching, closed: bool, points: &mut [[i16; 3]]) -> Crunched
     requires { ⌜ Counted (now points) c ⌝ }
-    ensures { λ r. ⌜ Gives (after points) (outcomeIn (before points) c) r ⌝ }
+    ensures { λ r. ⌜ Gives (after points) (outcomeIn closed (before points) c) r ⌝ }
 {
     match c {
         Crunching::Refused(k) => Crunched::Refused(k),
-        Crunching::Ended(p) => finish_points(p, points),
-        Crunching::Going(p) => finish_points(p, points),
+        Crunching::Ended(p) => finish_points(p, closed, points),
+        Crunching::Going(p) => finish_points(p, closed, points),
     }
 }
 
@@ -77,7 +77,7 @@ pub fn crunch_into(
                 links,
                 points,
             );
-            finish(c, points)
+            finish(c, settings.closed, points)
         }
     }
 }

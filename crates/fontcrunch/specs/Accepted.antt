@@ -15,7 +15,7 @@ use Rattle.refusals.specs.declared.Judged.the-variants as Judged
 use Rattle.runs.specs.declared.Run.{Run}
 use Rattle.runs.specs.declared.Run.the-variants.{Between, Nothing}
 use Rattle.runs.specs.Runs.{numberedRun}
-use Rattle.settings.specs.Settings.{gridOf, penaltyOf, judgedFor}
+use Rattle.settings.specs.Settings.{gridOf, penaltyOf, settingsOf, judgedFor}
 use Rattle.settings.specs.declared.Settings.{Settings}
 use Rattle.optimize.specs.Answers.{Answer, scoreOf}
 use Rattle.survey.specs.Survey.{Survey, surveyOf}
@@ -141,10 +141,10 @@ module _ (rooms : Rooms) (room : ℕ) (settings : Settings) (xs ys : List ℤ) (
   unfolding chainOf checkOf
   accepted-chain k e = by (judgedFor settings xs ys fs) e
     where
-      by : (j : Judged) → Chains.afterJudging j (Chains.ofRun rooms room settings xs ys fs (numberedRun xs ys fs k)) ≡ chained ps score p →
-          Checks.afterJudging j (Checks.ofRun half settings (given ps score) (rooms .samples) (rooms .breaks) xs ys fs (numberedRun xs ys fs k)) ≡ Verdict.Yes
+      by : (j : Judged) → Chains.afterJudging j (Chains.ofRun rooms room settings xs ys fs (numberedRun (settings .closed) xs ys fs k)) ≡ chained ps score p →
+          Checks.afterJudging j (Checks.ofRun half settings (given ps score) (rooms .samples) (rooms .breaks) xs ys fs (numberedRun (settings .closed) xs ys fs k)) ≡ Verdict.Yes
       by (Judged.Refused n) f = no-chain f
-      by Judged.Fine f = accepted-number (numberedRun xs ys fs k) f
+      by Judged.Fine f = accepted-number (numberedRun (settings .closed) xs ys fs k) f
 
 -- ---- the entries: what the chain entry leaves in its rows, checked in scratch rows of the same lengths
 
@@ -157,3 +157,23 @@ pub demand-three : (i : Inputs) (settings : Settings) (k : ℕ) (c : Chain) (w w
     CheckEntry.wholeOf i settings k (givenBy (placesOf (length ps) (ChainEntry.rowsOf (ChainEntry.wholeOf i settings k c w) c)) score) w' ≡ Verdict.Yes
 demand-three (inputs xs ys fs) settings k c w w' ps score pairs same e =
     rw (e, chained-places ps c, sym same) (accepted-chain (roomsOf w) (roomOf c) settings xs ys fs ps score pairs k e)
+
+-- ---- one proof, read for each profile and each mode
+
+abbrev pub DemandThree : Settings → Type 0
+DemandThree settings =
+    (i : Inputs) (k : ℕ) (c : Chain) (w w' : Work) (ps : List Piece) (score : Float) (pairs : ℕ) → roomsOf w ≡ roomsOf w' →
+    ChainEntry.wholeOf i settings k c w ≡ chained ps score pairs →
+    CheckEntry.wholeOf i settings k (givenBy (placesOf (length ps) (ChainEntry.rowsOf (ChainEntry.wholeOf i settings k c w) c)) score) w' ≡ Verdict.Yes
+
+pub on-half-units : (penalty closed : ℕ) → DemandThree (settingsOf penalty 0 closed)
+on-half-units penalty closed i = demand-three i (settingsOf penalty 0 closed)
+
+pub on-whole-units : (penalty closed : ℕ) → DemandThree (settingsOf penalty 1 closed)
+on-whole-units penalty closed i = demand-three i (settingsOf penalty 1 closed)
+
+pub in-crates-mode : (penalty whole : ℕ) → DemandThree (settingsOf penalty whole 0)
+in-crates-mode penalty whole i = demand-three i (settingsOf penalty whole 0)
+
+pub in-closed-mode : (penalty whole : ℕ) → DemandThree (settingsOf penalty whole 1)
+in-closed-mode penalty whole i = demand-three i (settingsOf penalty whole 1)

@@ -1,4 +1,4 @@
--- Document 01's values on both sides, its rows marked P, and what document 02's W6 and W9 add to them: cases and results as data, one way to evaluate them, one list, and one computed test of
+-- Document 01's values on both sides, its rows marked P, and what document 02's W3, W6 and W9 add to them: cases and results as data, one way to evaluate them, one list, and one computed test of
 -- them all. Assumes nothing.
 use Prim.Native.Nat.{ℕ, zero, suc, _+_, _^_}
 use mathlib.Core.Bool.{Bool, true, false}
@@ -15,7 +15,7 @@ use Rattle.refusals.specs.Refusals.{offNeighbours, judged}
 use Rattle.corners.specs.Segments.{countOf, endOf, placeAfter, segFrom}
 use Rattle.corners.specs.Corners as Corners
 use Rattle.corners.specs.Corners.{angleCorner}
-use Rattle.runs.specs.Runs.{marksFrom, cornerList, between, runsOf}
+use Rattle.runs.specs.Runs.{marksFrom, cornerList, stopsOf, between}
 use Rattle.settings.specs.Settings.{settingsOf, penaltyOf, judgedFor}
 use Rattle.measure.specs.declared.Measured.the-variants as Measured
 use Rattle.breaks.specs.Breaks as Breaks
@@ -33,8 +33,8 @@ use Rattle.crunch.specs.Crunch as Crunch
 
 -- what a row gives
 pub data Case : Type 0 where
-  -- a whole contour at a penalty in sixteenths, in rows with document 01's full rooms
-  contour : ℕ → List ℤ → List ℤ → List ℕ → Case
+  -- a whole contour at a penalty in sixteenths, in the crate's mode (0) or closed (1), in rows with document 01's full rooms
+  contour : ℕ → ℕ → List ℤ → List ℤ → List ℕ → Case
   -- two tangents
   tangents : Point → Point → Case
   -- points, of which implied ones are dropped
@@ -80,11 +80,11 @@ pairsOf (unchanged p) = tried p
 pairsOf (solved a p) = tried p
 
 abbrev pub evaluate : Case → Result
-evaluate (contour penalty xs ys fs) = outcome (crunchOf fullRooms 16384 (settingsOf penalty 0) xs ys fs)
+evaluate (contour penalty closed xs ys fs) = outcome (crunchOf fullRooms 16384 (settingsOf penalty 0 closed) xs ys fs)
 evaluate (tangents d0 d1) = byAngle (angleCorner d0 d1)
 evaluate (points ps) = left (dropImplied isImplied ps)
 evaluate (coordinate g x) = breakAt (onGrid g x)
-evaluate (run penalty n e) = pairsOf (optimizeOf (atError e) (inLine (n + 1) 0) (penaltyOf (settingsOf penalty 0)))
+evaluate (run penalty n e) = pairsOf (optimizeOf (atError e) (inLine (n + 1) 0) (penaltyOf (settingsOf penalty 0 0)))
 
 -- ---- the rows
 
@@ -104,16 +104,22 @@ whole x y = record { x = ofInt binary64 x; y = ofInt binary64 y }
 abbrev pub rows : List Row
 rows =
     -- one on-curve point (7, 9)
-    record { case = contour 16 (pos 7 ∷ []) (pos 9 ∷ []) (1 ∷ []); result = gives (on (pos 7) (pos 9) ∷ []) 0 }
+    record { case = contour 16 0 (pos 7 ∷ []) (pos 9 ∷ []) (1 ∷ []); result = gives (on (pos 7) (pos 9) ∷ []) 0 }
     -- (0, 0), (100, 0), (0, 100), all on
     ∷ record {
-      case = contour 16 (pos 0 ∷ pos 100 ∷ pos 0 ∷ []) (pos 0 ∷ pos 0 ∷ pos 100 ∷ []) (1 ∷ 1 ∷ 1 ∷ []);
+      case = contour 16 0 (pos 0 ∷ pos 100 ∷ pos 0 ∷ []) (pos 0 ∷ pos 0 ∷ pos 100 ∷ []) (1 ∷ 1 ∷ 1 ∷ []);
       result = gives (on (pos 0) (pos 100) ∷ on (pos 100) (pos 0) ∷ on (pos 0) (pos 0) ∷ []) 0;
     }
     -- (0, 0) on, (100, 0) on, (50, 100) off: the closing curve is lost
     ∷ record {
-      case = contour 16 (pos 0 ∷ pos 100 ∷ pos 50 ∷ []) (pos 0 ∷ pos 0 ∷ pos 100 ∷ []) (1 ∷ 1 ∷ 0 ∷ []);
+      case = contour 16 0 (pos 0 ∷ pos 100 ∷ pos 50 ∷ []) (pos 0 ∷ pos 0 ∷ pos 100 ∷ []) (1 ∷ 1 ∷ 0 ∷ []);
       result = gives (on (pos 100) (pos 0) ∷ on (pos 0) (pos 0) ∷ []) 0;
+    }
+    -- closed, the first two: the point itself; the triangle, in the order of its points, from its first corner
+    ∷ record { case = contour 16 1 (pos 7 ∷ []) (pos 9 ∷ []) (1 ∷ []); result = gives (on (pos 7) (pos 9) ∷ []) 0 }
+    ∷ record {
+      case = contour 16 1 (pos 0 ∷ pos 100 ∷ pos 0 ∷ []) (pos 0 ∷ pos 0 ∷ pos 100 ∷ []) (1 ∷ 1 ∷ 1 ∷ []);
+      result = gives (on (pos 0) (pos 0) ∷ on (pos 100) (pos 0) ∷ on (pos 0) (pos 100) ∷ []) 0;
     }
     -- tangents
     ∷ record { case = tangents (whole (pos 100) (pos 0)) (whole (pos 100) (pos 2)); result = byAngle false }
@@ -150,14 +156,14 @@ rows =
     ∷ record { case = run 32 1 (number 4); result = tried 1 }
     ∷ record { case = run 32 1 (number 7); result = tried 2 }
     -- penalties outside 1 to 256, after the refusals of the rows
-    ∷ record { case = contour 0 (pos 7 ∷ []) (pos 9 ∷ []) (1 ∷ []); result = refused 16 }
-    ∷ record { case = contour 257 (pos 7 ∷ []) (pos 9 ∷ []) (1 ∷ []); result = refused 16 }
-    ∷ record { case = contour 257 [] [] []; result = refused 2 }
-    ∷ record { case = contour 0 (pos 7 ∷ []) (pos 9 ∷ []) (0 ∷ []); result = refused 4 }
+    ∷ record { case = contour 0 0 (pos 7 ∷ []) (pos 9 ∷ []) (1 ∷ []); result = refused 16 }
+    ∷ record { case = contour 257 0 (pos 7 ∷ []) (pos 9 ∷ []) (1 ∷ []); result = refused 16 }
+    ∷ record { case = contour 257 0 [] [] []; result = refused 2 }
+    ∷ record { case = contour 0 0 (pos 7 ∷ []) (pos 9 ∷ []) (0 ∷ []); result = refused 4 }
     ∷ []
 
 pub rows-hold : map (λ (r : Row). evaluate (r .case)) rows ≡ map (λ (r : Row). r .result) rows
-unfolding Corners.marked Corners.stateAt Corners.cornersOf crunchOf judgedFor judged offNeighbours crunchRuns crunchAll afterRun runsOf cornerList between
+unfolding Corners.marked Corners.stateAt Corners.cornersOf crunchOf judgedFor judged offNeighbours crunchRuns crunchAll afterRun stopsOf cornerList between
     marksFrom countOf endOf placeAfter segFrom piecesPoints dropFrom look impliedAt isImplied cutOf optimizeOf tryAll tryLineQuad bent tryQuad
     penaltyOf combined splitsFrom falling searchFrom absOf tiny closeTo wholeBy rootOf rootUnits rootNear rootDown Ieee.toSigned Ieee.ofInt Ieee.ofBits
     Ieee.round Ieee.size Ieee.add Ieee.sub Ieee.mul Ieee.div Ieee.lt

@@ -76,7 +76,7 @@ unfolding judged offNeighbours
 lost-fine = refl
 
 -- unchanged, it would come out twice: the closing line is a segment of its own
-point-twice : length (finished (unchangedPoints (pos 7 ∷ []) (pos 9 ∷ []) (1 ∷ []))) ≡ 2
+point-twice : length (finished false (unchangedPoints (pos 7 ∷ []) (pos 9 ∷ []) (1 ∷ []))) ≡ 2
 unfolding pointsTo countOf placeAfter segFrom dropFrom look impliedAt isImplied
 point-twice = refl
 
@@ -97,7 +97,7 @@ refuses-everything f right wrong = not-refused (f point) (on (pos 7) (pos 9) ∷
 
 -- every contour that is worked comes out as it came
 pub calls-everything-unchanged : (f : Inputs → Outcome) → ((i : Inputs) → f i ≡ crunchWhole i) →
-    ((xs ys : List ℤ) (fs : List ℕ) → judged xs ys fs ≡ Judged.Fine → Gives (length (finished (unchangedPoints xs ys fs))) (f (inputs xs ys fs))) → ⊥
+    ((xs ys : List ℤ) (fs : List ℕ) → judged xs ys fs ≡ Judged.Fine → Gives (length (finished false (unchangedPoints xs ys fs))) (f (inputs xs ys fs))) → ⊥
 calls-everything-unchanged f right wrong =
     let two = subst (λ (n : ℕ). Gives n (f point)) point-twice (wrong (pos 7 ∷ []) (pos 9 ∷ []) (1 ∷ []) point-fine) in
     not-so-many (f point) (on (pos 7) (pos 9) ∷ []) 0 2 (ap outcome (right point) ∙ point-out) (λ (e : _). absurd (omega (arith, e))) two
@@ -154,9 +154,9 @@ says-always-yes f right (inputs xs ys fs) k score e = judging (judgedFor crateSe
     running (Between first count) g =
         never-yes (answerRoom 4096 4096) (penaltyOf crateSettings) score (surveyOf 16384 2048 xs ys fs first count (gridOf crateSettings)) g
 
-    judging : (j : Judged) → Checks.afterJudging j (says (numberedRun xs ys fs k)) ≡ Verdict.Yes → ⊥
+    judging : (j : Judged) → Checks.afterJudging j (says (numberedRun false xs ys fs k)) ≡ Verdict.Yes → ⊥
     judging (Judged.Refused n) g = let z : _≡_ {A = ℕ} 0 1 = cc in absurd (omega arith)
-    judging Judged.Fine g = running (numberedRun xs ys fs k) g
+    judging Judged.Fine g = running (numberedRun false xs ys fs k) g
 
 -- whatever run the optimiser has a chain for, that chain is accepted
 pub says-always-no : (f : Inputs → ℕ → Given → Verdict) → ((i : Inputs) (k : ℕ) (c : Given) → f i k c ≡ checkWhole i k c) →

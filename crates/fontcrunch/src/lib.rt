@@ -108,6 +108,7 @@ pub extern "C" fn fontcrunch_crunch(
     flags: &[u8],
     penalty: u32,
     whole_units: u32,
+    closed: u32,
     ox: &mut [i16],
     oy: &mut [i16],
     of: &mut [u8],
@@ -117,7 +118,7 @@ pub extern "C" fn fontcrunch_crunch(
     links: &mut [u32],
     points: &mut [[i16; 3]],
 ) -> CrunchReport
-    ensures { λ r. ⌜ Shown crunchReport (Crunch.Promise (contour xs ys flags) (settingsOf penalty «whole_units»)
+    ensures { λ r. ⌜ Shown crunchReport (Crunch.Promise (contour xs ys flags) (settingsOf penalty «whole_units» closed)
         (Crunch.rows ox oy of (scratch samples breaks answers links) points)) r ⌝ }
 {
     crunch_report(crunch::crunch_contour(
@@ -127,6 +128,7 @@ pub extern "C" fn fontcrunch_crunch(
         Settings {
             penalty,
             whole_units: whole_units != 0,
+            closed: closed != 0,
         },
         ox,
         oy,
@@ -147,6 +149,7 @@ pub extern "C" fn fontcrunch_chain(
     k: usize,
     penalty: u32,
     whole_units: u32,
+    closed: u32,
     starts: &mut [u32],
     ends: &mut [u32],
     cxs: &mut [f64],
@@ -156,7 +159,7 @@ pub extern "C" fn fontcrunch_chain(
     answers: &mut [[f64; 3]],
     links: &mut [u32],
 ) -> ChainReport
-    ensures { λ r. ⌜ ChainShown (Chains.Promise (contour xs ys flags) (settingsOf penalty «whole_units») k (Chains.chainIn starts ends cxs cys)
+    ensures { λ r. ⌜ ChainShown (Chains.Promise (contour xs ys flags) (settingsOf penalty «whole_units» closed) k (Chains.chainIn starts ends cxs cys)
         (scratch samples breaks answers links)) r ⌝ }
 {
     chain_report(chains::chain_of_run(
@@ -167,6 +170,7 @@ pub extern "C" fn fontcrunch_chain(
         Settings {
             penalty,
             whole_units: whole_units != 0,
+            closed: closed != 0,
         },
         starts,
         ends,
@@ -187,6 +191,7 @@ pub extern "C" fn fontcrunch_check(
     k: usize,
     penalty: u32,
     whole_units: u32,
+    closed: u32,
     starts: &[u32],
     ends: &[u32],
     cxs: &[f64],
@@ -197,7 +202,7 @@ pub extern "C" fn fontcrunch_check(
     answers: &mut [[f64; 3]],
     links: &mut [u32],
 ) -> CheckReport
-    ensures { λ r. ⌜ Shown checkReport (Checks.Promise (contour xs ys flags) (settingsOf penalty «whole_units») k (Checks.given starts ends cxs cys score)
+    ensures { λ r. ⌜ Shown checkReport (Checks.Promise (contour xs ys flags) (settingsOf penalty «whole_units» closed) k (Checks.given starts ends cxs cys score)
         (scratch samples breaks answers links)) r ⌝ }
 {
     check_report(checks::check_chain(
@@ -208,6 +213,7 @@ pub extern "C" fn fontcrunch_check(
         Settings {
             penalty,
             whole_units: whole_units != 0,
+            closed: closed != 0,
         },
         starts,
         ends,

@@ -88,7 +88,7 @@ fn main() {
         Asked::Usage => {
             io::write_all(
                 STDERR_FILENO,
-                b"usage: fontcrunch_cli [--penalty N] [--whole-units]   N sixteenths, 1 to 256, 32 where none is said; of several the last counts\n",
+                b"usage: fontcrunch_cli [--penalty N] [--whole-units] [--closed]   N sixteenths, 1 to 256, 32 where none is said; of several the last counts\n",
             );
         }
     }

@@ -7,7 +7,9 @@ use mathlib.Core.List.{List, [], _∷_, _++_, append-assoc, append-nil}
 use mathlib.Core.Path.{_≡_, refl, sym, ap, _∙_}
 use lib.ListN.{length, getD, take, drop, set, length-set, drop-of-length-le}
 use lib.Seq.{drop-cons, take-suc-set}
-use Rattle.runs.specs.Runs.{marksFrom, between, runAt, Listed}
+use Rattle.refusals.specs.Refusals.{isOn}
+use Rattle.corners.specs.Segments.{oneMore, countOf}
+use Rattle.runs.specs.Runs.{marksFrom, goingRound, between, runAt, Listed}
 use Rattle.runs.specs.declared.Run.the-variants.{Between, Nothing}
 
 -- what is listed after i marks, of which n were set, and what is left to list
@@ -52,6 +54,57 @@ module _ (marks : List Bool) where
           within = omega (arith, now .kept, now .few, now .upto);
           are = sym (now .rest ∙ rw (drop-of-length-le marks h) (append-nil (take n row)));
         }
+
+    pub listed-few : length marks ≤ long → n ≤ length marks
+    listed-few fits = omega (arith, now .few, now .upto)
+
+-- no index listed is past the marks
+marks-low : (marks : List Bool) (i j : ℕ) → getD (marksFrom marks i) j 0 ≤ i + length marks
+unfolding marksFrom
+marks-low [] i j = omega arith
+marks-low (true ∷ marks) i zero = omega arith
+marks-low (true ∷ marks) i (suc j) = omega (arith, marks-low marks (i + 1) j)
+marks-low (false ∷ marks) i j = omega (arith, marks-low marks (i + 1) j)
+
+pub first-low : (marks : List Bool) {row : List ℕ} {n : ℕ} → Listed row n (marksFrom marks 0) → 0 < n → getD row 0 0 ≤ length marks
+first-low marks {row} {n} l some = omega (arith, marks-low marks 0 0, ap (λ (list : List ℕ). getD list 0 0) (l .are), first-taken row n some)
+  where
+    first-taken : (row : List ℕ) (n : ℕ) → 0 < n → getD (take n row) 0 0 ≡ getD row 0 0
+    first-taken [] zero h = refl
+    first-taken [] (suc n) h = refl
+    first-taken (a ∷ row) zero h = absurd (omega arith)
+    first-taken (a ∷ row) (suc n) h = refl
+
+-- ---- the stops
+
+-- there are no more segments than points
+more-few : (b : Bool) (n m : ℕ) → n ≤ m → oneMore b n ≤ suc m
+more-few true n m h = omega arith
+more-few false n m h = omega arith
+
+pub count-few : (fs : List ℕ) → countOf fs ≤ length fs
+unfolding countOf
+count-few [] = omega arith
+count-few (f ∷ fs) = more-few (isOn f) (countOf fs) (length fs) (count-few fs)
+
+-- the first corner once more, after the others
+round-is : (row : List ℕ) (n segments : ℕ) → 0 < n → 0 < length row → take n row ++ ((getD row 0 0 + segments) ∷ []) ≡ goingRound segments (take n row)
+round-is [] n segments some h = absurd (omega arith)
+round-is (a ∷ row) zero segments some h = absurd (omega arith)
+round-is (a ∷ row) (suc n) segments some h = refl
+
+pub goes-round : (segments : ℕ) {row corners : List ℕ} {n : ℕ} → Listed row n corners → 0 < n → n < length row →
+    Listed (set row n (getD row 0 0 + segments)) (n + 1) (goingRound segments corners)
+goes-round segments {row} {corners} {n} l some fits = record {
+  within = omega (arith, length-set row n (getD row 0 0 + segments));
+  are = rw add-one (take-suc-set row n (getD row 0 0 + segments) fits ∙ round-is row n segments some (omega arith) ∙ ap (goingRound segments) (l .are));
+}
+
+-- closed, of no corner there is no stop
+pub none-round : (segments : ℕ) {row corners : List ℕ} {n : ℕ} → Listed row n corners → n ≡ 0 → Listed row n (goingRound segments corners)
+none-round segments {row} {corners} {n} l e =
+    let empty : corners ≡ [] = sym (l .are) ∙ ap (λ (k : ℕ). take k row) e in
+    record { within = l .within; are = l .are ∙ empty ∙ sym (ap (goingRound segments) empty) }
 
 -- ---- run k
 

@@ -1,13 +1,13 @@
--- The runs of a contour, as a list. Corner k is the k-th marked index, and run k lies between corners k and k + 1. A run is its first segment and
--- how many segments it has. Definitions only.
+-- The runs of a contour, as a list. Corner k is the k-th marked index, and run k lies between corners k and k + 1; in closed mode the last one goes
+-- round from the last corner to the first. A run is its first segment and how many segments it has, going round. Definitions only.
 use Prim.Native.Nat.{ℕ, zero, suc, _+_, _-_, _≤_}
 use mathlib.Core.Bool.{Bool, true, false, not, _&&_}
-use mathlib.Core.List.{List, [], _∷_}
+use mathlib.Core.List.{List, [], _∷_, _++_}
 use mathlib.Core.Path.{_≡_}
 use lib.Dec.{eqb}
 use lib.IntN.{ℤ}
 use lib.ListN.{length, take}
-use Rattle.corners.specs.Segments.{startOf, segFrom, isQuadOf}
+use Rattle.corners.specs.Segments.{countOf, startOf, segFrom, isQuadOf}
 use Rattle.corners.specs.Corners.{cornersOf}
 use Rattle.runs.specs.declared.Run.{Run}
 use Rattle.runs.specs.declared.Run.the-variants.{Between, Nothing}
@@ -35,8 +35,21 @@ between [] = []
 between (a ∷ []) = []
 between (a ∷ b ∷ corners) = record { first = a; count = b - a } ∷ between (b ∷ corners)
 
-unfoldable pub runsOf : List ℤ → List ℤ → List ℕ → List Span
-runsOf xs ys fs = between (cornerList xs ys fs)
+-- where the runs begin and end: the corners; and in closed mode the first corner once more, reached going round, so as many segments later as there
+-- are. One corner then makes one run all round.
+abbrev pub goingRound : ℕ → List ℕ → List ℕ
+goingRound segments [] = []
+goingRound segments (a ∷ corners) = (a ∷ corners) ++ ((a + segments) ∷ [])
+
+abbrev pub stopsIn : Bool → ℕ → List ℕ → List ℕ
+stopsIn true segments corners = goingRound segments corners
+stopsIn false segments corners = corners
+
+unfoldable pub stopsOf : Bool → List ℤ → List ℤ → List ℕ → List ℕ
+stopsOf closed xs ys fs = stopsIn closed (countOf fs) (cornerList xs ys fs)
+
+unfoldable pub runsOf : Bool → List ℤ → List ℤ → List ℕ → List Span
+runsOf closed xs ys fs = between (stopsOf closed xs ys fs)
 
 -- run k of a list
 unfoldable pub runAt : List Span → ℕ → Run
@@ -64,8 +77,8 @@ unlessCopied false r = r
 abbrev pub workable : List ℤ → List ℤ → List ℕ → Run → Run
 workable xs ys fs r = unlessCopied (isCopied xs ys fs r) r
 
-unfoldable pub numberedRun : List ℤ → List ℤ → List ℕ → ℕ → Run
-numberedRun xs ys fs k = workable xs ys fs (runAt (runsOf xs ys fs) k)
+unfoldable pub numberedRun : Bool → List ℤ → List ℤ → List ℕ → ℕ → Run
+numberedRun closed xs ys fs k = workable xs ys fs (runAt (runsOf closed xs ys fs) k)
 
 -- ---- what the code leaves: the first n places of a row are the list
 

@@ -1,9 +1,9 @@
-// The runs of a contour. Its corners are listed once, upward; run k lies between corners k and k + 1 of the
+// The runs of a contour. Its corners are listed once, upward; run k lies between places k and k + 1 of the
 // list.
 ghost use mathlib.Core.Path.{_≡_};
-ghost use Prim.Native.Nat.{_-_, _≤_};
-ghost use lib.ListN.{length};
-ghost use Rattle.runs.specs.Runs.{marksFrom, cornerList, between, runAt, copiedFrom, isCopied, workable, numberedRun, Listed};
+ghost use Prim.Native.Nat.{_-_, _≤_, _<_};
+ghost use lib.ListN.{length, getD};
+ghost use Rattle.runs.specs.Runs.{marksFrom, cornerList, stopsOf, between, runAt, copiedFrom, isCopied, workable, numberedRun, Listed};
 
 // A run, from one corner up to the next: its first segment, and how many it has. Nothing where no such run is.
 pub enum Run {
@@ -14,7 +14,8 @@ pub enum Run {
 // Writes the marked indices to the first places of the row, upward; says how many.
 fn list_marks(marks: &[bool], list: &mut [usize]) -> usize
     requires { ⌜ length (now marks) ≤ length (now list) ⌝ }
-    ensures { λ r. ⌜ Listed (now (list .exit)) r (marksFrom (now (marks .entry)) 0) ⌝ }
+    ensures listed { λ r. ⌜ Listed (now (list .exit)) r (marksFrom (now (marks .entry)) 0) ⌝ }
+    ensures few { λ r. ⌜ r ≤ length (now (marks .entry)) ⌝ }
 {
     let mut n = 0;
     let mut i = 0;
@@ -29,13 +30,31 @@ fn list_marks(marks: &[bool], list: &mut [usize]) -> usize
 }
 
 // The corners of a contour, in the first places of the row.
-pub fn list_corners(xs: &[i16], ys: &[i16], flags: &[u8], list: &mut [usize]) -> usize
+fn list_corners(xs: &[i16], ys: &[i16], flags: &[u8], list: &mut [usize]) -> usize
     requires { ⌜ 1024 ≤ length (now list) ⌝ }
-    ensures { λ r. ⌜ Listed (now (list .exit)) r (cornerList (now (xs .entry)) (now (ys .entry)) (now (flags .entry))) ⌝ }
+    ensures listed { λ r. ⌜ Listed (now (list .exit)) r (cornerList (now (xs .entry)) (now (ys .entry)) (now (flags .entry))) ⌝ }
+    ensures few { λ r. ⌜ r ≤ 1024 ⌝ }
+    ensures low { λ r. ⌜ (0 < r → getD (now (list .exit)) 0 0 ≤ 1024) ⌝ }
 {
     let mut marks = [false; 1024];
     corners::segment_sp(xs, ys, flags, &mut marks);
     list_marks(&marks, list)
+}
+
+// Where the runs begin and end: the corners; in closed mode the first once more, going round.
+pub fn list_stops(xs: &[i16], ys: &[i16], flags: &[u8], closed: bool, list: &mut [usize]) -> usize
+    requires { ⌜ 1025 ≤ length (now list) ⌝ }
+    ensures { λ r. ⌜ Listed (now (list .exit)) r (stopsOf closed (now (xs .entry)) (now (ys .entry)) (now (flags .entry))) ⌝ }
+{
+    let n = list_corners(xs, ys, flags, list);
+    if closed {
+        if n == 0 {
+            return n;
+        }
+        list[n] = list[0] + corners::count(flags);
+        return n + 1;
+    }
+    n
 }
 
 // From one corner to the next.
@@ -87,10 +106,10 @@ fn unless_copied(xs: &[i16], ys: &[i16], flags: &[u8], r: Run) -> Run
 }
 
 // Run k of a contour, for the entries that work one run alone.
-pub fn numbered_run(xs: &[i16], ys: &[i16], flags: &[u8], k: usize) -> Run
-    ensures { λ r. ⌜ r ≡ numberedRun (now (xs .entry)) (now (ys .entry)) (now (flags .entry)) k ⌝ }
+pub fn numbered_run(xs: &[i16], ys: &[i16], flags: &[u8], closed: bool, k: usize) -> Run
+    ensures { λ r. ⌜ r ≡ numberedRun closed (now (xs .entry)) (now (ys .entry)) (now (flags .entry)) k ⌝ }
 {
-    let mut list = [0usize; 1024];
-    let n = list_corners(xs, ys, flags, &mut list);
+    let mut list = [0usize; 1025];
+    let n = list_stops(xs, ys, flags, closed, &mut list);
     unless_copied(xs, ys, flags, run_at(&list[..n], k))
 }

@@ -24,17 +24,21 @@ gridBy false = halfGrid
 abbrev pub gridOf : Settings → Grid
 gridOf s = gridBy (s .«whole_units»)
 
--- of numbers, as C and Rust programs give them: the penalty in sixteenths; and for whole units 0, which is no, or any other number, which is yes
-abbrev pub settingsOf : ℕ → ℕ → Settings
-settingsOf penalty whole = record { penalty = penalty; «whole_units» = not (eqb whole 0) }
+-- 0 is no, and any other number yes
+abbrev pub yesOf : ℕ → Bool
+yesOf n = not (eqb n 0)
 
--- document 01's: the penalty 1.0, on half units
+-- of numbers, as C and Rust programs give them: the penalty in sixteenths; whether breaks are rounded to whole units; whether the mode is closed
+abbrev pub settingsOf : ℕ → ℕ → ℕ → Settings
+settingsOf penalty whole closed = record { penalty = penalty; «whole_units» = yesOf whole; closed = yesOf closed }
+
+-- document 01's: the penalty 1.0, half units, the crate's mode
 abbrev pub crateSettings : Settings
-crateSettings = settingsOf 16 0
+crateSettings = settingsOf 16 0 0
 
--- document 02's default: 2.0, on half units
+-- document 02's default: the penalty 2.0, half units, the crate's mode
 abbrev pub defaultSettings : Settings
-defaultSettings = settingsOf 32 0
+defaultSettings = settingsOf 32 0 0
 
 -- ---- refusal 16
 

@@ -10,6 +10,8 @@ pub struct Settings {
     pub penalty: u32,
     // breaks are rounded to whole units, and not to half units
     pub whole_units: bool,
+    // the contour is closed by a run from its last corner to its first
+    pub closed: bool,
 }
 
 // Document 01's penalty, 1.0: the Rust's own.
@@ -26,6 +28,7 @@ impl Settings {
         Settings {
             penalty: CRATE_PENALTY,
             whole_units: false,
+            closed: false,
         }
     }
 

@@ -20,6 +20,10 @@ penaltyWord = 45 ∷ 45 ∷ 112 ∷ 101 ∷ 110 ∷ 97 ∷ 108 ∷ 116 ∷ 121 �
 abbrev pub wholeUnitsWord : List ℕ
 wholeUnitsWord = 45 ∷ 45 ∷ 119 ∷ 104 ∷ 111 ∷ 108 ∷ 101 ∷ 45 ∷ 117 ∷ 110 ∷ 105 ∷ 116 ∷ 115 ∷ []
 
+-- `--closed`
+abbrev pub closedWord : List ℕ
+closedWord = 45 ∷ 45 ∷ 99 ∷ 108 ∷ 111 ∷ 115 ∷ 101 ∷ 100 ∷ []
+
 -- the same bytes
 unfoldable pub sameBytes : List ℕ → List ℕ → Bool
 sameBytes [] [] = true
@@ -31,18 +35,22 @@ abbrev pub pick : Bool → R.Reading → R.Reading → R.Reading
 pick true r other = r
 pick false r other = other
 
--- the same settings with another penalty, and on whole units
+-- the same settings with another penalty, on whole units, and closed
 abbrev pub withPenalty : Settings → ℕ → Settings
-withPenalty s n = record { penalty = n; «whole_units» = s .«whole_units» }
+withPenalty s n = record { penalty = n; «whole_units» = s .«whole_units»; closed = s .closed }
 
 abbrev pub onWholeUnits : Settings → Settings
-onWholeUnits s = record { penalty = s .penalty; «whole_units» = true }
+onWholeUnits s = record { penalty = s .penalty; «whole_units» = true; closed = s .closed }
+
+abbrev pub inClosedMode : Settings → Settings
+inClosedMode s = record { penalty = s .penalty; «whole_units» = s .«whole_units»; closed = true }
 
 -- a word that stands where none is awaited
 unfoldable pub optionOf : Settings → List ℕ → R.Reading
 optionOf s word =
     pick (sameBytes word penaltyWord) (Reading.Penalty s)
-    (pick (sameBytes word wholeUnitsWord) (Reading.Has (onWholeUnits s)) Reading.Wrong)
+    (pick (sameBytes word wholeUnitsWord) (Reading.Has (onWholeUnits s))
+    (pick (sameBytes word closedWord) (Reading.Has (inClosedMode s)) Reading.Wrong))
 
 -- the penalty: decimal digits and nothing else, of any number below 2^32; zeros in front count for nothing
 unfoldable pub sixteenths : Settings → Option ℕ → R.Reading

@@ -33,6 +33,14 @@ fn option_of(s: Settings, word: &[u8]) -> Reading
         return Reading::Has(Settings {
             penalty: s.penalty,
             whole_units: true,
+            closed: s.closed,
+        });
+    }
+    if check::same(word, b"--closed") {
+        return Reading::Has(Settings {
+            penalty: s.penalty,
+            whole_units: s.whole_units,
+            closed: true,
         });
     }
     Reading::Wrong
@@ -48,6 +56,7 @@ fn sixteenths(s: Settings, n: Size) -> Reading
                 return Reading::Has(Settings {
                     penalty: v as u32,
                     whole_units: s.whole_units,
+                    closed: s.closed,
                 });
             }
             Reading::Wrong
@@ -82,6 +91,7 @@ pub fn read(words: &[u8]) -> Asked
     let mut r = Reading::Has(Settings {
         penalty: DEFAULT_PENALTY,
         whole_units: false,
+        closed: false,
     });
     let mut at = 0;
     while at < words.len() {

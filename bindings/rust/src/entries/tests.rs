@@ -286,6 +286,25 @@ fn copied_lines_and_missing_runs_are_refused_by_10() {
 }
 
 #[test]
+fn in_closed_mode_the_last_run_goes_round() {
+    let closed = Settings { closed: true, ..AS_RECORDED };
+    // after the last corner a line to (50, 0), and on to the first corner: no copied line
+    let square = contour(&[(50, 0, 1), (100, 0, 1), (100, 60, 1), (0, 60, 1), (0, 0, 1)]);
+    let number = |settings, run| {
+        chain(&square, run, settings, &mut marked_chain(9, 9, 9, 9), &mut littered_full()).number
+    };
+    assert_eq!([0, 1, 2, 3, 4].map(|run| number(closed, run)), [10, 10, 10, 0, 10]);
+    assert_eq!([0, 1, 2, 3, 4].map(|run| number(AS_RECORDED, run)), [10; 5]);
+    let room = |places| {
+        let mut out = marked(places, places, places, places);
+        crunch(&square, closed, &mut out, &mut littered_full())
+    };
+    // four corners, and the start not again
+    assert_eq!(room(4), CrunchReport { number: 0, points: 4, pairs: 1 });
+    assert_eq!(room(3).number, 9);
+}
+
+#[test]
 fn chain_rows_of_unequal_length_are_not_accepted() {
     let hill = contour(&HILL);
     let mut found = ChainRows::default();

@@ -8,10 +8,10 @@ use Rattle.assembly.proofs.crunch_runs.Statement.{statement}
 use Rattle.assembly.proofs.crunch_runs.Tie as tie
 
 abbrev Inv-loop : tie.InvT-loop
-Inv-loop xs ys flags corners settings samples₀ breaks₀ answers₀ links₀ points₀ p₀ k₀ samples breaks answers links points p k = Running xs ys flags corners settings samples₀ breaks₀ answers₀ links₀ points₀ p₀ samples breaks answers links points p k
+Inv-loop xs ys flags stops settings samples₀ breaks₀ answers₀ links₀ points₀ p₀ k₀ samples breaks answers links points p k = Running xs ys flags stops settings samples₀ breaks₀ answers₀ links₀ points₀ p₀ samples breaks answers links points p k
 
 abbrev μ-loop : tie.MeasureT-loop
-μ-loop xs ys flags corners settings samples₀ breaks₀ answers₀ links₀ points₀ p₀ k₀ samples breaks answers links points p k = length corners - k
+μ-loop xs ys flags stops settings samples₀ breaks₀ answers₀ links₀ points₀ p₀ k₀ samples breaks answers links points p k = length stops - k
 
 loop-holds : tie.Need-loop-holds Inv-loop μ-loop
 loop-holds c = running-start _ _ _ _ _ _ _ _ _ _ _ (c .before .before .before .pre .1)

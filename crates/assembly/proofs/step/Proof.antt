@@ -19,8 +19,8 @@ enum-known-k c = c .match .keys1
 enum-known-pairs : tie.Need-enum-known-pairs
 enum-known-pairs c = c .match .keys2
 
-unchanged-requires : tie.Need-unchanged-requires
-unchanged-requires c κs = tt
+unchanged-in-requires : tie.Need-unchanged-in-requires
+unchanged-in-requires c κs = tt
 
 add-t27 : tie.Need-add-t27
 add-t27 c =
@@ -51,7 +51,7 @@ same-length-2 c = c .before .before .before .before .before .before .edition .ke
 returns : tie.Need-returns
 returns c =
     let works = chosen _ _ _ _ (c .before .before .before .before .before .before .before .per-piece .ensures) (c .before .before .before .before .before .before .edition .ensures) in
-    record { stands = λ ps wrote. refused-stands works _ _ _ ps _ (c .before .k .given .1); pairs = omega arith }
+    record { stands = λ ps wrote. refused-stands works _ ps _ (c .before .k .given .1); pairs = omega arith }
 
 same-length-3 : tie.Need-same-length-3
 same-length-3 c = c .before .before .before .before .before .before .before .before .before .before .edition .kept .1 .1 .0
@@ -60,13 +60,13 @@ same-length-4 : tie.Need-same-length-4
 same-length-4 c = c .before .before .before .before .before .before .before .before .before .before .edition .kept .1 .1 .1 .0
 
 same-length-5 : tie.Need-same-length-5
-same-length-5 c = c .before .before .unchanged .kept .1 .1 .1 .0
+same-length-5 c = c .before .before .unchanged-in .kept .1 .1 .1 .1 .0
 
 returns-2 : tie.Need-returns-2
 returns-2 c =
     let works = chosen _ _ _ _ (c .before .before .before .before .before .before .before .before .before .before .before .per-piece .ensures) (c .before .before .before .before .before .before .before .before .before .before .edition .ensures) in
     record {
-      stands = λ ps wrote. unchanged-stands works _ _ _ ps _ (c .before .before .before .before .before .pairs .given .1) (c .before .before .unchanged .ensures);
+      stands = λ ps wrote. unchanged-stands works _ ps _ (c .before .before .before .before .before .pairs .given .1) (c .before .before .unchanged-in .ensures);
       pairs = omega (arith, few works (edition-pairs _ _ _ (c .before .before .before .before .before .before .before .before .before .before .before .before .before .before .before .before .pre .0) _ _) (c .before .before .before .before .before .pairs .given .1));
     }
 
@@ -83,7 +83,7 @@ returns-3 : tie.Need-returns-3
 returns-3 c =
     let works = chosen _ _ _ _ (c .before .before .before .before .before .before .before .before .before .before .before .before .before .before .per-piece .ensures) (c .before .before .before .before .before .before .before .before .before .before .before .before .before .edition .ensures) in
     record {
-      stands = λ ps wrote. done-stands works _ _ _ ps _ (c .before .before .before .before .before .before .before .before .n .given .1) (c .before .before .push-chain .ensures) wrote;
+      stands = λ ps wrote. done-stands works _ ps _ (c .before .before .before .before .before .before .before .before .n .given .1) (c .before .before .push-chain .ensures) wrote;
       pairs = omega (arith, few works (edition-pairs _ _ _ (c .before .before .before .before .before .before .before .before .before .before .before .before .before .before .before .before .before .before .before .pre .0) _ _) (c .before .before .before .before .before .before .before .before .n .given .1));
     }
 
@@ -95,7 +95,7 @@ step-spec =
     edition-requires
     enum-known-k
     enum-known-pairs
-    unchanged-requires
+    unchanged-in-requires
     add-t27
     enum-known-n
     slice-aggregate-push-chain

@@ -21,8 +21,8 @@ enum-known-k c = c .match .keys1
 enum-told : tie.Need-enum-told
 enum-told c = c .match .keys2
 
-unchanged-requires : tie.Need-unchanged-requires
-unchanged-requires c κs = tt
+unchanged-in-requires : tie.Need-unchanged-in-requires
+unchanged-in-requires c κs = tt
 
 enum-known-n : tie.Need-enum-known-n
 enum-known-n c = c .match .keys3
@@ -56,7 +56,7 @@ same-length-2 c = c .before .before .before .before .before .survey .kept .1 .1 
 returns : tie.Need-returns
 returns c =
     record {
-      stands = λ ps wrote. worked-so _ _ _ ps _ (worked _ _ _ _ _ _ _ (c .before .before .before .before .before .before .before .before .grid .ensures) (c .before .before .before .before .before .survey .last .1 .1 .1 .1 .1 .1 .0) (c .before .before .before .before .before .survey .last .1 .1 .1 .1 .1 .1 .1 .0) (c .before .before .before .before .before .survey .ensures .0) (c .before .k .given .1)) (stops refl);
+      stands = λ ps wrote. worked-so _ ps _ (worked _ _ _ _ _ _ _ (c .before .before .before .before .before .before .before .before .grid .ensures) (c .before .before .before .before .before .survey .last .1 .1 .1 .1 .1 .1 .0) (c .before .before .before .before .before .survey .last .1 .1 .1 .1 .1 .1 .1 .0) (c .before .before .before .before .before .survey .ensures .0) (c .before .k .given .1)) (stops refl);
       pairs = omega arith;
     }
 
@@ -67,12 +67,12 @@ same-length-4 : tie.Need-same-length-4
 same-length-4 c = c .before .before .before .before .before .before .before .survey .kept .1 .1 .1 .1 .1 .1 .1 .0
 
 same-length-5 : tie.Need-same-length-5
-same-length-5 c = c .before .unchanged .kept .1 .1 .1 .0
+same-length-5 c = c .before .unchanged-in .kept .1 .1 .1 .1 .0
 
 returns-2 : tie.Need-returns-2
 returns-2 c =
     record {
-      stands = λ ps wrote. worked-so _ _ _ ps _ (worked _ _ _ _ _ _ _ (c .before .before .before .before .before .before .before .before .before .before .grid .ensures) (c .before .before .before .before .before .before .before .survey .last .1 .1 .1 .1 .1 .1 .0) (c .before .before .before .before .before .before .before .survey .last .1 .1 .1 .1 .1 .1 .1 .0) (c .before .before .before .before .before .before .before .survey .ensures .0) (c .before .before .before .enum-told .given .1)) (ends refl (c .before .unchanged .ensures) (omega arith));
+      stands = λ ps wrote. worked-so _ ps _ (worked _ _ _ _ _ _ _ (c .before .before .before .before .before .before .before .before .before .before .grid .ensures) (c .before .before .before .before .before .before .before .survey .last .1 .1 .1 .1 .1 .1 .0) (c .before .before .before .before .before .before .before .survey .last .1 .1 .1 .1 .1 .1 .1 .0) (c .before .before .before .before .before .before .before .survey .ensures .0) (c .before .before .before .enum-told .given .1)) (ends refl (c .before .unchanged-in .ensures) (omega arith));
       pairs = omega arith;
     }
 
@@ -94,7 +94,7 @@ same-length-10 c = c .before .before .before .before .step .kept .1 .1 .1 .1 .1 
 returns-3 : tie.Need-returns-3
 returns-3 c =
     record {
-      stands = λ ps wrote. worked-so _ _ _ ps _ (worked _ _ _ _ _ _ _ (c .before .before .before .before .before .before .before .before .before .before .before .before .before .before .before .before .before .before .grid .ensures) (c .before .before .before .before .before .before .before .before .before .before .before .before .before .before .before .survey .last .1 .1 .1 .1 .1 .1 .0) (c .before .before .before .before .before .before .before .before .before .before .before .before .before .before .before .survey .last .1 .1 .1 .1 .1 .1 .1 .0) (c .before .before .before .before .before .before .before .before .before .before .before .before .before .before .before .survey .ensures .0) (c .before .before .before .before .before .before .before .before .before .before .before .n .given .1)) (c .before .before .before .before .step .ensures .stands ps wrote);
+      stands = λ ps wrote. worked-so _ ps _ (worked _ _ _ _ _ _ _ (c .before .before .before .before .before .before .before .before .before .before .before .before .before .before .before .before .before .before .grid .ensures) (c .before .before .before .before .before .before .before .before .before .before .before .before .before .before .before .survey .last .1 .1 .1 .1 .1 .1 .0) (c .before .before .before .before .before .before .before .before .before .before .before .before .before .before .before .survey .last .1 .1 .1 .1 .1 .1 .1 .0) (c .before .before .before .before .before .before .before .before .before .before .before .before .before .before .before .survey .ensures .0) (c .before .before .before .before .before .before .before .before .before .before .before .n .given .1)) (c .before .before .before .before .step .ensures .stands ps wrote);
       pairs = c .before .before .before .before .step .ensures .pairs;
     }
 
@@ -106,7 +106,7 @@ work-run-spec =
     survey-requires
     enum-known-k
     enum-told
-    unchanged-requires
+    unchanged-in-requires
     enum-known-n
     slice-reshare-prefix-step
     slice-aggregate-step

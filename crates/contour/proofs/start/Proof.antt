@@ -1,15 +1,12 @@
 -- `contour::start` meets its contract. Assumes nothing.
-use mir.Syntax.{w16}
-use mir.Facts.{toZ-ofZ}
-use borrow.Author.Needs.{sfits-of}
 use Rattle.contour.proofs.start.Statement.{statement}
 use Rattle.contour.proofs.start.Tie as tie
 
-first-requires : tie.Need-first-requires
-first-requires c κs = tt
+nothing-requires : tie.Need-nothing-requires
+nothing-requires c κs = tt
 
-first-requires-2 : tie.Need-first-requires-2
-first-requires-2 c κs = tt
+point-as-requires : tie.Need-point-as-requires
+point-as-requires c κs = tt
 
 push-requires : tie.Need-push-requires
 push-requires c κs = tt
@@ -18,10 +15,14 @@ same-length : tie.Need-same-length
 same-length c = c .before .push .kept .0
 
 returns : tie.Need-returns
-returns c =
-    let x = c .before .before .before .first in
-    let y = c .before .before .first2 in
-    rw (← x .ensures, ← y .ensures) (simp (toZ-ofZ {w = w16} {z = x .result} (sfits-of (x .ok)), toZ-ofZ {w = w16} {z = y .result} (sfits-of (y .ok))) at (c .before .push .ensures))
+returns c = rw (c .before .before .point-as .ensures, c .before .before .before .nothing .ensures) at (c .before .push .ensures)
 
 pub start-spec : {M : Type 1} → statement M
-start-spec = tie.close (tie.spec first-requires first-requires-2 push-requires same-length returns)
+start-spec =
+    tie.close
+    (tie.spec
+    nothing-requires
+    point-as-requires
+    push-requires
+    same-length
+    returns)

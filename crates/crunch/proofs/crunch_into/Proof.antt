@@ -37,10 +37,10 @@ same-length-4 : tie.Need-same-length-4
 same-length-4 c = c .before .before .before .before .before .before .before .before .before .crunch-points .kept .1 .1 .1 .1 .1 .1 .1 .0
 
 same-length-5 : tie.Need-same-length-5
-same-length-5 c = c .before .finish .kept .1 .0 ∙ c .before .before .before .before .before .before .before .before .before .crunch-points .kept .1 .1 .1 .1 .1 .1 .1 .1 .0
+same-length-5 c = c .before .finish .kept .1 .1 .0 ∙ c .before .before .before .before .before .before .before .before .before .crunch-points .kept .1 .1 .1 .1 .1 .1 .1 .1 .0
 
 returns-2 : tie.Need-returns-2
-returns-2 c = judged-gives _ _ _ _ _ _ (c .before .before .before .before .before .before .before .before .before .before .before .before .before .before .before .before .before .judge .ensures) (c .before .before .before .before .before .before .before .before .before .before .before .before .before .before .before .enum-told .given .1) (gives-outcome (c .before .before .before .before .before .before .before .before .before .crunch-points .ensures) (c .before .finish .ensures))
+returns-2 c = judged-gives _ _ _ _ _ _ (c .before .before .before .before .before .before .before .before .before .before .before .before .before .before .before .before .before .judge .ensures) (c .before .before .before .before .before .before .before .before .before .before .before .before .before .before .before .enum-told .given .1) (gives-outcome _ (c .before .before .before .before .before .before .before .before .before .crunch-points .ensures) (c .before .finish .ensures))
 
 pub crunch-into-spec : {M : Type 1} → statement M
 crunch-into-spec =

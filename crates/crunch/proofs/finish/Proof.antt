@@ -21,19 +21,19 @@ finish-points-requires-2 : tie.Need-finish-points-requires-2
 finish-points-requires-2 c κs = counted-by (c .before .before .before .before .args .points .now) (c .before .before .c3 .given .1) (c .before .before .before .before .pre)
 
 returns : tie.Need-returns
-returns c = gives-by (c .before .before .before .args .points .now) (c .before .c .given .1) (no refl)
+returns c = gives-by _ (c .before .before .before .args .points .now) (c .before .c .given .1) (no refl)
 
 same-length : tie.Need-same-length
-same-length c = c .before .finish-points .kept .1 .0
+same-length c = c .before .finish-points .kept .1 .1 .0
 
 returns-2 : tie.Need-returns-2
-returns-2 c = gives-by (c .before .before .before .before .before .before .args .points .now) (c .before .before .before .before .c2 .given .1) (c .before .finish-points .ensures)
+returns-2 c = gives-by _ (c .before .before .before .before .before .before .args .points .now) (c .before .before .before .before .c2 .given .1) (c .before .finish-points .ensures)
 
 same-length-2 : tie.Need-same-length-2
-same-length-2 c = c .before .finish-points2 .kept .1 .0
+same-length-2 c = c .before .finish-points2 .kept .1 .1 .0
 
 returns-3 : tie.Need-returns-3
-returns-3 c = gives-by (c .before .before .before .before .before .before .args .points .now) (c .before .before .before .before .c3 .given .1) (c .before .finish-points2 .ensures)
+returns-3 c = gives-by _ (c .before .before .before .before .before .before .args .points .now) (c .before .before .before .before .c3 .given .1) (c .before .finish-points2 .ensures)
 
 pub finish-spec : {M : Type 1} → statement M
 finish-spec =

@@ -1,5 +1,7 @@
 -- `runs::list_corners` meets its contract. Assumes nothing.
 use Rattle.runs.specs.Runs.{cornerList}
+use Rattle.runs.proofs.Listing.{first-low}
+use native.Mathlib.Omega.{arith}
 use borrow.Author.Needs.{needs}
 use Rattle.runs.proofs.list_corners.Statement.{statement}
 use Rattle.runs.proofs.list_corners.Tie as tie
@@ -21,7 +23,12 @@ same-length c = search needs
 
 returns : tie.Need-returns
 unfolding cornerList
-returns c = rw (← c .before .before .before .before .before .before .segment-sp .ensures .0) (c .before .before .list-marks .ensures)
+returns c =
+    let listed = c .before .before .list-marks .ensures in
+    let marks = c .before .before .before .before .before .before .segment-sp in (
+      rw (← marks .ensures .0) (listed .0),
+      (omega (arith, listed .1, marks .kept .1 .1 .1 .0), λ some. omega (arith, first-low _ (listed .0) some, marks .kept .1 .1 .1 .0)),
+    )
 
 pub list-corners-spec : {M : Type 1} → statement M
 list-corners-spec =

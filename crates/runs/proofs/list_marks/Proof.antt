@@ -2,7 +2,7 @@
 use Prim.Native.Nat.{_-_}
 use mathlib.Core.Logic.{⊎-elim}
 use lib.ListN.{length}
-use Rattle.runs.proofs.Listing.{Listing, listing-start, listing-mark, listing-pass, listed}
+use Rattle.runs.proofs.Listing.{Listing, listing-start, listing-mark, listing-pass, listed, listed-few}
 use borrow.Author.Needs.{needs}
 use Rattle.runs.proofs.list_marks.Statement.{statement}
 use Rattle.runs.proofs.list_marks.Tie as tie
@@ -44,7 +44,9 @@ same-length : tie.Need-same-length Inv-loop μ-loop
 same-length c = c .before .loop .inv .kept
 
 returns : tie.Need-returns Inv-loop μ-loop
-returns c = listed _ (c .before .loop .inv) (c .loop-test .left) (c .before .before .pre)
+returns c =
+    let now = c .before .loop .inv in
+    (listed _ now (c .loop-test .left) (c .before .before .pre), listed-few _ now (c .before .before .pre))
 
 pub list-marks-spec : {M : Type 1} → statement M
 list-marks-spec =

@@ -1,6 +1,6 @@
 -- `words::option_of` meets its contract. Assumes nothing.
 use mathlib.Core.Path.{refl}
-use Rattle.words.specs.Words.{penaltyWord, wholeUnitsWord, optionOf}
+use Rattle.words.specs.Words.{penaltyWord, wholeUnitsWord, closedWord, optionOf}
 use Rattle.words.proofs.Taking.{is-same}
 use Rattle.words.proofs.option_of.Statement.{statement}
 use Rattle.words.proofs.option_of.Tie as tie
@@ -34,13 +34,30 @@ returns-2 c =
       ← is-same (args .word .now) wholeUnitsWord (c .before .same2 .ensures), c .if2 .taken,
     ) refl
 
+slice-aggregate-same-3 : tie.Need-slice-aggregate-same-3
+slice-aggregate-same-3 c = refl
+
+same-requires-3 : tie.Need-same-requires-3
+same-requires-3 c κs = tt
+
 returns-3 : tie.Need-returns-3
 unfolding optionOf
 returns-3 c =
-    let args = c .before .before .before .before .before .before .before .args in
+    let args = c .before .before .before .before .before .before .before .before .before .before .args in
     rw (
-      ← is-same (args .word .now) penaltyWord (c .before .before .before .before .same .ensures), c .before .before .before .if1 .left,
-      ← is-same (args .word .now) wholeUnitsWord (c .before .same2 .ensures), c .if2 .left,
+      ← is-same (args .word .now) penaltyWord (c .before .before .before .before .before .before .before .same .ensures), c .before .before .before .before .before .before .if1 .left,
+      ← is-same (args .word .now) wholeUnitsWord (c .before .before .before .before .same2 .ensures), c .before .before .before .if2 .left,
+      ← is-same (args .word .now) closedWord (c .before .same3 .ensures), c .if3 .taken,
+    ) refl
+
+returns-4 : tie.Need-returns-4
+unfolding optionOf
+returns-4 c =
+    let args = c .before .before .before .before .before .before .before .before .before .before .args in
+    rw (
+      ← is-same (args .word .now) penaltyWord (c .before .before .before .before .before .before .before .same .ensures), c .before .before .before .before .before .before .if1 .left,
+      ← is-same (args .word .now) wholeUnitsWord (c .before .before .before .before .same2 .ensures), c .before .before .before .if2 .left,
+      ← is-same (args .word .now) closedWord (c .before .same3 .ensures), c .if3 .left,
     ) refl
 
 pub option-of-spec : {M : Type 1} → statement M
@@ -53,4 +70,7 @@ option-of-spec =
     slice-aggregate-same-2
     same-requires-2
     returns-2
-    returns-3)
+    slice-aggregate-same-3
+    same-requires-3
+    returns-3
+    returns-4)

@@ -100,6 +100,7 @@ struct Asked {
     tool: Tool,
     penalty: Option<u32>,
     whole_units: bool,
+    closed: bool,
     inputs: Vec<Input>,
     picture: Option<PathBuf>,
 }
@@ -119,10 +120,8 @@ impl Asked {
         match (name, value) {
             ("--svg", value) => self.draw_to(value.or_else(|| words.next())),
             ("--penalty", value) => self.at_penalty(value.or_else(|| words.next())),
-            ("--whole-units", None) => {
-                self.whole_units = true;
-                Ok(())
-            }
+            ("--whole-units", None) => yes(&mut self.whole_units),
+            ("--closed", None) => yes(&mut self.closed),
             ("--crunch", None) => self.then_crunch(),
             ("--index", None) => self.by_index(),
             _ => Err(format!("there is no option {text}")),
@@ -162,7 +161,11 @@ impl Asked {
 
     /// Settings where no run is worked would change nothing, unsaid.
     fn no_settings(&self) -> Result<(), String> {
-        let given = [(self.penalty.is_some(), "--penalty"), (self.whole_units, "--whole-units")];
+        let given = [
+            (self.penalty.is_some(), "--penalty"),
+            (self.whole_units, "--whole-units"),
+            (self.closed, "--closed"),
+        ];
         match given.iter().find(|(is_given, _)| *is_given) {
             None => Ok(()),
             Some((_, name)) => Err(format!("{name} is for crunching: of clean and cubic, with --crunch")),
@@ -178,9 +181,18 @@ impl Asked {
         }
         // studios preview at the penalty of the Rust
         let usual = if self.picture.is_some() { CRATE_PENALTY } else { DEFAULT_PENALTY };
-        let settings = Settings { penalty: self.penalty.unwrap_or(usual), whole_units: self.whole_units };
+        let settings = Settings {
+            penalty: self.penalty.unwrap_or(usual),
+            whole_units: self.whole_units,
+            closed: self.closed,
+        };
         Ok(Job { tool: self.tool, settings, inputs: self.inputs, picture: self.picture })
     }
+}
+
+fn yes(choice: &mut bool) -> Result<(), String> {
+    *choice = true;
+    Ok(())
 }
 
 fn once<T>(name: &str, place: &mut Option<T>, value: T) -> Result<(), String> {

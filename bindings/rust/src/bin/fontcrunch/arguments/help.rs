@@ -28,10 +28,13 @@ usage: fontcrunch [crunch] [SETTINGS] [--svg PICTURE] [FILE...]
 FILE           contours, one a line; standard input where there is none, or for -
 crunch         crunches, which a first word that names no tool does too; a file of a
                tool's name is ./crunch, ./clean and so on
-SETTINGS       --penalty N, --whole-units; without them 32 and half units
+SETTINGS       --penalty N, --whole-units, --closed; without them 32, half units and
+               the crate's mode, in which what lies outside the corners is lost
 --penalty N    what each piece adds to a score, in sixteenths, 1 to 256. A larger one
                asks for fewer pieces; 16 is that of the Rust which this follows
 --whole-units  rounds breaks to whole units, not to half ones
+--closed       a last run goes round from the last corner to the first, points come
+               out in order from the first corner on, and nothing is lost
 --svg PICTURE  draws each contour before and after, to a file. Without --penalty the
                penalty is 16, of the picture and of the answers
 clean          drops repeated points instead
@@ -49,8 +52,8 @@ on-curve). The first point is on-curve, and implied points are written out. An
 empty line is a contour of no point.
 
 A line out, for each line in:
-  ok PAIRS x y f ...  the points that came out, in reverse order; PAIRS of breaks
-                      were tried
+  ok PAIRS x y f ...  the points that came out, in reverse order, or with --closed
+                      in order; PAIRS of breaks were tried
   refused K           nothing came out; the reason goes to standard error
   ok x y f ... | k:why ...
                       clean: the points kept, and each dropped place k of the line,

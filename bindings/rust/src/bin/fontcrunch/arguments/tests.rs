@@ -106,10 +106,19 @@ fn whole_units() {
 }
 
 #[test]
+fn closed() {
+    assert!(!job(&[]).settings.closed);
+    assert_eq!(job(&["--closed"]).settings, Settings { closed: true, ..Settings::default() });
+    let drawn = Settings { penalty: 16, whole_units: true, closed: true };
+    assert_eq!(job(&["--whole-units", "--svg", "p", "--closed"]).settings, drawn);
+}
+
+#[test]
 fn settings_are_for_what_crunches() {
     for tool in ["clean", "cubic", "why"] {
         assert!(fault(&[tool, "--penalty", "16"]).contains("--penalty is for crunching"), "{tool}");
         assert!(fault(&[tool, "--whole-units"]).contains("--whole-units is for crunching"), "{tool}");
+        assert!(fault(&[tool, "--closed"]).contains("--closed is for crunching"), "{tool}");
     }
 }
 

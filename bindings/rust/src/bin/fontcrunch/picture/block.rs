@@ -103,10 +103,9 @@ fn outcome(subject: &Subject) -> String {
         Err(refusal) => format!("refused by {}", refusal.number()),
         Ok(crunched) => {
             let pairs = svg::counted(crunched.pairs, "pair");
-            let change = if subject.reading.is_unchanged() {
-                "unchanged: no chain was found for a run".to_owned()
-            } else {
-                saving(subject.before.len(), crunched.points.len())
+            let change = match subject.reading.unchanged() {
+                Some(cause) => format!("unchanged: {cause}"),
+                None => saving(subject.before.len(), crunched.points.len()),
             };
             format!("{change}, {pairs} tried")
         }

@@ -11,7 +11,7 @@ pub const HEIGHT: f64 = 104.0;
 /// A mark at a place, and the words beside it.
 type Entry = (fn(Place) -> String, &'static str, f64);
 
-/// Each with the width that its words take.
+/// Each with the width that its words take. The last is left out in closed mode, in which nothing is lost.
 const ENTRIES: [Entry; 7] = [
     (on_curve, "on-curve point", 120.0),
     (off_curve, "off-curve point and its handles", 204.0),
@@ -48,7 +48,7 @@ pub fn drawn(settings: Settings) -> String {
         REASONS,
     ));
     svg.push_str(&svg::text(Place { x: MARGIN, y: 56.0 }, 12.0, svg::TEXT, "", &settings_words(settings)));
-    svg.push_str(&entries());
+    svg.push_str(&entries(if settings.closed { &ENTRIES[..ENTRIES.len() - 1] } else { &ENTRIES }));
     svg.push_str(&svg::segment(
         Place { x: MARGIN, y: HEIGHT - 4.0 },
         Place { x: WIDTH - MARGIN, y: HEIGHT - 4.0 },
@@ -61,16 +61,17 @@ pub fn drawn(settings: Settings) -> String {
 fn settings_words(settings: Settings) -> String {
     let penalty = svg::counted(settings.penalty as usize, "sixteenth");
     let units = if settings.whole_units { "whole units" } else { "half units" };
+    let mode = if settings.closed { "closed mode" } else { "the crate's mode" };
     format!(
-        "at the penalty {:?}, {penalty}; breaks on {units}, the light lines where there is room for them",
+        "at the penalty {:?}, {penalty}; breaks on {units}, the light lines where there is room for them; {mode}",
         f64::from(settings.penalty) / 16.0
     )
 }
 
-fn entries() -> String {
+fn entries(entries: &[Entry]) -> String {
     let mut svg = String::new();
     let mut x = MARGIN + 8.0;
-    for (mark, words, width) in ENTRIES {
+    for (mark, words, width) in entries {
         svg.push_str(&mark(Place { x, y: 81.0 }));
         svg.push_str(&svg::text(Place { x: x + 16.0, y: 85.0 }, 12.0, svg::TEXT, "", words));
         x += width;

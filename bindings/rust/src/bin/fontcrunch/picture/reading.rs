@@ -5,7 +5,8 @@
 //! of a break. A break that a piece ends at is a node of the result, written or implied, since a piece is
 //! written as its control and its end, and an end is dropped only where it is implied. So the nodes are the
 //! start, then one for each piece of each run, and the node after a run's last piece is the next corner. A
-//! copied line counts as a piece. The result is in reverse order, so nodes are counted from its end.
+//! copied line counts as a piece. In the crate's mode the result is in reverse order, so nodes are counted from
+//! its end; in closed mode the start stands for the end of the last piece.
 
 use std::ops::Range;
 
@@ -25,6 +26,7 @@ pub enum Came {
 
 #[derive(Debug, PartialEq)]
 pub struct Run {
+    /// Going round: past the last segment of the contour the first ones follow.
     pub segments: Range<usize>,
     pub came: Came,
 }
@@ -40,6 +42,8 @@ pub enum Join {
 
 #[derive(Debug, Default, PartialEq)]
 pub struct Reading {
+    /// The mode: whether a last run goes round.
+    pub closed: bool,
     /// The segments that start at a corner, as the library tells.
     pub corners: Vec<usize>,
     /// Why, for each corner.
@@ -60,17 +64,61 @@ impl Reading {
         let lines = lines(before);
         let (corners, reasons): (Vec<usize>, Vec<Reasons>) =
             (0..lines.len()).filter_map(|i| why(cruncher, before, i).map(|reasons| (i, reasons))).unzip();
-        let runs = worked_runs(cruncher, before, &lines, &corners);
-        let joins = result.as_ref().map_or_else(
-            |_| Vec::new(),
-            |crunched| joins(Outline::of(&crunched.points).nodes.len(), &corners, &runs),
-        );
-        let lost = if result.is_ok() && !is_unchanged(&runs) { lost(&lines, &corners) } else { Vec::new() };
-        Reading { corners, reasons, runs, joins, lost }
+        let closed = cruncher.settings().closed;
+        let runs = worked_runs(cruncher, before, &lines, spans(&corners, lines.len(), closed));
+        let mut reading = Reading { closed, corners, reasons, runs, ..Reading::default() };
+        if let Ok(crunched) = result {
+            reading.joins = reading.joins(Outline::of(&crunched.points).nodes.len());
+            reading.lost = reading.lost(&lines);
+        }
+        reading
     }
 
-    pub fn is_unchanged(&self) -> bool {
-        is_unchanged(&self.runs)
+    /// Why the contour is left as it came, if it is.
+    pub fn unchanged(&self) -> Option<&'static str> {
+        if self.runs.iter().any(|run| run.came == Came::Unchanged) {
+            Some("no chain was found for a run")
+        } else if self.closed && self.corners.is_empty() {
+            Some("there is no corner")
+        } else {
+            None
+        }
+    }
+
+    /// In an unchanged contour no node is told from another: its points are those that went in.
+    fn joins(&self, nodes: usize) -> Vec<Join> {
+        if self.unchanged().is_some() {
+            return vec![Join::Plain; nodes];
+        }
+        let at_corner = self.closed || self.corners.first() == Some(&0);
+        let mut joins = vec![if at_corner { Join::Corner } else { Join::Plain }];
+        for run in &self.runs {
+            if let Came::Pieces(pieces) = run.came {
+                joins.extend(vec![Join::Break; pieces - 1]);
+                joins.push(Join::Corner);
+            }
+        }
+        if self.closed {
+            joins.pop();
+        } else {
+            joins.reverse();
+        }
+        joins
+    }
+
+    /// In the crate's mode what lies before the first corner and after the last is not written. One line from the
+    /// last corner to the first is no loss: the contour closes by it.
+    fn lost(&self, lines: &[bool]) -> Vec<usize> {
+        if self.closed || self.unchanged().is_some() {
+            return Vec::new();
+        }
+        let (Some(&first), Some(&last)) = (self.corners.first(), self.corners.last()) else {
+            return (0..lines.len()).collect();
+        };
+        if first == 0 && last + 1 == lines.len() && lines[last] {
+            return Vec::new();
+        }
+        (0..first).chain(last..lines.len()).collect()
     }
 
     /// The run for which the contour is refused.
@@ -79,8 +127,12 @@ impl Reading {
     }
 }
 
-fn is_unchanged(runs: &[Run]) -> bool {
-    runs.iter().any(|run| run.came == Came::Unchanged)
+/// The segments of each run: from corner to corner, and in closed mode a last one from the last corner round to
+/// the first.
+fn spans(corners: &[usize], segments: usize, closed: bool) -> Vec<Range<usize>> {
+    let between = corners.windows(2).map(|ends| ends[0]..ends[1]);
+    let closing = corners.first().zip(corners.last()).map(|(first, last)| *last..segments + first);
+    between.chain(closing.filter(|_| closed)).collect()
 }
 
 /// Whether each segment is a line: its start, an on-curve point, is followed by one.
@@ -95,10 +147,14 @@ fn why(cruncher: &mut Cruncher, points: &[Point], index: usize) -> Option<Reason
 }
 
 /// The runs up to the one that ends the work, by refusal or by leaving the contour unchanged.
-fn worked_runs(cruncher: &mut Cruncher, points: &[Point], lines: &[bool], corners: &[usize]) -> Vec<Run> {
+fn worked_runs(
+    cruncher: &mut Cruncher,
+    points: &[Point],
+    lines: &[bool],
+    spans: Vec<Range<usize>>,
+) -> Vec<Run> {
     let mut runs = Vec::new();
-    for (k, ends) in corners.windows(2).enumerate() {
-        let of = ends[0]..ends[1];
+    for (k, of) in spans.into_iter().enumerate() {
         let came =
             if of.len() == 1 && lines[of.start] { Came::Pieces(1) } else { came_of(cruncher, points, k) };
         let last = !matches!(came, Came::Pieces(_));
@@ -116,32 +172,6 @@ fn came_of(cruncher: &mut Cruncher, points: &[Point], run: usize) -> Came {
         Ok(chain) if chain.pieces.is_empty() => Came::Unchanged,
         Ok(chain) => Came::Pieces(chain.pieces.len()),
     }
-}
-
-/// In an unchanged contour no node is told from another: its points are those that went in.
-fn joins(nodes: usize, corners: &[usize], runs: &[Run]) -> Vec<Join> {
-    let mut joins = vec![if corners.first() == Some(&0) { Join::Corner } else { Join::Plain }];
-    for run in runs {
-        let Came::Pieces(pieces) = run.came else {
-            return vec![Join::Plain; nodes];
-        };
-        joins.extend(vec![Join::Break; pieces - 1]);
-        joins.push(Join::Corner);
-    }
-    joins.reverse();
-    joins
-}
-
-/// What lies before the first corner and after the last is not written. One line from the last corner to
-/// the first is no loss: the contour closes by it.
-fn lost(lines: &[bool], corners: &[usize]) -> Vec<usize> {
-    let (Some(&first), Some(&last)) = (corners.first(), corners.last()) else {
-        return (0..lines.len()).collect();
-    };
-    if first == 0 && last + 1 == lines.len() && lines[last] {
-        return Vec::new();
-    }
-    (0..first).chain(last..lines.len()).collect()
 }
 
 #[cfg(test)]

@@ -80,10 +80,11 @@ pub fn closed_path(outline: &Outline, view: &View) -> String {
     format!("{}Z", path(outline, view, 0..outline.curves.len()))
 }
 
-/// Some curves of an outline, each after the one before it.
+/// Some curves of an outline, each after the one before it, going round: past the last the first ones follow.
 pub fn path(outline: &Outline, view: &View, curves: std::ops::Range<usize>) -> String {
-    let mut data = format!("M{}", view.text(outline.nodes[curves.start].place));
-    for curve in &outline.curves[curves] {
+    let count = outline.curves.len();
+    let mut data = format!("M{}", view.text(outline.nodes[curves.start % count].place));
+    for curve in curves.map(|i| &outline.curves[i % count]) {
         match curve.control {
             None => data.push_str(&format!("L{}", view.text(curve.end))),
             Some(control) => {
@@ -193,7 +194,9 @@ pub fn direction(from: Place, to: Place) -> (f64, f64) {
 
 #[cfg(test)]
 mod tests {
+    use super::super::view::Extent;
     use super::*;
+    use fontcrunch::Point;
 
     #[test]
     fn numbers_are_short() {
@@ -206,6 +209,16 @@ mod tests {
         assert_eq!(grouped(1_234_567), "1,234,567");
         assert_eq!(counted(1, "point"), "1 point");
         assert_eq!(counted(1000, "pair"), "1,000 pairs");
+    }
+
+    #[test]
+    fn a_path_goes_round() {
+        let places = [Place::ORIGIN, Place { x: 4.0, y: 0.0 }, Place { x: 0.0, y: 4.0 }];
+        let corners = [Point::on(0, 0), Point::on(4, 0), Point::on(0, 4)];
+        let outline = Outline::of(&corners);
+        let view = View::new(&Extent::of(places), 1.0, 0.0, 0.0, 4.0);
+        assert_eq!(path(&outline, &view, 0..2), "M0 4L4 4L0 0");
+        assert_eq!(path(&outline, &view, 2..4), "M0 0L0 4L4 4");
     }
 
     #[test]

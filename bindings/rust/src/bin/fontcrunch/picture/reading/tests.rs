@@ -16,6 +16,14 @@ fn reading(numbers: &[i16]) -> Reading {
     read(&points(numbers)).0
 }
 
+fn closed() -> Settings {
+    Settings { closed: true, ..Settings::of_crate() }
+}
+
+fn reading_closed(numbers: &[i16]) -> Reading {
+    read_at(closed(), &points(numbers)).0
+}
+
 const HILL: [i16; 18] = [0, 0, 1, 0, 60, 0, 40, 90, 1, 80, 120, 0, 130, 120, 1, 200, -40, 1];
 
 #[test]
@@ -37,32 +45,35 @@ fn corners_and_breaks_are_told_apart() {
 fn assert_runs_agree(cruncher: &mut Cruncher, points: &[Point]) {
     let lines = lines(points);
     let corners: Vec<usize> = (0..lines.len()).filter(|&i| why(cruncher, points, i).is_some()).collect();
-    for (k, ends) in corners.windows(2).enumerate() {
-        let copied = ends[1] - ends[0] == 1 && lines[ends[0]];
+    let spans = spans(&corners, lines.len(), cruncher.settings().closed);
+    for (k, of) in spans.iter().enumerate() {
+        let copied = of.len() == 1 && lines[of.start];
         let refused = cruncher.chain(points, k) == Err(Refusal::NoSuchRun);
         assert_eq!(refused, copied, "run {k} of {points:?}");
     }
-    let runs = corners.len().saturating_sub(1);
-    assert_eq!(cruncher.chain(points, runs), Err(Refusal::NoSuchRun), "{points:?}");
+    assert_eq!(cruncher.chain(points, spans.len()), Err(Refusal::NoSuchRun), "{points:?}");
 }
 
 #[test]
 fn runs_are_those_that_the_library_works() {
-    let mut cruncher = Cruncher::new(Settings::of_crate());
-    for contour in contours(1, 300) {
-        assert_runs_agree(&mut cruncher, &contour);
+    for settings in [Settings::of_crate(), closed()] {
+        let mut cruncher = Cruncher::new(settings);
+        for contour in contours(1, 300) {
+            assert_runs_agree(&mut cruncher, &contour);
+        }
     }
 }
 
-fn assert_a_join_for_each_node(contour: &[Point]) {
-    let (reading, result) = read(contour);
+fn assert_a_join_for_each_node(settings: Settings, contour: &[Point]) {
+    let (reading, result) = read_at(settings, contour);
     let Ok(crunched) = result else {
         return;
     };
     assert_eq!(reading.joins.len(), Outline::of(&crunched.points).nodes.len(), "{contour:?}");
-    if !reading.is_unchanged() {
+    if reading.unchanged().is_none() {
         let corners = reading.joins.iter().filter(|&&join| join == Join::Corner).count();
-        let unwritten = usize::from(reading.corners.first().is_some_and(|&first| first > 0));
+        let late = reading.corners.first().is_some_and(|&first| first > 0);
+        let unwritten = usize::from(late && !settings.closed);
         assert_eq!(corners + unwritten, reading.corners.len(), "{contour:?}");
     }
 }
@@ -70,7 +81,8 @@ fn assert_a_join_for_each_node(contour: &[Point]) {
 #[test]
 fn there_is_a_join_for_each_node() {
     for contour in contours(2, 300) {
-        assert_a_join_for_each_node(&contour);
+        assert_a_join_for_each_node(Settings::of_crate(), &contour);
+        assert_a_join_for_each_node(closed(), &contour);
     }
 }
 
@@ -80,7 +92,8 @@ fn there_is_a_join_for_each_node_of_a_letter() {
     // the two counters: the outer contour takes its time
     for line in letter.lines().skip(1) {
         let numbers: Vec<i16> = line.split(' ').map(|word| word.parse().unwrap()).collect();
-        assert_a_join_for_each_node(&points(&numbers));
+        assert_a_join_for_each_node(Settings::of_crate(), &points(&numbers));
+        assert_a_join_for_each_node(closed(), &points(&numbers));
     }
 }
 
@@ -106,9 +119,46 @@ fn a_start_that_is_no_corner() {
 #[test]
 fn an_unchanged_contour_has_plain_nodes() {
     let still = reading(&[5, 5, 1, 5, 5, 0, 5, 5, 1]);
-    assert!(still.is_unchanged());
+    assert_eq!(still.unchanged(), Some("no chain was found for a run"));
     assert!(still.joins.iter().all(|&join| join == Join::Plain));
     assert_eq!(still.lost, [0; 0]);
+}
+
+#[test]
+fn runs_going_round() {
+    assert_eq!(spans(&[1, 2, 4], 5, false), [1..2, 2..4]);
+    assert_eq!(spans(&[1, 2, 4], 5, true), [1..2, 2..4, 4..6]);
+    assert_eq!(spans(&[2], 3, true), [2..5]);
+    assert_eq!(spans(&[2], 3, false), [0..0; 0]);
+    assert_eq!(spans(&[], 3, true), [0..0; 0]);
+}
+
+#[test]
+fn the_start_stands_for_the_end_of_the_last_run() {
+    let runs = [(0..2, 2), (2..3, 1), (3..4, 1)]
+        .map(|(segments, pieces)| Run { segments, came: Came::Pieces(pieces) });
+    let hill = Reading { closed: true, corners: vec![0, 2, 3], runs: runs.into(), ..Reading::default() };
+    assert_eq!(hill.joins(4), [Join::Corner, Join::Break, Join::Corner, Join::Corner]);
+    let alone = Run { segments: 0..3, came: Came::Pieces(1) };
+    let one = Reading { closed: true, corners: vec![0], runs: vec![alone], ..Reading::default() };
+    assert_eq!(one.joins(1), [Join::Corner]);
+}
+
+#[test]
+fn nothing_is_lost_in_closed_mode() {
+    let hill = reading_closed(&HILL);
+    assert_eq!(hill.joins, [Join::Corner, Join::Break, Join::Corner, Join::Corner]);
+    // the start lies within a straight edge, which is the last run
+    let square = reading_closed(&[50, 0, 1, 100, 0, 1, 100, 100, 1, 0, 100, 1, 0, 0, 1]);
+    assert_eq!(square.runs.last(), Some(&Run { segments: 4..6, came: Came::Pieces(1) }));
+    assert_eq!(square.joins, [Join::Corner; 4]);
+    let curve = reading_closed(&[0, 0, 1, 100, 0, 1, 50, 100, 0]);
+    assert_eq!(curve.joins, [Join::Corner; 2]);
+    let no_corner = reading_closed(&[0, 0, 1, 10, 10, 0]);
+    assert_eq!(no_corner.unchanged(), Some("there is no corner"));
+    for reading in [hill, square, curve, no_corner] {
+        assert_eq!(reading.lost, [0; 0]);
+    }
 }
 
 #[test]
