@@ -219,6 +219,9 @@ typedef struct WhyReport {
  * Crunches a contour. Its points are written to the first places of ox, oy and of, and no other place of
  * these rows is touched. Implied points are dropped. A refusal writes no point.
  *
+ * An on-curve point between two off-curve ones is implied, in closed mode, where twice each of its coordinates is
+ * the sum of theirs, as OpenType has it. In the crate's mode the sum is cut to 16 bits and then halved toward 0.
+ *
  * In the crate's mode the points come out in reverse order. In closed mode they come out in order, from the first
  * corner on; this start is not written again at the end, but stands for the end of the last piece, wherever that
  * break was rounded to. It is dropped itself where it is implied.

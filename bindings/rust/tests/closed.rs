@@ -57,6 +57,16 @@ fn an_implied_start_is_dropped() {
 }
 
 #[test]
+fn a_point_is_implied_where_twice_it_is_the_whole_sum() {
+    // (9, -5) stands between (10, -4) and (9, -6): the midpoint is a half unit
+    let crunched = closed().crunch(&points(&[22, -6, 1, 9, -4, 0, 9, -5, 1, 9, -6, 0])).unwrap();
+    assert_eq!(crunched.points, points(&[22, -6, 1, 10, -4, 0, 9, -5, 1, 9, -6, 0]));
+    // an unchanged contour: (-1, 0) stands between (32767, 0) twice, whose sum is not cut
+    let far = [5, 5, 1, 5, 5, 0, 5, 5, 1, 32767, 0, 0, -1, 0, 1, 32767, 0, 0];
+    assert_crunches(&far, 1, &far);
+}
+
+#[test]
 fn m_corners_make_m_runs() {
     let square = points(&[50, 0, 1, 100, 0, 1, 100, 60, 1, 0, 60, 1, 0, 0, 1]);
     let mut cruncher = closed();

@@ -7,4 +7,5 @@ mod Dropping
 pub mod Copying
 mod Values
 mod Modulo
+pub mod Standard
 mod Came

@@ -8,10 +8,10 @@ use borrow.Author.Tests.{lt-ltb, le-ltb, eq-eqb, ne-eqb, eqb-true, eqb-false, lt
 use lib.Dec.{eqb, ltb}
 use lib.IntN.{ℤ, pos, negsuc, negℤ, _+ℤ_, _-ℤ_}
 use lib.Signed.{mag, quotZ, ltZ}
-use mir.Syntax.{w16, w32}
+use mir.Syntax.{Width, w16, w32}
 use mir.Val.{SFits, toZ, ofZ}
 use mir.Facts.{toZ-ofZ, sfits-widen}
-use Rattle.contour.specs.Implied.{mod16, signedIf, cutOf, middleOf, same, midway}
+use Rattle.contour.specs.Implied.{mod16, signedIf, cutOf, middleOf, same}
 
 -- ---- the cut
 
@@ -129,7 +129,7 @@ module _ {z : ℤ} (f : SFits w16 z) where
 
 -- ---- equal numbers
 
-is-same : (a b : ℤ) → a ≡ b → same a b ≡ true
+pub is-same : (a b : ℤ) → a ≡ b → same a b ≡ true
 is-same a b e = rw e (by b)
   where
     by : (z : ℤ) → same z z ≡ true
@@ -143,12 +143,17 @@ not-same (negsuc a) (pos b) f = refl
 not-same (negsuc a) (negsuc b) f = ne-eqb a b (λ e. f (ap negsuc e))
 
 -- the code compares bits
-pub same-bits : {a b : ℤ} → SFits w16 a → SFits w16 b → eqb (ofZ w16 a) (ofZ w16 b) ≡ same a b
-same-bits {a} {b} fa fb = by (eqb (ofZ w16 a) (ofZ w16 b)) refl
+pub same-bits : {w : Width} {a b : ℤ} → SFits w a → SFits w b → eqb (ofZ w a) (ofZ w b) ≡ same a b
+same-bits {w} {a} {b} fa fb = by (eqb (ofZ w a) (ofZ w b)) refl
   where
-    by : (t : Bool) → eqb (ofZ w16 a) (ofZ w16 b) ≡ t → t ≡ same a b
-    by true e = sym (is-same a b (sym (toZ-ofZ fa) ∙ ap (toZ w16) (eqb-true (ofZ w16 a) (ofZ w16 b) e) ∙ toZ-ofZ fb))
-    by false e = sym (not-same a b (λ q. eqb-false (ofZ w16 a) (ofZ w16 b) e (ap (ofZ w16) q)))
+    by : (t : Bool) → eqb (ofZ w a) (ofZ w b) ≡ t → t ≡ same a b
+    by true e = sym (is-same a b (sym (toZ-ofZ fa) ∙ ap (toZ w) (eqb-true (ofZ w a) (ofZ w b) e) ∙ toZ-ofZ fb))
+    by false e = sym (not-same a b (λ q. eqb-false (ofZ w a) (ofZ w b) e (ap (ofZ w) q)))
+
+-- it compares sums of two in 32 bits, where nothing is cut
+pub same-sums : {a b c d : ℤ} (fa : SFits w16 a) (fb : SFits w16 b) (fc : SFits w16 c) (fd : SFits w16 d) →
+    eqb (ofZ w32 (added fa fb)) (ofZ w32 (added fc fd)) ≡ same (a +ℤ b) (c +ℤ d)
+same-sums fa fb fc fd = same-bits (added-fits fa fb) (added-fits fc fd) ∙ λ k. same (added-is fa fb k) (added-is fc fd k)
 
 -- ---- numbers that are handed to a function, read back from their bits
 
@@ -158,6 +163,6 @@ sum-back a b fa fb = λ k. cutOf (toZ-ofZ fa k +ℤ toZ-ofZ fb k)
 pub middle-back : (a b : ℤ) → SFits w16 a → SFits w16 b → middleOf (toZ w16 (ofZ w16 a)) (toZ w16 (ofZ w16 b)) ≡ middleOf a b
 middle-back a b fa fb = λ k. middleOf (toZ-ofZ fa k) (toZ-ofZ fb k)
 
-pub midway-back : (a b c : ℤ) → SFits w16 a → SFits w16 b → SFits w16 c →
-    midway (toZ w16 (ofZ w16 a)) (toZ w16 (ofZ w16 b)) (toZ w16 (ofZ w16 c)) ≡ midway a b c
-midway-back a b c fa fb fc = λ k. midway (toZ-ofZ fa k) (toZ-ofZ fb k) (toZ-ofZ fc k)
+pub midway-back : (test : ℤ → ℤ → ℤ → Bool) (a b c : ℤ) → SFits w16 a → SFits w16 b → SFits w16 c →
+    test (toZ w16 (ofZ w16 a)) (toZ w16 (ofZ w16 b)) (toZ w16 (ofZ w16 c)) ≡ test a b c
+midway-back test a b c fa fb fc = λ k. test (toZ-ofZ fa k) (toZ-ofZ fb k) (toZ-ofZ fc k)

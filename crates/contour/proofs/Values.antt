@@ -31,11 +31,11 @@ unfolding pointsTo countOf placeAfter endOf segFrom dropFrom look impliedAt isIm
 doubled = refl
 
 -- neighbours going round: at place 0 and at the last place
-first-place : dropImplied isImplied (on (pos 1) (pos 0) ∷ off (pos 2) (pos 0) ∷ off (pos 0) (pos 0) ∷ []) ≡ off (pos 2) (pos 0) ∷ off (pos 0) (pos 0) ∷ []
+first-place : dropImplied (isImplied false) (on (pos 1) (pos 0) ∷ off (pos 2) (pos 0) ∷ off (pos 0) (pos 0) ∷ []) ≡ off (pos 2) (pos 0) ∷ off (pos 0) (pos 0) ∷ []
 unfolding dropFrom look impliedAt isImplied cutOf
 first-place = refl
 
-last-place : dropImplied isImplied (off (pos 0) (pos 0) ∷ on (pos 9) (pos 9) ∷ off (pos 2) (pos 0) ∷ on (pos 1) (pos 0) ∷ [])
+last-place : dropImplied (isImplied false) (off (pos 0) (pos 0) ∷ on (pos 9) (pos 9) ∷ off (pos 2) (pos 0) ∷ on (pos 1) (pos 0) ∷ [])
     ≡ off (pos 0) (pos 0) ∷ on (pos 9) (pos 9) ∷ off (pos 2) (pos 0) ∷ []
 unfolding dropFrom look impliedAt isImplied cutOf
 last-place = refl

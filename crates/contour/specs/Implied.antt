@@ -1,4 +1,4 @@
--- Implied points, the Rust's `remove_implied_oncurves`, and what is done to the written points at the end. Definitions only.
+-- Implied points, the Rust's `remove_implied_oncurves` and OpenType's, and what is done to the written points at the end. Definitions only.
 use Prim.Native.Nat.{ℕ, zero, suc, _+_, _-_, _%_, _^_}
 use mathlib.Core.Bool.{Bool, true, false, not, _&&_}
 use mathlib.Core.List.{List, [], _++_, reverse}
@@ -43,17 +43,26 @@ number p k = getD p k (pos 0)
 abbrev pub offCurve : List ℤ → Bool
 offCurve p = same (number p 2) (pos 0)
 
--- this coordinate is the middle of its neighbours'
+-- in the crate's mode: this coordinate is the half of its neighbours' cut sum
 abbrev pub midway : ℤ → ℤ → ℤ → Bool
 midway prev this next = same this (middleOf prev next)
 
-abbrev pub midwayIn : ℕ → List ℤ → List ℤ → List ℤ → Bool
-midwayIn k prev this next = midway (number prev k) (number this k) (number next k)
+-- by OpenType: twice this coordinate is the full sum of its neighbours'
+abbrev pub halfway : ℤ → ℤ → ℤ → Bool
+halfway prev this next = same (this +ℤ this) (prev +ℤ next)
+
+-- closed mode is OpenType's
+abbrev pub midwayBy : Bool → ℤ → ℤ → ℤ → Bool
+midwayBy true prev this next = halfway prev this next
+midwayBy false prev this next = midway prev this next
+
+abbrev pub midwayIn : Bool → ℕ → List ℤ → List ℤ → List ℤ → Bool
+midwayIn closed k prev this next = midwayBy closed (number prev k) (number this k) (number next k)
 
 -- an on-curve point between two off-curve ones, midway in each coordinate
-unfoldable pub isImplied : List ℤ → List ℤ → List ℤ → Bool
-isImplied prev this next =
-    not (offCurve this) && (offCurve prev && (offCurve next && (midwayIn 0 prev this next && midwayIn 1 prev this next)))
+unfoldable pub isImplied : Bool → List ℤ → List ℤ → List ℤ → Bool
+isImplied closed prev this next =
+    not (offCurve this) && (offCurve prev && (offCurve next && (midwayIn closed 0 prev this next && midwayIn closed 1 prev this next)))
 
 -- ---- dropping, by any such test
 
@@ -79,7 +88,7 @@ module _ (implied : List ℤ → List ℤ → List ℤ → Bool) where
   abbrev pub dropImplied : Points → Points
   dropImplied ps = dropFrom ps 0
 
--- ---- the end: in the crate's mode the row is reversed; then implied points are dropped
+-- ---- the end: in the crate's mode the row is reversed; then implied points are dropped, by the mode's test
 
 -- in closed mode the order of the input points is kept
 abbrev pub orderedIn : Bool → Points → Points
@@ -87,4 +96,4 @@ orderedIn true ps = ps
 orderedIn false ps = reverse ps
 
 abbrev pub finished : Bool → Points → Points
-finished closed ps = dropImplied isImplied (orderedIn closed ps)
+finished closed ps = dropImplied (isImplied closed) (orderedIn closed ps)

@@ -85,5 +85,5 @@ module _ (implied : List ℤ → List ℤ → List ℤ → Bool) where
   dropped-shorter ps = look-shorter (length ps - 0) (impliedAt implied ps 0) ps 0
 
 pub finished-shorter : (closed : Bool) (ps : Points) → length (finished closed ps) ≤ length ps
-finished-shorter true ps = dropped-shorter isImplied ps
-finished-shorter false ps = rw (length-reverse ps) at (dropped-shorter isImplied (reverse ps))
+finished-shorter true ps = dropped-shorter (isImplied true) ps
+finished-shorter false ps = rw (length-reverse ps) at (dropped-shorter (isImplied false) (reverse ps))

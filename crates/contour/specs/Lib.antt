@@ -2,4 +2,5 @@ pub mod Points
 pub mod Writing
 pub mod Implied
 pub mod Output
+pub mod Standard
 pub mod Laws

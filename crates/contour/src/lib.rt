@@ -12,7 +12,7 @@ ghost use lib.ListN.{length, take, drop, getD, set};
 ghost use Rattle.corners.specs.Corners.{previous};
 ghost use Rattle.contour.specs.Points.{onPoint, offPoint, pointAs, startPoint, pointsOf, piecePoints, unchangedPoints, cameTo, unchangedIn};
 ghost use Rattle.contour.specs.Writing.{written, Wrote, Appended, Closed, Holds};
-ghost use Rattle.contour.specs.Implied.{cutOf, middleOf, offCurve, midway, isImplied, impliedAt, removed, dropImplied, finished};
+ghost use Rattle.contour.specs.Implied.{cutOf, middleOf, offCurve, halfway, midwayBy, isImplied, impliedAt, removed, dropImplied, finished};
 ghost use Rattle.contour.specs.Output.{column, flagOf, flags, front, outputs, given};
 
 // So many points are written; over: there were more than the row takes. Once over, it stays over.
@@ -238,16 +238,26 @@ fn is_off(p: [i16; 3]) -> bool
     p[2] == 0
 }
 
-// Whether this coordinate is the middle of its neighbours'.
-fn is_midway(prev: i16, this: i16, next: i16) -> bool
-    ensures { λ r. ⌜ r ≡ midway prev this next ⌝ }
+// Whether twice this coordinate is the full sum of its neighbours': 32 bits hold both.
+fn is_halfway(prev: i16, this: i16, next: i16) -> bool
+    ensures { λ r. ⌜ r ≡ halfway prev this next ⌝ }
 {
+    (this as i32) + (this as i32) == (prev as i32) + (next as i32)
+}
+
+// Whether this coordinate is the middle of its neighbours', by the mode: OpenType's in closed mode, else by the cut sum.
+fn is_midway(prev: i16, this: i16, next: i16, closed: bool) -> bool
+    ensures { λ r. ⌜ r ≡ midwayBy closed prev this next ⌝ }
+{
+    if closed {
+        return is_halfway(prev, this, next);
+    }
     this == middle(prev, next)
 }
 
 // Whether a point is implied: on-curve between two off-curve ones, and midway in each coordinate.
-pub fn is_implied(prev: [i16; 3], this: [i16; 3], next: [i16; 3]) -> bool
-    ensures { λ r. ⌜ r ≡ isImplied prev this next ⌝ }
+pub fn is_implied(prev: [i16; 3], this: [i16; 3], next: [i16; 3], closed: bool) -> bool
+    ensures { λ r. ⌜ r ≡ isImplied closed prev this next ⌝ }
 {
     if is_off(this) {
         return false;
@@ -258,10 +268,10 @@ pub fn is_implied(prev: [i16; 3], this: [i16; 3], next: [i16; 3]) -> bool
     if !is_off(next) {
         return false;
     }
-    if !is_midway(prev[0], this[0], next[0]) {
+    if !is_midway(prev[0], this[0], next[0], closed) {
         return false;
     }
-    is_midway(prev[1], this[1], next[1])
+    is_midway(prev[1], this[1], next[1], closed)
 }
 
 // The place before i, of n, going round.
@@ -273,13 +283,13 @@ fn before(i: usize, n: usize) -> usize
 }
 
 // Whether the point at place i of the first n is implied.
-fn implied_at(points: &[[i16; 3]], i: usize, n: usize) -> bool
+fn implied_at(points: &[[i16; 3]], i: usize, n: usize, closed: bool) -> bool
     requires { ⌜ (i < n) × (n ≤ length (now points)) ⌝ }
-    ensures { λ r. ⌜ r ≡ impliedAt isImplied (take n (now (points .entry))) i ⌝ }
+    ensures { λ r. ⌜ r ≡ impliedAt (isImplied closed) (take n (now (points .entry))) i ⌝ }
 {
     let prev = before(i, n);
     let next = (i + 1) % n;
-    is_implied(points[prev], points[i], points[next])
+    is_implied(points[prev], points[i], points[next], closed)
 }
 
 // Takes the point at place at out of the first n; those after it move up.
@@ -294,15 +304,15 @@ fn remove(points: &mut [[i16; 3]], at: usize, n: usize)
     }
 }
 
-// Drops the implied points of the first n, and says how many are left.
-pub fn drop_implied(points: &mut [[i16; 3]], n: usize) -> usize
+// Drops the implied points of the first n, by the mode's test, and says how many are left.
+pub fn drop_implied(points: &mut [[i16; 3]], n: usize, closed: bool) -> usize
     requires { ⌜ n ≤ length (now points) ⌝ }
-    ensures { λ r. ⌜ Holds (now (points .exit)) r (dropImplied isImplied (take n (now (points .entry)))) ⌝ }
+    ensures { λ r. ⌜ Holds (now (points .exit)) r (dropImplied (isImplied closed) (take n (now (points .entry)))) ⌝ }
 {
     let mut left = n;
     let mut i = 0;
     while i < left {
-        if implied_at(points, i, left) {
+        if implied_at(points, i, left, closed) {
             remove(points, i, left);
             left -= 1;
         } else {
@@ -318,10 +328,10 @@ pub fn finish(points: &mut [[i16; 3]], w: Written, closed: bool) -> usize
     ensures { λ r. ⌜ Holds (now (points .exit)) r (finished closed (take (w .count) (now (points .entry)))) ⌝ }
 {
     if closed {
-        return drop_implied(points, w.count);
+        return drop_implied(points, w.count, true);
     }
     reverse(points, w.count);
-    drop_implied(points, w.count)
+    drop_implied(points, w.count, false)
 }
 
 // ---- output

@@ -1,5 +1,5 @@
--- Document 01's values on both sides, its rows marked P, and what document 02's W3, W6 and W9 add to them: cases and results as data, one way to evaluate them, one list, and one computed test of
--- them all. Assumes nothing.
+-- Document 01's values on both sides, its rows marked P, and what document 02's W3, W5, W6 and W9 add to them: cases and results as data, one way
+-- to evaluate them, one list, and one computed test of them all. Assumes nothing.
 use Prim.Native.Nat.{ℕ, zero, suc, _+_, _^_}
 use mathlib.Core.Bool.{Bool, true, false}
 use mathlib.Core.List.{List, [], _∷_, map, List·Memᴰ}
@@ -16,7 +16,7 @@ use Rattle.corners.specs.Segments.{countOf, endOf, placeAfter, segFrom}
 use Rattle.corners.specs.Corners as Corners
 use Rattle.corners.specs.Corners.{angleCorner}
 use Rattle.runs.specs.Runs.{marksFrom, cornerList, stopsOf, between}
-use Rattle.settings.specs.Settings.{settingsOf, penaltyOf, judgedFor}
+use Rattle.settings.specs.Settings.{yesOf, settingsOf, penaltyOf, judgedFor}
 use Rattle.measure.specs.declared.Measured.the-variants as Measured
 use Rattle.breaks.specs.Breaks as Breaks
 use Rattle.breaks.specs.declared.Grid.{Grid}
@@ -37,8 +37,8 @@ pub data Case : Type 0 where
   contour : ℕ → ℕ → List ℤ → List ℤ → List ℕ → Case
   -- two tangents
   tangents : Point → Point → Case
-  -- points, of which implied ones are dropped
-  points : Points → Case
+  -- points, of which implied ones are dropped, in the crate's mode (0) or closed (1)
+  points : ℕ → Points → Case
   -- a coordinate, brought to a grid
   coordinate : Grid → Float → Case
   -- the breaks 0 to n on one line, at a penalty in sixteenths, with every piece at this error
@@ -82,7 +82,7 @@ pairsOf (solved a p) = tried p
 abbrev pub evaluate : Case → Result
 evaluate (contour penalty closed xs ys fs) = outcome (crunchOf fullRooms 16384 (settingsOf penalty 0 closed) xs ys fs)
 evaluate (tangents d0 d1) = byAngle (angleCorner d0 d1)
-evaluate (points ps) = left (dropImplied isImplied ps)
+evaluate (points closed ps) = left (dropImplied (isImplied (yesOf closed)) ps)
 evaluate (coordinate g x) = breakAt (onGrid g x)
 evaluate (run penalty n e) = pairsOf (optimizeOf (atError e) (inLine (n + 1) 0) (penaltyOf (settingsOf penalty 0 0)))
 
@@ -125,10 +125,28 @@ rows =
     ∷ record { case = tangents (whole (pos 100) (pos 0)) (whole (pos 100) (pos 2)); result = byAngle false }
     ∷ record { case = tangents (whole (pos 100) (pos 0)) (whole (pos 99) (pos 2)); result = byAngle true }
     ∷ record { case = tangents (whole (pos 100) (pos 0)) (whole (negsuc 99) (pos 0)); result = byAngle false }
-    -- on (-1, 0) between off (32767, 0) twice: dropped
+    -- on (-1, 0) between off (32767, 0) twice: dropped, and kept in closed mode
     ∷ record {
-      case = points (off (pos 32767) (pos 0) ∷ on (negsuc 0) (pos 0) ∷ off (pos 32767) (pos 0) ∷ []);
+      case = points 0 (off (pos 32767) (pos 0) ∷ on (negsuc 0) (pos 0) ∷ off (pos 32767) (pos 0) ∷ []);
       result = left (off (pos 32767) (pos 0) ∷ off (pos 32767) (pos 0) ∷ []);
+    }
+    ∷ record {
+      case = points 1 (off (pos 32767) (pos 0) ∷ on (negsuc 0) (pos 0) ∷ off (pos 32767) (pos 0) ∷ []);
+      result = left (off (pos 32767) (pos 0) ∷ on (negsuc 0) (pos 0) ∷ off (pos 32767) (pos 0) ∷ []);
+    }
+    -- on (0, 0) between off (0, 0) and off (1, 0), whose midpoint is a half unit: dropped, and kept in closed mode
+    ∷ record {
+      case = points 0 (off (pos 0) (pos 0) ∷ on (pos 0) (pos 0) ∷ off (pos 1) (pos 0) ∷ []);
+      result = left (off (pos 0) (pos 0) ∷ off (pos 1) (pos 0) ∷ []);
+    }
+    ∷ record {
+      case = points 1 (off (pos 0) (pos 0) ∷ on (pos 0) (pos 0) ∷ off (pos 1) (pos 0) ∷ []);
+      result = left (off (pos 0) (pos 0) ∷ on (pos 0) (pos 0) ∷ off (pos 1) (pos 0) ∷ []);
+    }
+    -- on (0, 0) between off (2, 2) and off (-2, -2), their midpoint: dropped in closed mode too, where it is the first of the row
+    ∷ record {
+      case = points 1 (on (pos 0) (pos 0) ∷ off (pos 2) (pos 2) ∷ off (negsuc 1) (negsuc 1) ∷ []);
+      result = left (off (pos 2) (pos 2) ∷ off (negsuc 1) (negsuc 1) ∷ []);
     }
     -- break coordinates for 0.25, 0.24, -0.25
     ∷ record { case = coordinate halfGrid (Ieee.round binary64 false 25 100); result = breakAt (Ieee.round binary64 false 1 2) }

@@ -8,10 +8,10 @@ use Rattle.contour.proofs.drop_implied.Statement.{statement}
 use Rattle.contour.proofs.drop_implied.Tie as tie
 
 abbrev Inv-loop : tie.InvT-loop
-Inv-loop points₀ n left₀ i₀ points left i = Dropping isImplied points₀ points n left i
+Inv-loop points₀ n closed left₀ i₀ points left i = Dropping (isImplied closed) points₀ points n left i
 
 abbrev μ-loop : tie.MeasureT-loop
-μ-loop points₀ n left₀ i₀ points left i = left - i
+μ-loop points₀ n closed left₀ i₀ points left i = left - i
 
 loop-holds : tie.Need-loop-holds Inv-loop μ-loop
 loop-holds c = drop-start _ _ _ (c .pre)

@@ -45,7 +45,7 @@ is-implied-requires c κs = tt
 returns : tie.Need-returns
 returns c =
     let place = c .before .before .before .before in
-    c .is-implied .ensures ∙ rw (place .before2 .ensures) (implied-in isImplied _ _ _ (place .before .pre .0) (place .before .pre .1))
+    c .is-implied .ensures ∙ rw (place .before2 .ensures) (implied-in (isImplied (place .before .args .closed)) _ _ _ (place .before .pre .0) (place .before .pre .1))
 
 pub implied-at-spec : {M : Type 1} → statement M
 implied-at-spec =

@@ -3,7 +3,7 @@ use mathlib.Core.Bool.{true, false}
 use mathlib.Core.Path.{_≡_, sym, _∙_}
 use borrow.Author.Needs.{needs, sfits-of}
 use borrow.Author.Tests.{not-true, not-false}
-use Rattle.contour.specs.Implied.{number, offCurve, midwayIn, isImplied}
+use Rattle.contour.specs.Implied.{number, offCurve, midwayBy, midwayIn, isImplied}
 use Rattle.contour.proofs.Sixteen.{midway-back}
 use Rattle.contour.proofs.is_implied.Statement.{statement}
 use Rattle.contour.proofs.is_implied.Tie as tie
@@ -20,19 +20,19 @@ next-off c = sym (c .before .is-off3 .ensures) ∙ not-false (c .before .is-off3
 
 x-is : (c : tie.After-is-midway) →
     let args = c .before .before .before .before .before .before .before .before .before .before .args in
-    c .is-midway .result ≡ midwayIn 0 (args .t1) (args .t2) (args .t3)
+    c .is-midway .result ≡ midwayIn (args .closed) 0 (args .t1) (args .t2) (args .t3)
 x-is c =
     let args = c .before .before .before .before .before .before .before .before .before .before .args in
     c .is-midway .ensures
-    ∙ midway-back (number (args .t1) 0) (number (args .t2) 0) (number (args .t3) 0) (sfits-of (c .before .before .before .is-midway-arg .given)) (sfits-of (c .before .before .is-midway-arg2 .given)) (sfits-of (c .before .is-midway-arg3 .given))
+    ∙ midway-back (midwayBy (args .closed)) (number (args .t1) 0) (number (args .t2) 0) (number (args .t3) 0) (sfits-of (c .before .before .before .is-midway-arg .given)) (sfits-of (c .before .before .is-midway-arg2 .given)) (sfits-of (c .before .is-midway-arg3 .given))
 
 y-is : (c : tie.After-is-midway2) →
     let args = c .before .before .before .before .before .before .before .before .before .before .before .before .before .before .before .args in
-    c .is-midway2 .result ≡ midwayIn 1 (args .t1) (args .t2) (args .t3)
+    c .is-midway2 .result ≡ midwayIn (args .closed) 1 (args .t1) (args .t2) (args .t3)
 y-is c =
     let args = c .before .before .before .before .before .before .before .before .before .before .before .before .before .before .before .args in
     c .is-midway2 .ensures
-    ∙ midway-back (number (args .t1) 1) (number (args .t2) 1) (number (args .t3) 1) (sfits-of (c .before .before .before .is-midway-arg4 .given)) (sfits-of (c .before .before .is-midway-arg5 .given)) (sfits-of (c .before .is-midway-arg6 .given))
+    ∙ midway-back (midwayBy (args .closed)) (number (args .t1) 1) (number (args .t2) 1) (number (args .t3) 1) (sfits-of (c .before .before .before .is-midway-arg4 .given)) (sfits-of (c .before .before .is-midway-arg5 .given)) (sfits-of (c .before .is-midway-arg6 .given))
 
 is-off-requires : tie.Need-is-off-requires
 is-off-requires c κs = tt
