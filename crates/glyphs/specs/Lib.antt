@@ -1,0 +1,3 @@
+pub mod Glyphs
+pub mod Entry
+pub mod Stands

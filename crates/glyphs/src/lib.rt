@@ -1,0 +1,4 @@
+// OpenType's simple glyph descriptions, crunched: bytes in, bytes out, each contour by the crunch entry's own
+// definition.
+mod clear;
+mod contours;
