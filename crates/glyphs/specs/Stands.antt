@@ -49,13 +49,13 @@ pub data Gathers (row : Points) (ends : List ℕ) : Outcome (List Points) → Ga
   yes : {r : Gathered} {contours : List Points} {n : ℕ} → r ≡ G.Points n → Holds row n (together contours) →
       (n ≤ 65536 → ends ≡ endsFrom 0 contours) → Gathers row ends (done contours) r
 
--- so many points stand in the row, and every row that they pass through has places for them
-abbrev pub Fits : Points → Glyph → ℕ → Type 0
-Fits row g n = (n ≤ length row) × (n ≤ length (g .xs)) × (n ≤ length (g .ys)) × (n ≤ length (g .flags))
+-- so many points stand in a row of that length, and the rows that they pass through have places for them
+abbrev pub Fits : (points xs ys flags n : ℕ) → Type 0
+Fits points xs ys flags n = (n ≤ points) × (n ≤ xs) × (n ≤ ys) × (n ≤ flags)
 
-abbrev pub FitsIn : Points → Glyph → Gathered → Type 0
-FitsIn row g (G.Refused k) = Unit
-FitsIn row g (G.Points n) = Fits row g n
+abbrev pub FitsIn : (points xs ys flags : ℕ) → Gathered → Type 0
+FitsIn points xs ys flags (G.Refused k) = Unit
+FitsIn points xs ys flags (G.Points n) = Fits points xs ys flags n
 
 -- what is written of the first n points
 abbrev pub writtenBy : Settings → ℕ → Points → List ℕ → List ℕ → ℕ → Outcome (List ℕ)

@@ -2,3 +2,6 @@
 // definition.
 mod clear;
 mod contours;
+mod entry;
+
+pub use crate::entry::crunch_glyph;
