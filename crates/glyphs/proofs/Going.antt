@@ -80,7 +80,7 @@ unfolding together endsFrom
 ends-more at [] ps = let e : at + length ps - 1 ≡ at + 0 + length ps - 1 = omega arith in ap (λ (k : ℕ). k ∷ []) e
 ends-more at (qs ∷ contours) ps =
     let e : at + length qs + length (together contours) + length ps - 1 ≡ at + length (qs ++ together contours) + length ps - 1
-        = omega (arith, length-append qs (together contours)) in
+    = omega (arith, length-append qs (together contours)) in
     ap (_∷_ (at + length qs - 1))
     (ends-more (at + length qs) contours ps ∙ ap (λ (k : ℕ). endsFrom (at + length qs) contours ++ (k ∷ [])) e)
 
@@ -242,6 +242,6 @@ module _ (rooms : Rooms) (settings : Settings) (room : ℕ) (ends₀ : List ℕ)
     ended past-ends =
         let none : drop k ends₀ ≡ [] = let past : length ends₀ ≤ k = omega (arith, past-ends, g .same) in drop-of-length-le ends₀ past in
         let is : all ≡ done (g .contours) =
-            g .whole ∙ ap (λ (es : List ℕ). beforeAll (g .contours) (ahead from at es)) none ∙ ap done (append-nil (g .contours)) in
+        g .whole ∙ ap (λ (es : List ℕ). beforeAll (g .contours) (ahead from at es)) none ∙ ap done (append-nil (g .contours)) in
         subst (λ (o : Outcome (List Points)). Gathers points ends o (G.Points at)) (sym is)
         (Gathers.yes refl (g .held) (λ few. sym (take-all k ends past-ends) ∙ g .renumbered few))

@@ -1,5 +1,6 @@
--- What the proofs of the functions share.
+-- What the proofs of the functions share, and what the export states.
 mod Parts
 mod Going
 mod Writing
 mod Reading
+mod Stated

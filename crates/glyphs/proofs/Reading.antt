@@ -104,8 +104,8 @@ module _ (r : Rooms) (settings : Settings) (bytes out : List ℕ) where
   unfolding crunchGlyphOf
   all-read {g} {g′} {rooms} {out′} {a} e same lengths w =
       let is : andThen (readOf (r .read) bytes) (crunchedOf r settings) ≡ crunchedOf (record { out = r .out; read = rooms; work = r .work; points = r .points }) settings g′ =
-          ap (λ (o : Outcome Glyph). andThen o (crunchedOf r settings)) e
-          ∙ (λ k. crunchedOf (record { out = r .out; read = sym lengths k; work = r .work; points = r .points }) settings (sym same k)) in
+      ap (λ (o : Outcome Glyph). andThen o (crunchedOf r settings)) e
+      ∙ (λ k. crunchedOf (record { out = r .out; read = sym lengths k; work = r .work; points = r .points }) settings (sym same k)) in
       subst (λ (o : Outcome (List ℕ)). Writes o out out′ a) (sym is) w
 
 -- ---- `crunch_glyph`

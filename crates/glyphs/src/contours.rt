@@ -90,7 +90,18 @@ pub fn crunch_contours(
     while k < ends.len() {
         let to = glyf::wide(ends[k]) + 1;
         match crunch_part(
-            xs, ys, flags, from, to, settings, samples, breaks, answers, links, points, at,
+            xs,
+            ys,
+            flags,
+            from,
+            to,
+            settings,
+            samples,
+            breaks,
+            answers,
+            links,
+            points,
+            at,
         ) {
             Crunched::Refused(number) => {
                 return Gathered::Refused(number);

@@ -56,7 +56,17 @@ fn write_gathered(
 {
     match g {
         Gathered::Refused(k) => Wrote::Refused(k),
-        Gathered::Points(n) => write_points(n, settings, points, ends, xs, ys, flags, instructions, out),
+        Gathered::Points(n) => write_points(
+            n,
+            settings,
+            points,
+            ends,
+            xs,
+            ys,
+            flags,
+            instructions,
+            out,
+        ),
     }
 }
 

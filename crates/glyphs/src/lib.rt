@@ -3,5 +3,7 @@
 mod clear;
 mod contours;
 mod entry;
+mod export;
 
 pub use crate::entry::crunch_glyph;
+pub use crate::export::fontcrunch_crunch_glyph;
