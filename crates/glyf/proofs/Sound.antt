@@ -7,8 +7,9 @@ use native.Mathlib.Omega.{arith}
 use lib.Dec.{ltb}
 use lib.IntN.{ℤ, pos}
 use lib.ListN.{length, length-map}
-use Rattle.glyf.specs.Layout.{Glyph, Outcome, done, refused, refuse, Taken, taken, cut, next, byte, word, several, bit, isOn, flagged, flagsOf, differenceBy, differences}
-use Rattle.glyf.specs.Layout.{Parts, countOf, partsOf, sums, all16, rising, glyphOf, judgedParts, simpleOnly, headed, described, Rooms, tooSmall, roomy, readOf}
+use Rattle.glyf.specs.Layout.{Glyph, Outcome, done, refused, refuse, Taken, taken, cut, next, byte, word, several, bit, isOn, flagged, flagsOf}
+use Rattle.glyf.specs.Layout.{differenceBy, differences, Parts, countOf, partsOf, sums, all16, rising, glyphOf, judgedParts, simpleOnly, headed}
+use Rattle.glyf.specs.Layout.{described, Rooms, tooSmall, roomy, readOf}
 use Rattle.glyf.proofs.Again.{Took, took, taken-is, done-is, sums-length}
 
 cons-count : (f n : ℕ) (t : Taken (List ℕ)) {fs end : List ℕ} → ((gs rest : List ℕ) → t ≡ taken gs rest → length gs ≡ n) →

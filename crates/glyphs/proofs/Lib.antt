@@ -4,3 +4,5 @@ mod Going
 mod Writing
 mod Reading
 mod Stated
+pub mod Some
+pub mod Separately

@@ -27,6 +27,7 @@ module _ (row : Points) (at : ℕ) (h : at ≤ length row) where
   adds rooms settings xs ys fs {mid} {r} g = record {
     kept = take-put at (length row - at) row mid h;
     gives =
-        subst (λ (k : ℕ). Gives (drop at (putMid at (length row - at) row mid)) (crunchOf rooms k settings xs ys fs) r) (mid-len at (length row) row (le-refl _))
+        subst (λ (k : ℕ). Gives (drop at (putMid at (length row - at) row mid)) (crunchOf rooms k settings xs ys fs) r)
+        (mid-len at (length row) row (le-refl _))
         (subst (λ (l : Points). Gives l (crunchOf rooms (length (take (length row - at) (drop at row))) settings xs ys fs) r) (sym (after-put mid)) g);
   }

@@ -90,7 +90,8 @@ module _ {bytes : List ℕ} {w : Both Glyph Glyph} {r : Read} (p : Promise bytes
 
 -- rows of the lengths of others
 pub same-rooms : {e e′ x x′ y y′ f f′ i i′ : ℕ} → e ≡ e′ → x ≡ x′ → y ≡ y′ → f ≡ f′ → i ≡ i′ →
-    _≡_ {A = Layout.Rooms} (record { ends = e; instructions = i; xs = x; ys = y; flags = f }) (record { ends = e′; instructions = i′; xs = x′; ys = y′; flags = f′ })
+    _≡_ {A = Layout.Rooms} (record { ends = e; instructions = i; xs = x; ys = y; flags = f })
+    (record { ends = e′; instructions = i′; xs = x′; ys = y′; flags = f′ })
 same-rooms e x y f i = λ k. record { ends = e k; instructions = i k; xs = x k; ys = y k; flags = f k }
 
 module _ (r : Rooms) (settings : Settings) (bytes out : List ℕ) where
@@ -103,7 +104,8 @@ module _ (r : Rooms) (settings : Settings) (bytes out : List ℕ) where
       Writes (crunchGlyphOf r settings bytes) out out′ a
   unfolding crunchGlyphOf
   all-read {g} {g′} {rooms} {out′} {a} e same lengths w =
-      let is : andThen (readOf (r .read) bytes) (crunchedOf r settings) ≡ crunchedOf (record { out = r .out; read = rooms; work = r .work; points = r .points }) settings g′ =
+      let is : andThen (readOf (r .read) bytes) (crunchedOf r settings) ≡
+      crunchedOf (record { out = r .out; read = rooms; work = r .work; points = r .points }) settings g′ =
       ap (λ (o : Outcome Glyph). andThen o (crunchedOf r settings)) e
       ∙ (λ k. crunchedOf (record { out = r .out; read = sym lengths k; work = r .work; points = r .points }) settings (sym same k)) in
       subst (λ (o : Outcome (List ℕ)). Writes o out out′ a) (sym is) w

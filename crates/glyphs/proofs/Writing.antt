@@ -53,7 +53,8 @@ module _ (settings : Settings) (row : Points) (ends instructions out : List ℕ)
       pub too-many : 65536 < n → Writes (writtenBy settings (length out) row ends instructions n) out out (W.Refused 14)
       too-many h = written-as (by-tests (sym (ap not e) ∙ f) (lt-ltb 65536 n h)) (none-written out 14)
 
-      pub all-written : n ≤ 65536 → {out′ : List ℕ} {r : Wrote} → Writes last out out′ r → Writes (writtenBy settings (length out) row ends instructions n) out out′ r
+      pub all-written : n ≤ 65536 → {out′ : List ℕ} {r : Wrote} → Writes last out out′ r →
+          Writes (writtenBy settings (length out) row ends instructions n) out out′ r
       all-written h w = written-as (by-tests (sym (ap not e) ∙ f) (le-ltb 65536 n h)) w
 
 -- the first n places of a row that the points were copied to

@@ -3,3 +3,4 @@ pub mod Entry
 pub mod Stands
 pub mod Exports
 pub mod Determine
+pub mod Separately

@@ -1,4 +1,4 @@
-//! The subcommand glyph: simple glyph descriptions as lines of hex, read and written.
+//! The subcommand glyph: simple glyph descriptions as lines of hex, read, written and crunched.
 
 use std::ffi::OsString;
 use std::fmt::Write as _;
@@ -6,17 +6,22 @@ use std::io::{self, BufRead, BufWriter, Write};
 use std::str::FromStr;
 
 use fontcrunch::glyph::{self, Glyph};
-use fontcrunch::{Point, Refusal};
+use fontcrunch::{Cruncher, Point, Refusal, Settings};
 
 use crate::service::{complain, Status};
 
 pub const USAGE: &str = "\
 usage: fontcrunch glyph read     a description a line, in hex; out: ok GLYPH, or refused K
        fontcrunch glyph write    GLYPH a line; out: ok HEX, or refused K
+       fontcrunch glyph crunch [--penalty N]
+                                 a description a line, in hex; out: ok HEX, or refused K
 
 GLYPH is ends=a,b,... instr=HEX pts=x y f x y f ...: the number of each contour's
 last point, the instructions, and the points of all contours, f 1 on the curve and 0
 off it. An ok before it is passed over, so that what is read can be written again.
+
+crunch crunches each contour. N is the penalty of a piece in sixteenths, 1 to 256; 32
+where it is not given. The first contour that is refused refuses the glyph.
 ";
 
 /// What stands on a line is no hex, or no glyph.
@@ -26,9 +31,17 @@ struct Malformed;
 type Answer = Result<Result<String, Refusal>, Malformed>;
 
 pub fn run(words: &[OsString]) -> Status {
-    let answer: fn(&str) -> Answer = match words.iter().map(|w| w.to_str()).collect::<Vec<_>>()[..] {
-        [Some("read")] => read,
-        [Some("write")] => write,
+    let mut answer: Box<dyn FnMut(&str) -> Answer> = match words.iter().map(|w| w.to_str()).collect::<Vec<_>>()[..] {
+        [Some("read")] => Box::new(read),
+        [Some("write")] => Box::new(write),
+        [Some("crunch")] => crunch_with(Settings::default()),
+        [Some("crunch"), Some("--penalty"), Some(word)] => match number(word) {
+            Ok(penalty) => crunch_with(Settings { penalty }),
+            Err(Malformed) => {
+                complain("--penalty needs a number; see fontcrunch glyph --help");
+                return Status::Wrong;
+            }
+        },
         [Some("--help" | "-h")] => {
             return match io::stdout().write_all(USAGE.as_bytes()) {
                 Ok(()) => Status::AllCrunched,
@@ -36,11 +49,11 @@ pub fn run(words: &[OsString]) -> Status {
             }
         }
         _ => {
-            complain("glyph needs read or write; see fontcrunch glyph --help");
+            complain("glyph needs read, write or crunch; see fontcrunch glyph --help");
             return Status::Wrong;
         }
     };
-    match answer_lines(answer) {
+    match answer_lines(&mut answer) {
         Ok(status) => status,
         Err(e) => {
             complain(&e.to_string());
@@ -49,12 +62,12 @@ pub fn run(words: &[OsString]) -> Status {
     }
 }
 
-fn answer_lines(answer: fn(&str) -> Answer) -> io::Result<Status> {
+fn answer_lines(answer: &mut dyn FnMut(&str) -> Answer) -> io::Result<Status> {
     let mut status = Status::AllCrunched;
     let mut out = BufWriter::new(io::stdout().lock());
     for line in io::stdin().lock().split(b'\n') {
         let line = line?;
-        let told = std::str::from_utf8(&line).map_err(|_| Malformed).and_then(answer);
+        let told = std::str::from_utf8(&line).map_err(|_| Malformed).and_then(&mut *answer);
         match told {
             Ok(Ok(text)) => writeln!(out, "ok {text}")?,
             Ok(Err(refusal)) => {
@@ -79,6 +92,14 @@ fn read(line: &str) -> Answer {
 fn write(line: &str) -> Answer {
     let glyph = of_text(line.strip_prefix("ok ").unwrap_or(line))?;
     Ok(glyph.to_bytes().map(|bytes| hex_of(&bytes)))
+}
+
+fn crunch_with(settings: Settings) -> Box<dyn FnMut(&str) -> Answer> {
+    let mut cruncher = Cruncher::new();
+    Box::new(move |line| {
+        let bytes = of_hex(line)?;
+        Ok(cruncher.crunch_glyph(&bytes, settings).map(|new| hex_of(&new)))
+    })
 }
 
 fn text_of(glyph: &Glyph) -> String {
