@@ -468,3 +468,25 @@ fn why_one_segment_is_a_corner() {
     assert_eq!(said.status.code(), Some(1));
     assert!(text(&said.stderr).contains("(standard input):4: refused 11: "));
 }
+
+// ---- glyph descriptions
+
+#[test]
+fn a_description_is_crunched() {
+    let one = |words: &[&str], line: &str| {
+        text(&run(&[&["glyph"], words].concat(), format!("{line}\n").as_bytes()).stdout)
+    };
+    let triangle = "ok ends=2 instr=b003 pts=0 0 1 100 0 1 0 100 1\n";
+    let bytes = one(&["write"], triangle.trim_end());
+    let hex = bytes.trim_end().strip_prefix("ok ").unwrap();
+    for words in [&["crunch"][..], &["crunch", "--penalty", "16"]] {
+        let crunched = one(words, hex);
+        let new = crunched.trim_end().strip_prefix("ok ").unwrap();
+        assert_eq!(one(&["read"], new), "ok ends=2 instr=b003 pts=0 100 1 100 0 1 0 0 1\n");
+    }
+    assert_eq!(one(&["crunch"], "ffff"), "refused 15\n");
+    assert_eq!(one(&["crunch"], "0"), "malformed\n");
+    // no contour: the penalty is looked at all the same
+    assert_eq!(one(&["crunch", "--penalty", "257"], "000000000000000000000000"), "refused 16\n");
+    assert_eq!(status(&["glyph", "crunch", "--penalty"], ""), 2);
+}

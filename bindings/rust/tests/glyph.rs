@@ -72,10 +72,14 @@ fn refusals_of_writing() {
 fn a_glyph_is_crunched_contour_by_contour() {
     let triangle = [Point::on(0, 0), Point::on(100, 0), Point::on(0, 100)];
     let curve = [Point::on(0, 0), Point::off(40, 0), Point::on(0, 0), Point::on(5, 50)];
-    let glyph =
-        Glyph { ends: vec![2, 6], points: [&triangle[..], &curve[..]].concat(), instructions: vec![0xb0, 0x03] };
+    let glyph = Glyph {
+        ends: vec![2, 6],
+        points: [&triangle[..], &curve[..]].concat(),
+        instructions: vec![0xb0, 0x03],
+    };
     let mut cruncher = Cruncher::new();
-    let new = glyph::read(&cruncher.crunch_glyph(&glyph.to_bytes().unwrap(), Settings::of_crate()).unwrap()).unwrap();
+    let new = glyph::read(&cruncher.crunch_glyph(&glyph.to_bytes().unwrap(), Settings::of_crate()).unwrap())
+        .unwrap();
     let alone = [&triangle[..], &curve[..]].map(|contour| cruncher.crunch(contour).unwrap().points);
     assert_eq!(new.contours().collect::<Vec<_>>(), alone);
     assert_eq!(new.instructions, glyph.instructions);
@@ -84,7 +88,8 @@ fn a_glyph_is_crunched_contour_by_contour() {
 #[test]
 fn refusals_of_crunching() {
     let mut cruncher = Cruncher::new();
-    let mut of = |glyph: &Glyph, penalty| cruncher.crunch_glyph(&glyph.to_bytes().unwrap(), Settings { penalty });
+    let mut of =
+        |glyph: &Glyph, penalty| cruncher.crunch_glyph(&glyph.to_bytes().unwrap(), Settings { penalty });
     let none = Glyph::default();
     assert_eq!(of(&none, 32), none.to_bytes());
     for penalty in [0, 257] {
@@ -103,7 +108,10 @@ fn refusals_of_crunching() {
     assert_eq!(cruncher.crunch_glyph(&[0xff, 0xff], Settings::default()), Err(Refusal::Composite));
     // no room for the points
     let square = Glyph { ends: vec![0], points: vec![Point::on(7, 9)], instructions: vec![] };
-    assert_eq!(Cruncher::with_point_room(1).crunch_glyph(&square.to_bytes().unwrap(), Settings::default()), square.to_bytes());
+    assert_eq!(
+        Cruncher::with_point_room(1).crunch_glyph(&square.to_bytes().unwrap(), Settings::default()),
+        square.to_bytes()
+    );
 }
 
 /// Contours that are each fine, and after reversal too far apart for a difference of 16 bits.
@@ -111,10 +119,13 @@ fn refusals_of_crunching() {
 fn crunched_contours_too_far_apart() {
     let glyph = Glyph {
         ends: vec![1, 2],
-        points: vec![Point::on(-32768, 0), Point::on(0, 0), Point::on(32767, 0)],
+        points: vec![Point::on(-32767, 0), Point::on(0, 0), Point::on(32767, 0)],
         instructions: vec![],
     };
     let mut cruncher = Cruncher::new();
     assert!(glyph.contours().all(|contour| cruncher.crunch(contour).is_ok()));
-    assert_eq!(cruncher.crunch_glyph(&glyph.to_bytes().unwrap(), Settings::of_crate()), Err(Refusal::TooLarge));
+    assert_eq!(
+        cruncher.crunch_glyph(&glyph.to_bytes().unwrap(), Settings::of_crate()),
+        Err(Refusal::TooLarge)
+    );
 }

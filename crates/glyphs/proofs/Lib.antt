@@ -5,4 +5,6 @@ mod Writing
 mod Reading
 mod Stated
 pub mod Some
+pub mod Sixteen
+pub mod Says
 pub mod Separately

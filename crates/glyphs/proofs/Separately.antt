@@ -22,7 +22,9 @@ use Rattle.glyf.specs.Layout.{Glyph, Outcome, done, refused, refuse, readOf, wr
 use Rattle.glyphs.specs.Glyphs.{Rooms, andThen, stretch, contoursFrom, contoursOf, withFirst, onward, crunchEach, together, endsFrom, glyphOf}
 use Rattle.glyphs.specs.Glyphs.{pointRoom, rewritten, crunchedOf, crunchGlyphOf}
 use Rattle.glyphs.specs.Separately.{Each, none, next, FirstRefused, here, later, contourOf, ContourByContour, WrittenByContours, RefusedByFirst}
+use Rattle.glyf.proofs.Sound.{read-says}
 use Rattle.glyphs.proofs.Some.{some-point}
+use Rattle.glyphs.proofs.Says.{read-held, news-16, counted-all, says-new}
 
 done-is : {A : Type 0} {a b : A} → done a ≡ done b → a ≡ b
 done-is e = cc
@@ -118,11 +120,15 @@ module _ (r : Rooms) (settings : Settings) (bytes bytes′ : List ℕ) where
     crunched-so (done news) is e =
         let all = each (r .work) settings (pointRoom r) (contoursOf g) is in
         let ps = together news in
+        let wrote = rewritten-done g news e in
+        let was = read-says g (r .read) bytes read in
+        let fit = news-16 (r .work) settings (pointRoom r) g (read-held g bytes was) all in
         record {
           old = g;
-          read = read;
+          read = was;
           new = glyphOf news (g .instructions);
-          written = rewritten-done g news e;
+          written = wrote;
+          says = says-new news (g .instructions) (counted-all (r .work) settings (pointRoom r) all) (r .out) bytes′ fit wrote;
           contours = news;
           each = all;
           are = new-contours (r .work) settings (pointRoom r) 0 all (column 0 ps) (column 1 ps) (flags ps) refl refl refl;

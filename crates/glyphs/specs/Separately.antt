@@ -13,7 +13,7 @@ use Rattle.contour.specs.Output.{column, flags}
 use Rattle.edition.specs.Edition as Edition
 use Rattle.crunch.specs.Crunch.{crunched, crunchOf}
 use Rattle.crunch.specs.Crunch as Crunch
-use Rattle.glyf.specs.Layout.{Glyph, done, refused, readOf, writtenOf}
+use Rattle.glyf.specs.Layout.{Glyph, done, refused, described, readOf, writtenOf}
 use Rattle.glyphs.specs.Glyphs.{Rooms, pointRoom, contoursOf, crunchGlyphOf}
 
 module _ (rooms : Edition.Rooms) (settings : Settings) where
@@ -35,12 +35,13 @@ module _ (rooms : Edition.Rooms) (settings : Settings) where
 abbrev pub contourOf : Points → Inputs
 contourOf ps = inputs (column 0 ps) (column 1 ps) (flags ps)
 
--- the bytes written are those of a glyph whose contours are the crunched contours of the glyph read, with its instructions
+-- the bytes written say a glyph whose contours are the crunched contours of the glyph read, with its instructions
 pub record ContourByContour (r : Rooms) (settings : Settings) (bytes bytes′ : List ℕ) : Type 0 where
   pub old : Glyph
-  pub read : readOf (r .read) bytes ≡ done old
+  pub read : described bytes ≡ done old
   pub new : Glyph
   pub written : writtenOf (r .out) new ≡ done bytes′
+  pub says : described bytes′ ≡ done new
   pub contours : List Points
   pub each : Each (r .work) settings (pointRoom r) (contoursOf old) contours
   pub are : contoursOf new ≡ map contourOf contours

@@ -31,28 +31,29 @@ struct Malformed;
 type Answer = Result<Result<String, Refusal>, Malformed>;
 
 pub fn run(words: &[OsString]) -> Status {
-    let mut answer: Box<dyn FnMut(&str) -> Answer> = match words.iter().map(|w| w.to_str()).collect::<Vec<_>>()[..] {
-        [Some("read")] => Box::new(read),
-        [Some("write")] => Box::new(write),
-        [Some("crunch")] => crunch_with(Settings::default()),
-        [Some("crunch"), Some("--penalty"), Some(word)] => match number(word) {
-            Ok(penalty) => crunch_with(Settings { penalty }),
-            Err(Malformed) => {
-                complain("--penalty needs a number; see fontcrunch glyph --help");
+    let mut answer: Box<dyn FnMut(&str) -> Answer> =
+        match words.iter().map(|w| w.to_str()).collect::<Vec<_>>()[..] {
+            [Some("read")] => Box::new(read),
+            [Some("write")] => Box::new(write),
+            [Some("crunch")] => crunch_with(Settings::default()),
+            [Some("crunch"), Some("--penalty"), Some(word)] => match number(word) {
+                Ok(penalty) => crunch_with(Settings { penalty }),
+                Err(Malformed) => {
+                    complain("--penalty needs a number; see fontcrunch glyph --help");
+                    return Status::Wrong;
+                }
+            },
+            [Some("--help" | "-h")] => {
+                return match io::stdout().write_all(USAGE.as_bytes()) {
+                    Ok(()) => Status::AllCrunched,
+                    Err(_) => Status::Wrong,
+                }
+            }
+            _ => {
+                complain("glyph needs read, write or crunch; see fontcrunch glyph --help");
                 return Status::Wrong;
             }
-        },
-        [Some("--help" | "-h")] => {
-            return match io::stdout().write_all(USAGE.as_bytes()) {
-                Ok(()) => Status::AllCrunched,
-                Err(_) => Status::Wrong,
-            }
-        }
-        _ => {
-            complain("glyph needs read, write or crunch; see fontcrunch glyph --help");
-            return Status::Wrong;
-        }
-    };
+        };
     match answer_lines(&mut answer) {
         Ok(status) => status,
         Err(e) => {
