@@ -1,8 +1,8 @@
 -- What bytes say, whatever numbers they are: the ends rise, and there are as many points as the last of them says. Assumes nothing.
 use Prim.Native.Nat.{ℕ, zero, suc}
 use mathlib.Core.Bool.{Bool, true, false, not, _&&_}
-use mathlib.Core.List.{List, [], _∷_, map}
-use mathlib.Core.Path.{_≡_, refl, sym, ap, _∙_}
+use mathlib.Core.List.{List, [], _∷_}
+use mathlib.Core.Path.{_≡_, refl, ap, _∙_}
 use native.Mathlib.Omega.{arith}
 use lib.Dec.{ltb}
 use lib.IntN.{ℤ, pos}
@@ -10,7 +10,7 @@ use lib.ListN.{length, length-map}
 use Rattle.glyf.specs.Layout.{Glyph, Outcome, done, refused, refuse, Taken, taken, cut, next, byte, word, several, bit, isOn, flagged, flagsOf}
 use Rattle.glyf.specs.Layout.{differenceBy, differences, Parts, countOf, partsOf, sums, all16, rising, glyphOf, judgedParts, simpleOnly, headed}
 use Rattle.glyf.specs.Layout.{described, Rooms, tooSmall, roomy, readOf}
-use Rattle.glyf.proofs.Again.{Took, took, taken-is, done-is, sums-length}
+use Rattle.glyf.proofs.Again.{took, taken-is, done-is, sums-length}
 
 cons-count : (f n : ℕ) (t : Taken (List ℕ)) {fs end : List ℕ} → ((gs rest : List ℕ) → t ≡ taken gs rest → length gs ≡ n) →
     next t (λ gs rest. taken (f ∷ gs) rest) ≡ taken fs end → length fs ≡ suc n
@@ -29,7 +29,9 @@ flags-count (suc n) zero f (b ∷ bs) fs end e = by (bit 8 b) (λ due rest gs le
     by : (r : Bool) → ((due : ℕ) (rest gs left : List ℕ) → flagsOf n due b rest ≡ taken gs left → length gs ≡ n) →
         flagged r b bs (λ due rest. next (flagsOf n due b rest) (λ gs left. taken (b ∷ gs) left)) ≡ taken fs end → length fs ≡ suc n
     by false counts q = cons-count b n (flagsOf n 0 b bs) (λ gs rest was. counts 0 bs gs rest was) q
-    by true counts q = let t = took (byte bs) _ q in cons-count b n (flagsOf n (t .a) b (t .rest)) (λ gs rest was. counts (t .a) (t .rest) gs rest was) (t .then)
+    by true counts q =
+        let t = took (byte bs) _ q in
+        cons-count b n (flagsOf n (t .a) b (t .rest)) (λ gs rest was. counts (t .a) (t .rest) gs rest was) (t .then)
 
 differences-count : (short same : ℕ) (fs bs : List ℕ) (ds : List ℤ) (end : List ℕ) → differences short same fs bs ≡ taken ds end → length ds ≡ length fs
 unfolding differences

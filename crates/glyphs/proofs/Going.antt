@@ -1,9 +1,9 @@
 -- The loop over the contours: what holds after some of them, after one more, where one is refused, and at the end. Assumes nothing.
-use Prim.Native.Nat.{ℕ, zero, suc, _+_, _-_, _≤_, _<_}
-use native.Mathlib.Nat.{le-refl, le-trans}
+use Prim.Native.Nat.{ℕ, suc, _+_, _-_, _≤_, _<_}
+use native.Mathlib.Nat.{le-refl}
 use native.Mathlib.Numerals.{add-one}
 use native.Mathlib.Omega.{arith}
-use mathlib.Core.Bool.{Bool, true, _&&_}
+use mathlib.Core.Bool.{true}
 use mathlib.Core.List.{List, [], _∷_, _++_, append-assoc, append-nil}
 use mathlib.Core.Path.{_≡_, refl, sym, ap, subst, _∙_}
 use borrow.Author.Tests.{ltb-true}
@@ -27,7 +27,6 @@ use Rattle.glyf.proofs.Codes.{and-left, and-right}
 use Rattle.glyphs.specs.Glyphs.{andThen, stretch, contoursFrom, withFirst, onward, crunchEach, together, endsFrom}
 use Rattle.glyphs.specs.Stands.{Numbers, Part, Adds, Apart, Gathers}
 use Rattle.glyphs.specs.Stands as Gathers
-use Rattle.glyphs.specs.declared.contours.Gathered.{Gathered}
 use Rattle.glyphs.specs.declared.contours.Gathered.the-variants as G
 
 -- ---- where the contours lie

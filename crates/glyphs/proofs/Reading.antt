@@ -1,15 +1,14 @@
 -- A glyph that was read stands in the first places of the rows. Assumes nothing.
 use Prim.Native.Nat.{ℕ, _≤_}
 use native.Mathlib.Omega.{arith}
-use mathlib.Core.List.{List, _++_}
+use mathlib.Core.List.{List}
 use mathlib.Core.Path.{_≡_, refl, sym, ap, subst, _∙_}
 use denote.Triple.Both.{Both}
-use lib.IntN.{ℤ}
 use lib.ListN.{length, take, drop, length-append}
 use lib.Seq.{take-at}
 use Rattle.glyf.specs.Layout.{Glyph, glyph, Outcome, done, refused, laid, laidIn, leftBy, countOf, roomsOf, readOf}
 use Rattle.glyf.specs.Layout as Layout
-use Rattle.glyf.proofs.Sound.{Sound, sound, read-says}
+use Rattle.glyf.proofs.Sound.{sound, read-says}
 use Rattle.settings.specs.declared.Settings.{Settings}
 use Rattle.glyfread.specs.Reads.{answerOf}
 use Rattle.glyfread.specs.Entry.{Promise}

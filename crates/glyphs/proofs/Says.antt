@@ -1,10 +1,10 @@
 -- The bytes written say the new glyph. Assumes nothing.
-use Prim.Native.Nat.{ℕ, zero, suc, _+_, _-_, _≤_, _<_}
-use native.Mathlib.Nat.{le-refl}
+use Prim.Native.Nat.{ℕ, zero, suc, _+_, _-_, _<_}
 use native.Mathlib.Omega.{arith}
 use mathlib.Core.Bool.{Bool, true, false, not, _&&_}
-use mathlib.Core.List.{List, [], _∷_, _++_, map}
-use mathlib.Core.Path.{_≡_, refl, sym, ap, subst, _∙_}
+use mathlib.Core.List.{List, [], _∷_, map}
+use mathlib.Core.Path.{_≡_, refl, sym, ap, _∙_}
+use borrow.Author.Tests.{lt-ltb, le-ltb, eq-eqb}
 use lib.Dec.{ltb}
 use lib.IntN.{ℤ, pos}
 use lib.ListN.{length, take, drop, length-append, length-map}
@@ -15,8 +15,8 @@ use Rattle.contour.specs.Points.{Points}
 use Rattle.contour.specs.Implied.{number, offCurve}
 use Rattle.contour.specs.Output.{column, flagIf, flagOf, flags}
 use Rattle.edition.specs.Edition as Edition
-use Rattle.glyf.specs.Layout.{Glyph, glyph, Outcome, done, refused, refuse, Taken, taken, cut, Parts, word, partsOf, sums, in16, all16, rising, isOn, countOf}
-use Rattle.glyf.specs.Layout.{glyphOf, judgedParts, simpleOnly, headed, described, trimmed, writtenOf}
+use Rattle.glyf.specs.Layout.{Glyph, glyph, done, refuse, Taken, taken, cut, Parts, word, partsOf, sums, in16, all16, rising, isOn, countOf}
+use Rattle.glyf.specs.Layout.{glyphOf, judgedParts, simpleOnly, headed, described, trimmed, tooLarge, bytesOf, fitting, writtenOf}
 use Rattle.glyf.specs.Trips.{Held, asRead}
 use Rattle.glyf.proofs.Again.{done-is}
 use Rattle.glyf.proofs.Back.{written-read-back}
@@ -75,7 +75,8 @@ stretch-16 from to xs h = taken-16 (to - from) (drop from xs) (dropped-16 from x
 
 data Inputs16 : List Inputs → Type 0 where
   no-more : Inputs16 []
-  one-more : {xs ys : List ℤ} {fs : List ℕ} {contours : List Inputs} → all16 xs ≡ true → all16 ys ≡ true → Inputs16 contours → Inputs16 (inputs xs ys fs ∷ contours)
+  one-more : {xs ys : List ℤ} {fs : List ℕ} {contours : List Inputs} → all16 xs ≡ true → all16 ys ≡ true → Inputs16 contours →
+      Inputs16 (inputs xs ys fs ∷ contours)
 
 contours-16 : (from : ℕ) (ends : List ℕ) (xs ys : List ℤ) (fs : List ℕ) → all16 xs ≡ true → all16 ys ≡ true → Inputs16 (contoursFrom from ends xs ys fs)
 unfolding contoursFrom
@@ -104,6 +105,18 @@ module _ (rooms : Edition.Rooms) (settings : Settings) where
       let rest = counted (room - length ps) (at + length ps) (next f l) (omega arith) in
       rest ∙ omega (arith, length-append ps (together (qs ∷ more)))
 
+  -- each contour has a point, so that its end is above the one before it
+  pub rises : (room at : ℕ) {olds : List Inputs} {news : List Points} → Each rooms settings room olds news → rising (endsFrom at news) ≡ true
+  unfolding rising endsFrom
+  rises room at none = refl
+  rises room at (next e none) = refl
+  rises room at (next {xs = oxs} {ys = oys} {fs = ofs} {ps = ps} e (next {xs = xs} {ys = ys} {fs = fs} {ps = qs} f l)) =
+      let left = room - length ps in
+      let o = some-point rooms room settings oxs oys ofs e in
+      let p = some-point rooms left settings xs ys fs f in
+      let above : at + length ps - 1 < at + length ps + length qs - 1 = omega (arith, o, p) in
+      rw (lt-ltb (at + length ps - 1) (at + length ps + length qs - 1) above) (rises left (at + length ps) (next f l))
+
 columns : {ps : Points} → All16 ps → (all16 (column 0 ps) ≡ true) × (all16 (column 1 ps) ≡ true)
 unfolding all16
 columns S.none = (refl, refl)
@@ -124,6 +137,25 @@ module _ (news : List Points) (instructions : List ℕ) (all : countOf (endsFrom
 
   whole : {A : Type 0} (f : List ℤ → A) → take (countOf (endsFrom 0 news)) (map f (together news)) ≡ map f (together news)
   whole f = take-all (countOf (endsFrom 0 news)) (map f (together news)) (omega (arith, all, length-map (together news) f))
+
+  all-taken : trimmed new ≡ new
+  all-taken =
+      λ k. glyph (endsFrom 0 news) (whole (λ (q : List ℤ). number q 0) k) (whole (λ (q : List ℤ). number q 1) k) (whole flagOf k) instructions
+
+  pub only-large : rising (endsFrom 0 news) ≡ true → (out : ℕ) → writtenOf out new ≡ refuse 14 (tooLarge new) (fitting out (bytesOf new))
+  unfolding writtenOf
+  only-large rise out =
+      let ps = together news in
+      let xs = length-map ps (λ (q : List ℤ). number q 0) in
+      let ys = length-map ps (λ (q : List ℤ). number q 1) in
+      let fs = length-map ps flagOf in
+      rw (
+        eq-eqb (length (column 0 ps)) (length (column 1 ps)) (xs ∙ sym ys),
+        eq-eqb (length (column 0 ps)) (length (flags ps)) (xs ∙ sym fs),
+        le-ltb (length (flags ps)) (countOf (endsFrom 0 news)) (omega (arith, all, fs)),
+        rise,
+      )
+      (ap (λ (v : Glyph). refuse 14 (tooLarge v) (fitting out (bytesOf v))) all-taken)
 
   trimmed-is : asRead (trimmed new) ≡ new
   trimmed-is =

@@ -1,9 +1,8 @@
 -- What is written of a glyph is its contours, each crunched; and the first that is refused refuses the glyph. Assumes nothing.
-use Prim.Native.Nat.{ℕ, zero, suc, _+_, _-_, _≤_, _<_}
-use native.Mathlib.Nat.{le-refl}
+use Prim.Native.Nat.{ℕ, _+_, _-_}
 use native.Mathlib.Omega.{arith}
 use mathlib.Core.Bool.{Bool, true, false, not}
-use mathlib.Core.List.{List, [], _∷_, _++_, map}
+use mathlib.Core.List.{List, [], _∷_, _++_, map, map-append}
 use mathlib.Core.Path.{_≡_, refl, sym, ap, subst, _∙_}
 use lib.Dec.{ltb}
 use lib.IntN.{ℤ}
@@ -21,13 +20,12 @@ use Rattle.crunch.specs.Crunch as Crunch
 use Rattle.glyf.specs.Layout.{Glyph, Outcome, done, refused, refuse, readOf, writtenOf}
 use Rattle.glyphs.specs.Glyphs.{Rooms, andThen, stretch, contoursFrom, contoursOf, withFirst, onward, crunchEach, together, endsFrom, glyphOf}
 use Rattle.glyphs.specs.Glyphs.{pointRoom, rewritten, crunchedOf, crunchGlyphOf}
-use Rattle.glyphs.specs.Separately.{Each, none, next, FirstRefused, here, later, contourOf, ContourByContour, WrittenByContours, RefusedByFirst}
+use Rattle.glyphs.specs.Separately.{Each, none, next, FirstRefused, here, later, contourOf}
+use Rattle.glyphs.specs.Separately.{ContourByContour, WrittenByContours, OnlyTooLarge, RefusedByFirst}
+use Rattle.glyf.proofs.Again.{done-is}
 use Rattle.glyf.proofs.Sound.{read-says}
 use Rattle.glyphs.proofs.Some.{some-point}
-use Rattle.glyphs.proofs.Says.{read-held, news-16, counted-all, says-new}
-
-done-is : {A : Type 0} {a b : A} → done a ≡ done b → a ≡ b
-done-is e = cc
+use Rattle.glyphs.proofs.Says.{read-held, rises, news-16, counted-all, only-large, says-new}
 
 -- ---- what was gathered is each contour's
 
@@ -67,10 +65,6 @@ module _ (rooms : Edition.Rooms) (settings : Settings) where
 
 -- ---- the contours of the new glyph
 
-map-append : {A B : Type 0} (f : A → B) (s t : List A) → map f (s ++ t) ≡ map f s ++ map f t
-map-append f [] t = refl
-map-append f (a ∷ s) t = ap (_∷_ (f a)) (map-append f s t)
-
 -- the part of a row that is n points long, and what is after it
 module _ {B : Type 0} (f : List ℤ → B) (ps rest : Points) (at : ℕ) (row : List B) (e : drop at row ≡ map f (ps ++ rest)) where
   here-is : (end : ℕ) → end ≡ at + length ps → stretch at end row ≡ map f ps
@@ -80,7 +74,8 @@ module _ {B : Type 0} (f : List ℤ → B) (ps rest : Points) (at : ℕ) (row : 
 
   after-is : (end : ℕ) → end ≡ at + length ps → drop end row ≡ map f rest
   after-is end h =
-      rw h (sym (drop-drop (length ps) at row) ∙ rw e (ap (drop (length ps)) (map-append f ps rest) ∙ drop-at (map f ps) (map f rest) (length ps) (length-map ps f)))
+      let cut = drop-at (map f ps) (map f rest) (length ps) (length-map ps f) in
+      rw h (sym (drop-drop (length ps) at row) ∙ rw e (ap (drop (length ps)) (map-append f ps rest) ∙ cut))
 
 module _ (rooms : Edition.Rooms) (settings : Settings) where
   new-contours : (room at : ℕ) {olds : List Inputs} {news : List Points} → Each rooms settings room olds news → (xs ys : List ℤ) (fs : List ℕ) →
@@ -142,6 +137,10 @@ module _ (r : Rooms) (settings : Settings) (bytes bytes′ : List ℕ) where
 pub written-by-contours : WrittenByContours
 unfolding crunchGlyphOf
 written-by-contours r settings bytes bytes′ e = read-so r settings bytes bytes′ (readOf (r .read) bytes) refl e
+
+pub only-too-large : OnlyTooLarge
+only-too-large rooms settings room olds news all out instructions =
+    only-large news instructions (counted-all rooms settings room all) (rises rooms settings room 0 all) out
 
 pub refused-by-first : RefusedByFirst
 unfolding crunchGlyphOf

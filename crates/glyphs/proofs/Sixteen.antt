@@ -1,9 +1,9 @@
 -- The points of a crunched contour have 16 bits if those of the contour have: coordinates are cut to 16 bits, or are the start's own. Assumes nothing.
-use Prim.Native.Nat.{ℕ, zero, suc, _+_, _-_, _^_, _≤_, _<_}
+use Prim.Native.Nat.{ℕ, zero, suc, _+_, _-_, _^_, _<_}
 use native.Mathlib.Omega.{arith}
-use mathlib.Core.Bool.{Bool, true, false, not, _&&_}
+use mathlib.Core.Bool.{Bool, true, false}
 use mathlib.Core.List.{List, [], _∷_, _++_, reverse, reverseAux}
-use mathlib.Core.Path.{_≡_, refl, sym, ap, subst, _∙_}
+use mathlib.Core.Path.{_≡_, refl, subst}
 use borrow.Author.Tests.{le-leb}
 use lib.Dec.{ltb}
 use lib.IntN.{ℤ, pos, negsuc}
@@ -24,7 +24,7 @@ use Rattle.runs.specs.declared.Run.the-variants.{Between}
 use Rattle.settings.specs.declared.Settings.{Settings}
 use Rattle.edition.specs.Edition.{Result, Rooms}
 use Rattle.edition.specs.Edition as Edition
-use Rattle.contour.specs.Points.{Points, onPoint, offPoint, pointsOf, pieceIf, piecePoints, piecesPoints, pointsTo, startPoint, unchangedPoints}
+use Rattle.contour.specs.Points.{Points, pointsOf, pieceIf, piecesPoints, pointsTo, startPoint}
 use Rattle.contour.specs.Implied.{number, isImplied, impliedAt, removed, look, dropFrom, finished}
 use Rattle.pieces.specs.Slots.{quadsOf}
 use Rattle.assembly.specs.Assembly.{State, ended, going, added, runIf, resultOf, afterRun, onward, crunchAll, crunchRuns}
@@ -32,7 +32,7 @@ use Rattle.assembly.specs.Assembly as State
 use Rattle.crunch.specs.Crunch.{Outcome, crunched, overIf, outcomeOf, afterJudging, crunchOf}
 use Rattle.crunch.specs.Crunch as Outcome
 use Rattle.glyf.specs.Layout.{in16, all16}
-use Rattle.glyf.proofs.Codes.{and-left, and-right}
+use Rattle.glyf.proofs.Codes.{and-left}
 
 -- ---- rows of points
 

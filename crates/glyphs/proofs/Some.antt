@@ -1,12 +1,12 @@
 -- What a contour is crunched to has a point: the start is written, and no lone point is implied. Assumes nothing.
-use Prim.Native.Nat.{ℕ, zero, suc, _+_, _-_, _%_, _≤_, _<_}
+use Prim.Native.Nat.{ℕ, zero, suc, _+_, _-_, _<_}
 use native.Mathlib.Omega.{arith}
 use mathlib.Core.Bool.{Bool, true, false, not, _&&_}
 use mathlib.Core.List.{List, [], _∷_, _++_, reverse}
-use mathlib.Core.Path.{_≡_, refl, sym, ap, subst, _∙_}
+use mathlib.Core.Path.{_≡_, refl, sym, subst, _∙_}
 use lib.Dec.{ltb}
 use lib.IntN.{ℤ}
-use lib.ListN.{length, getD, take, drop, length-append, length-take, length-drop, length-reverse}
+use lib.ListN.{length, take, drop, length-append, length-take, length-drop, length-reverse}
 use Rattle.refusals.specs.Refusals.{judged}
 use Rattle.refusals.specs.declared.Judged.{Judged}
 use Rattle.refusals.specs.declared.Judged.the-variants as Judged
@@ -16,7 +16,7 @@ use Rattle.corners.specs.Segments.{countOf, segAt}
 use Rattle.settings.specs.declared.Settings.{Settings}
 use Rattle.edition.specs.Edition.{Result, Rooms}
 use Rattle.edition.specs.Edition as Edition
-use Rattle.contour.specs.Points.{Points, pointsOf, pointsTo, unchangedPoints}
+use Rattle.contour.specs.Points.{Points, pointsOf, pointsTo}
 use Rattle.contour.specs.Implied.{offCurve, isImplied, impliedAt, removed, look, dropFrom, finished}
 use Rattle.assembly.specs.Assembly.{State, ended, going, added, runIf, resultOf, afterRun, onward, crunchAll, crunchRuns}
 use Rattle.assembly.specs.Assembly as State

@@ -1,5 +1,5 @@
 -- What was crunched goes through the rows that were read into, and is written. Assumes nothing.
-use Prim.Native.Nat.{ℕ, min, _≤_, _<_}
+use Prim.Native.Nat.{ℕ, _≤_, _<_}
 use native.Mathlib.Nat.{le-trans}
 use native.Mathlib.Omega.{arith}
 use mathlib.Core.Bool.{Bool, true, false, not}
@@ -8,7 +8,7 @@ use mathlib.Core.Path.{_≡_, refl, sym, ap, subst, _∙_}
 use borrow.Author.Tests.{lt-ltb, le-ltb, ltb-false}
 use lib.Dec.{ltb}
 use lib.IntN.{ℤ}
-use lib.ListN.{length, take, drop, length-map, length-append, length-take, length-drop}
+use lib.ListN.{length, take, drop, length-map, length-append}
 use lib.Seq.{length-take-le, take-at, take-append-le}
 use Rattle.rows.specs.Lent.{Inputs}
 use Rattle.settings.specs.Settings.{settingsFine}
@@ -19,12 +19,12 @@ use Rattle.contour.specs.Implied.{number}
 use Rattle.contour.specs.Output.{outputs, given, column, flagOf, flags, front}
 use Rattle.contour.specs.Writing.{Holds}
 use Rattle.contour.specs.Laws.{holds-count}
-use Rattle.glyf.specs.Layout.{Glyph, glyph, Outcome, done, refused, refuse, laid, leftBy, countOf, writtenOf}
+use Rattle.glyf.specs.Layout.{Glyph, glyph, Outcome, refused, refuse, writtenOf}
 use Rattle.glyfwrite.specs.Writes.{Writes}
 use Rattle.glyfwrite.specs.declared.write.Wrote.{Wrote}
 use Rattle.glyfwrite.specs.declared.write.Wrote.the-variants as W
-use Rattle.glyphs.specs.Glyphs.{andThen, crunchEach, rewritten, together, endsFrom, glyphOf}
-use Rattle.glyphs.specs.Stands.{Apart, Gathers, Fits, FitsIn, writtenBy, Stood}
+use Rattle.glyphs.specs.Glyphs.{andThen, crunchEach, rewritten, together, endsFrom}
+use Rattle.glyphs.specs.Stands.{Apart, Gathers, FitsIn, writtenBy, Stood}
 use Rattle.glyphs.specs.Stands as Gathers
 use Rattle.glyphs.specs.declared.contours.Gathered.{Gathered}
 use Rattle.glyphs.specs.declared.contours.Gathered.the-variants as G

@@ -1,20 +1,18 @@
 -- A glyph that is crunched, contour by contour: the statements. Proofs are in proofs/Separately.antt and Some.antt. Definitions only.
-use Prim.Native.Nat.{ℕ, _-_, _<_}
-use mathlib.Core.Bool.{true, false}
+use Prim.Native.Nat.{ℕ, _-_}
 use mathlib.Core.List.{List, [], _∷_, map}
 use mathlib.Core.Path.{_≡_}
 use lib.IntN.{ℤ}
 use lib.ListN.{length}
 use Rattle.rows.specs.Lent.{Inputs, inputs}
-use Rattle.settings.specs.Settings.{settingsFine}
 use Rattle.settings.specs.declared.Settings.{Settings}
 use Rattle.contour.specs.Points.{Points}
 use Rattle.contour.specs.Output.{column, flags}
 use Rattle.edition.specs.Edition as Edition
 use Rattle.crunch.specs.Crunch.{crunched, crunchOf}
 use Rattle.crunch.specs.Crunch as Crunch
-use Rattle.glyf.specs.Layout.{Glyph, done, refused, described, readOf, writtenOf}
-use Rattle.glyphs.specs.Glyphs.{Rooms, pointRoom, contoursOf, crunchGlyphOf}
+use Rattle.glyf.specs.Layout.{Glyph, done, refused, refuse, described, readOf, tooLarge, bytesOf, fitting, writtenOf}
+use Rattle.glyphs.specs.Glyphs.{Rooms, pointRoom, contoursOf, glyphOf, crunchGlyphOf}
 
 module _ (rooms : Edition.Rooms) (settings : Settings) where
   -- contour k of the one list is what the crunch entry's definition gives for contour k of the other, in the places that those before it left
@@ -50,6 +48,13 @@ pub record ContourByContour (r : Rooms) (settings : Settings) (bytes bytes′ : 
 abbrev pub WrittenByContours : Type 0
 WrittenByContours =
     (r : Rooms) (settings : Settings) (bytes bytes′ : List ℕ) → crunchGlyphOf r settings bytes ≡ done bytes′ → ContourByContour r settings bytes bytes′
+
+-- where none is refused, the new glyph is refused by 14 or for want of room alone: its rows are even, it has as many points as the last end says, and
+-- its ends rise
+abbrev pub OnlyTooLarge : Type 0
+OnlyTooLarge =
+    (rooms : Edition.Rooms) (settings : Settings) (room : ℕ) (olds : List Inputs) (news : List Points) → Each rooms settings room olds news →
+    (out : ℕ) (instructions : List ℕ) → let new = glyphOf news instructions in writtenOf out new ≡ refuse 14 (tooLarge new) (fitting out (bytesOf new))
 
 -- the first contour that is refused refuses the glyph by its number
 abbrev pub RefusedByFirst : Type 0

@@ -1,7 +1,7 @@
 // Rows of a glyph made zero.
 ghost use mathlib.Core.Path.{_≡_};
 ghost use lib.IntN.{pos};
-ghost use lib.ListN.{length, replicate};
+ghost use lib.ListN.{replicate};
 ghost use Rattle.glyf.specs.Layout.{glyph, roomsOf};
 ghost use Rattle.rows.specs.Lent.{after, room};
 ghost use Rattle.glyfread.specs.Entry.{filled};

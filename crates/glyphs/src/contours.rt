@@ -1,7 +1,6 @@
 // The contours of a glyph, crunched one after the other into one row of points.
 use crunch::Crunched;
 use settings::Settings;
-ghost use mathlib.Core.Path.{_≡_};
 ghost use Prim.Native.Nat.{_-_, _≤_, _<_};
 ghost use lib.ListN.{length};
 ghost use Rattle.rows.specs.Lent.{before, after, room};

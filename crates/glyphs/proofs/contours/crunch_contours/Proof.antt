@@ -2,7 +2,6 @@
 use Prim.Native.Nat.{ℕ, _+_, _-_}
 use native.Mathlib.Omega.{arith}
 use mathlib.Core.Path.{_≡_, refl, ap, _∙_}
-use borrow.Author.Needs.{needs}
 use lib.ListN.{length}
 use Rattle.rows.specs.Rows.{work}
 use Rattle.edition.specs.Edition.{Rooms}

@@ -1,5 +1,5 @@
 -- `glyphs::entry::crunch_read` meets its contract. Assumes nothing.
-use mathlib.Core.Path.{refl, sym, _∙_}
+use mathlib.Core.Path.{refl, sym}
 use lib.ListN.{length, drop}
 use lib.Seq.{length-take-le, length-front}
 use native.Mathlib.Omega.{arith}

@@ -1,5 +1,4 @@
 -- `glyphs::entry::write_gathered` meets its contract. Assumes nothing.
-use borrow.Author.Needs.{needs}
 use lib.ListN.{length}
 use Rattle.glyphs.proofs.Writing.{gathered-none, gathered-all, fits-in}
 use Rattle.glyphs.proofs.entry.write_gathered.Statement.{statement}
