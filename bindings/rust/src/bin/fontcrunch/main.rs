@@ -5,10 +5,12 @@ mod cleaning;
 mod contour_line;
 mod cubics;
 mod glyph;
+mod outlet;
 mod picture;
 mod reasons;
 mod service;
 mod stream;
+mod worker;
 
 use std::env;
 use std::io::{self, Write};
