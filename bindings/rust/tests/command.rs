@@ -490,3 +490,73 @@ fn a_description_is_crunched() {
     assert_eq!(one(&["crunch", "--penalty", "257"], "000000000000000000000000"), "refused 16\n");
     assert_eq!(status(&["glyph", "crunch", "--penalty"], ""), 2);
 }
+
+// ---- chains
+
+const HILL: &str = "0 0 1 0 60 0 40 90 1 80 120 0 130 120 1 200 -40 1";
+
+// the same as the oracle's, tools/chains/check
+const HILL_CHAIN: &str = "ok 937 40081ec11db47a5f 2 \
+     0 241 8000000000000000 404e000000000000 241 469 4054000000000000 405e000000000000";
+
+#[test]
+fn the_chain_of_a_run() {
+    let input = format!("{HILL}\n5 5 1 5 5 0 5 5 1\n\n0 0 0\nx\n0 0 1 700 0 0 700 700 1\n");
+    let said = run(&["chain", "0", "--penalty", "16"], input.as_bytes());
+    let lines = [HILL_CHAIN, "unchanged 1", "refused 2", "refused 4", "malformed", "refused 7"];
+    assert_eq!(text(&said.stdout), lines.join("\n") + "\n");
+    assert_eq!(said.status.code(), Some(2));
+    // a copied line, and none
+    for run in ["1", "2", "99999999999999999999"] {
+        assert_eq!(answers_to(&["chain", run, "--penalty", "16"], HILL), ["refused 10"]);
+    }
+    assert_eq!(answers_to(&["chain", "7", "--penalty", "0"], HILL), ["refused 16"]);
+    assert_eq!(status(&["chain", "0"], &format!("{HILL}\n")), 0);
+}
+
+/// What `chain` answered as `check` reads it: the score and the pieces.
+fn as_given(answer: &str) -> String {
+    let words: Vec<&str> = answer.split(' ').collect();
+    assert_eq!(words[0], "ok");
+    [&words[2..3], &words[4..]].concat().join(" ")
+}
+
+#[test]
+fn a_chain_is_checked_as_it_was_made() {
+    for settings in [&["--penalty", "16"][..], &[], &["--whole-units"], &["--closed", "--penalty", "1"]] {
+        let words = |tool| [&[tool, "0"], settings].concat();
+        let chain = as_given(&answers_to(&words("chain"), HILL)[0]);
+        let said = run(&words("check"), format!("{HILL} | {chain}\n").as_bytes());
+        assert_eq!((text(&said.stdout).as_str(), said.status.code()), ("yes\n", Some(0)), "{settings:?}");
+        // at another penalty it has another score
+        assert_eq!(answers_to(&["check", "0", "--penalty", "256"], &format!("{HILL} | {chain}")), ["no"]);
+    }
+}
+
+#[test]
+fn chains_that_are_not_accepted_and_lines_that_are_none() {
+    let chain = as_given(HILL_CHAIN);
+    let damaged = chain.replacen("40081ec11db47a5f", "40081ec11db47a60", 1);
+    let input = format!(
+        "{HILL} | {chain}\n{HILL} | {damaged}\n{HILL} | {ONE}\n| {ONE}\n0 0 0 | {ONE}\n{HILL}\n",
+        ONE = "3ff0000000000000"
+    );
+    let said = run(&["check", "0", "--penalty", "16"], input.as_bytes());
+    assert_eq!(text(&said.stdout), "yes\nno\nno\nrefused 2\nrefused 4\nmalformed\n");
+    let first: String = input.lines().take(2).map(|line| format!("{line}\n")).collect();
+    assert_eq!(status(&["check", "0", "--penalty", "16"], &first), 1);
+    assert_eq!(answers_to(&["check", "1", "--penalty", "16"], &first), ["refused 10"; 2]);
+    assert!(
+        text(&said.stderr).contains("(standard input):6: malformed: after the contour, ' | ' and a chain")
+    );
+}
+
+#[test]
+fn a_line_for_check_may_be_longer() {
+    let piece = format!(" 0 1 {0} {0}", "3ff0000000000000");
+    let line = format!("{HILL} | 3ff0000000000000{}\n", piece.repeat(3000));
+    assert!(line.len() > 65_536);
+    assert_eq!(answers_to(&["check", "0"], &line), ["no"]);
+    let longer = format!("{HILL} | 3ff0000000000000{}\n", piece.repeat(8000));
+    assert_eq!(answers_to(&["check", "0"], &longer), ["malformed"]);
+}

@@ -7,6 +7,8 @@ use std::path::PathBuf;
 
 use fontcrunch::{Settings, CRATE_PENALTY, DEFAULT_PENALTY};
 
+use crate::{chain_line, contour_line};
+
 pub use help::{help, version};
 
 #[derive(Debug, PartialEq, Eq)]
@@ -42,6 +44,12 @@ pub enum Tool {
         /// of the segment whose index comes first on each line
         index: bool,
     },
+    Chain {
+        run: usize,
+    },
+    Check {
+        run: usize,
+    },
 }
 
 impl Tool {
@@ -51,6 +59,8 @@ impl Tool {
             Some("clean") => Some(Tool::Clean { crunch: false }),
             Some("cubic") => Some(Tool::Cubic { crunch: false }),
             Some("why") => Some(Tool::Why { index: false }),
+            Some("chain") => Some(Tool::Chain { run: 0 }),
+            Some("check") => Some(Tool::Check { run: 0 }),
             _ => None,
         }
     }
@@ -58,9 +68,17 @@ impl Tool {
     /// Whether runs are worked, so that settings mean something.
     fn works_runs(self) -> bool {
         match self {
-            Tool::Crunch => true,
+            Tool::Crunch | Tool::Chain { .. } | Tool::Check { .. } => true,
             Tool::Clean { crunch } | Tool::Cubic { crunch } => crunch,
             Tool::Why { .. } => false,
+        }
+    }
+
+    /// The bytes that a line may have.
+    pub fn longest_line(self) -> usize {
+        match self {
+            Tool::Check { .. } => chain_line::LONGEST_LINE,
+            _ => contour_line::LONGEST_LINE,
         }
     }
 }
@@ -88,16 +106,19 @@ pub fn read(words: impl IntoIterator<Item = OsString>) -> Result<Request, String
             }
             Some("-") => asked.inputs.push(Input::Standard),
             _ if is_option(&word) => asked.take_option(&word, &mut words)?,
-            _ => asked.inputs.push(Input::File(word.into())),
+            _ => asked.take_word(word)?,
         }
     }
     asked.job().map(Request::Crunch)
 }
 
+const NEEDS_RUN: &str = "chain and check need the number of a run before any file, as in: chain 0";
+
 /// What the words so far ask for.
 #[derive(Default)]
 struct Asked {
     tool: Tool,
+    has_run: bool,
     penalty: Option<u32>,
     whole_units: bool,
     closed: bool,
@@ -106,6 +127,18 @@ struct Asked {
 }
 
 impl Asked {
+    /// A file; but first the run, of the tools that need one.
+    fn take_word(&mut self, word: OsString) -> Result<(), String> {
+        match &mut self.tool {
+            Tool::Chain { run } | Tool::Check { run } if !self.has_run => {
+                *run = whole_number(&word).ok_or(NEEDS_RUN)? as usize;
+                self.has_run = true;
+            }
+            _ => self.inputs.push(Input::File(word.into())),
+        }
+        Ok(())
+    }
+
     /// An option whose value, where it has one, follows it as a word of its own or after a `=`.
     fn take_option(
         &mut self,
@@ -173,6 +206,9 @@ impl Asked {
     }
 
     fn job(mut self) -> Result<Job, String> {
+        if matches!(self.tool, Tool::Chain { .. } | Tool::Check { .. }) && !self.has_run {
+            return Err(NEEDS_RUN.to_owned());
+        }
         if !self.tool.works_runs() {
             self.no_settings()?;
         }

@@ -1,6 +1,8 @@
 //! The command fontcrunch: contours in, one a line; a line out for each. `fontcrunch --help` tells all.
 
 mod arguments;
+mod chain_line;
+mod chains;
 mod cleaning;
 mod contour_line;
 mod cubics;

@@ -34,7 +34,7 @@ pub fn run(job: &Job) -> Status {
         outlet.start_drawing(path, job.settings);
     }
     let mut desk = Desk { worker: Worker::new(job), outlet };
-    if let Err(error) = read_all(&job.inputs, &mut desk) {
+    if let Err(error) = read_all(job, &mut desk) {
         desk.outlet.answers_fail(&error);
     }
     desk.outlet.finish()
@@ -59,17 +59,18 @@ impl<W: Write> Desk<W> {
 }
 
 /// Ends where answers can no longer be written.
-fn read_all<W: Write>(inputs: &[Input], desk: &mut Desk<W>) -> io::Result<()> {
-    inputs.iter().try_for_each(|input| match input {
-        Input::Standard => read_input("(standard input)", io::stdin().lock(), desk),
-        Input::File(path) => read_file(path, desk),
+fn read_all<W: Write>(job: &Job, desk: &mut Desk<W>) -> io::Result<()> {
+    let longest = job.tool.longest_line();
+    job.inputs.iter().try_for_each(|input| match input {
+        Input::Standard => read_input("(standard input)", Lines::new(io::stdin().lock(), longest), desk),
+        Input::File(path) => read_file(path, longest, desk),
     })
 }
 
-fn read_file<W: Write>(path: &Path, desk: &mut Desk<W>) -> io::Result<()> {
+fn read_file<W: Write>(path: &Path, longest: usize, desk: &mut Desk<W>) -> io::Result<()> {
     let name = path.to_string_lossy();
     match File::open(path) {
-        Ok(file) => read_input(&name, file, desk),
+        Ok(file) => read_input(&name, Lines::new(file, longest), desk),
         Err(error) => {
             desk.outlet.wrong(&format!("{name}: {error}"));
             Ok(())
@@ -78,9 +79,8 @@ fn read_file<W: Write>(path: &Path, desk: &mut Desk<W>) -> io::Result<()> {
 }
 
 /// An input that cannot be read to its end is told, and what it held so far is answered.
-fn read_input<W: Write>(name: &str, input: impl Read, desk: &mut Desk<W>) -> io::Result<()> {
+fn read_input<W: Write>(name: &str, mut lines: Lines<impl Read>, desk: &mut Desk<W>) -> io::Result<()> {
     let name: Arc<str> = name.into();
-    let mut lines = Lines::new(input);
     for number in 1.. {
         match lines.next(|| desk.outlet.flush()) {
             Ok(Some(line)) => desk.take_line(Source { name: name.clone(), line: number }, line)?,

@@ -3,6 +3,8 @@
 use fontcrunch::{Crunched, Cruncher, Point, Refusal};
 
 use crate::arguments::{Job, Tool};
+use crate::chain_line;
+use crate::chains;
 use crate::cleaning;
 use crate::contour_line::{self, Malformed};
 use crate::cubics;
@@ -17,6 +19,18 @@ pub struct Answer {
     /// What is wrong with the line, or why it is refused.
     pub message: Option<String>,
     pub sketch: Option<Sketch>,
+}
+
+/// What a tool says of a contour that is not refused.
+struct Reply {
+    text: String,
+    status: Status,
+}
+
+impl From<String> for Reply {
+    fn from(text: String) -> Reply {
+        Reply { text, status: Status::AllCrunched }
+    }
 }
 
 /// Answers lines, one after another. It keeps nothing between them, so that any worker gives the same answer.
@@ -40,7 +54,7 @@ impl Worker {
     pub fn answer(&mut self, line: &[u8]) -> Answer {
         let mut sketch = None;
         let (text, status, message) = match self.told(line, &mut sketch) {
-            Ok(Ok(text)) => (text, Status::AllCrunched, None),
+            Ok(Ok(reply)) => (reply.text, reply.status, None),
             Ok(Err(refusal)) => {
                 (format!("refused {}", refusal.number()), Status::SomeRefused, Some(refusal.to_string()))
             }
@@ -53,21 +67,29 @@ impl Worker {
         &mut self,
         line: &[u8],
         sketch: &mut Option<Sketch>,
-    ) -> Result<Result<String, Refusal>, Malformed> {
+    ) -> Result<Result<Reply, Refusal>, Malformed> {
         let (cruncher, points) = (&mut self.cruncher, &mut self.points);
-        if let Tool::Why { index: true } = self.tool {
-            let index = contour_line::parse_indexed(line, points)?;
-            return Ok(reasons::why_at(cruncher, points, index));
-        }
-        contour_line::parse(line, points)?;
-        Ok(match self.tool {
-            Tool::Crunch => self.crunch(sketch),
-            Tool::Clean { crunch: false } => cleaning::clean(points),
-            Tool::Clean { crunch: true } => cleaning::clean_and_crunch(cruncher, points),
-            Tool::Cubic { crunch: false } => cubics::cubic(points),
-            Tool::Cubic { crunch: true } => cubics::cubic_and_crunch(cruncher, points),
-            Tool::Why { .. } => reasons::why_all(cruncher, points),
-        })
+        let text = match self.tool {
+            Tool::Crunch => {
+                contour_line::parse(line, points)?;
+                self.crunch(sketch)
+            }
+            Tool::Clean { crunch: false } => cleaning::clean(contour(line, points)?),
+            Tool::Clean { crunch: true } => cleaning::clean_and_crunch(cruncher, contour(line, points)?),
+            Tool::Cubic { crunch: false } => cubics::cubic(contour(line, points)?),
+            Tool::Cubic { crunch: true } => cubics::cubic_and_crunch(cruncher, contour(line, points)?),
+            Tool::Why { index: false } => reasons::why_all(cruncher, contour(line, points)?),
+            Tool::Why { index: true } => {
+                let index = contour_line::parse_indexed(line, points)?;
+                reasons::why_at(cruncher, points, index)
+            }
+            Tool::Chain { run } => chains::chain(cruncher, contour(line, points)?, run),
+            Tool::Check { run } => {
+                let chain = chain_line::parse(line, points)?;
+                return Ok(cruncher.check(points, run, &chain).map(verdict));
+            }
+        };
+        Ok(text.map(Reply::from))
     }
 
     fn crunch(&mut self, sketch: &mut Option<Sketch>) -> Result<String, Refusal> {
@@ -77,6 +99,20 @@ impl Worker {
             *sketch = Some(Sketch::of(&mut self.cruncher, &self.points, result));
         }
         text
+    }
+}
+
+fn contour<'a>(line: &[u8], points: &'a mut Vec<Point>) -> Result<&'a [Point], Malformed> {
+    contour_line::parse(line, points)?;
+    Ok(points)
+}
+
+/// A chain that is not accepted counts as a refusal does.
+fn verdict(accepted: bool) -> Reply {
+    if accepted {
+        Reply { text: "yes".to_owned(), status: Status::AllCrunched }
+    } else {
+        Reply { text: "no".to_owned(), status: Status::SomeRefused }
     }
 }
 

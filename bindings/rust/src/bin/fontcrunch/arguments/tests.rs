@@ -70,6 +70,22 @@ fn why() {
 }
 
 #[test]
+fn chains() {
+    assert_eq!(job(&["chain", "0"]).tool, Tool::Chain { run: 0 });
+    let checked = job(&["check", "--penalty", "16", "12", "3", "-"]);
+    assert_eq!(checked.tool, Tool::Check { run: 12 });
+    assert_eq!(checked.inputs, [file("3"), Input::Standard]);
+    assert_eq!(checked.settings, Settings::of_crate());
+    assert!(matches!(job(&["chain", "99999999999999"]).tool, Tool::Chain { run } if run > 1024));
+    for words in [&["chain"][..], &["check"], &["chain", "a", "0"], &["chain", "-1"], &["check", "--", "0"]] {
+        assert!(asked(words).is_err(), "{words:?}");
+    }
+    assert!(fault(&["chain", "letter.txt"]).contains("number of a run"));
+    assert!(fault(&["chain", "0", "--svg", "p"]).contains("--svg"));
+    assert_eq!(asked(&["chain", "--help"]), Ok(Request::Help));
+}
+
+#[test]
 fn the_penalty_is_32_and_that_of_a_picture_16() {
     assert_eq!(job(&[]).settings, Settings::default());
     assert_eq!(job(&["crunch"]).settings, Settings::default());
@@ -136,7 +152,7 @@ fn wrong_words() {
 fn help_tells_every_refusal_that_can_be_met() {
     assert_eq!(asked(&["a", "--help"]), Ok(Request::Help));
     assert_eq!(asked(&["--version"]), Ok(Request::Version));
-    for number in (2..=9).chain([11, 16, 17]) {
+    for number in (2..=11).chain([16, 17]) {
         assert!(help().contains(&format!("refused {number}: ")));
     }
 }
