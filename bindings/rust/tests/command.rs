@@ -139,7 +139,12 @@ fn a_line_of_any_length_is_passed_over() {
 
 #[test]
 fn answers_come_before_the_input_ends() {
-    let mut child = command().stdin(Stdio::piped()).stdout(Stdio::piped()).spawn().unwrap();
+    assert_answers_come_at_once(&[]);
+    assert_answers_come_at_once(&["--jobs", "3"]);
+}
+
+fn assert_answers_come_at_once(words: &[&str]) {
+    let mut child = command().args(words).stdin(Stdio::piped()).stdout(Stdio::piped()).spawn().unwrap();
     let mut stdin = child.stdin.take().unwrap();
     let mut stdout = BufReader::new(child.stdout.take().unwrap());
     for _ in 0..3 {
@@ -559,4 +564,72 @@ fn a_line_for_check_may_be_longer() {
     assert_eq!(answers_to(&["check", "0"], &line), ["no"]);
     let longer = format!("{HILL} | 3ff0000000000000{}\n", piece.repeat(8000));
     assert_eq!(answers_to(&["check", "0"], &longer), ["malformed"]);
+}
+
+// ---- jobs
+
+#[test]
+fn the_same_for_any_number_of_threads() {
+    let folder = folder("jobs");
+    let (cases, missing) = (path(&folder, "cases"), path(&folder, "missing"));
+    let lines: String = CASES.iter().map(|(line, _)| format!("{line}\n")).collect();
+    fs::write(&cases, lines.repeat(12)).unwrap();
+    for tool in
+        [&["--penalty", "16"][..], &["why"], &["clean", "--crunch"], &["chain", "0", "--penalty", "16"]]
+    {
+        let with = |jobs: &str| {
+            let words = [tool, &["--jobs", jobs, &cases, &missing, "-", &cases]].concat();
+            let output = run(&words, b"7 9 1\nx");
+            (output.status.code(), text(&output.stdout), text(&output.stderr))
+        };
+        let alone = with("1");
+        assert_eq!(alone.1.lines().count(), 2 * 12 * CASES.len() + 2);
+        for jobs in ["2", "3", "8"] {
+            assert_eq!(with(jobs), alone, "{tool:?} by {jobs}");
+        }
+    }
+}
+
+#[test]
+fn answers_and_messages_in_one_file_are_in_order_for_any_number_of_threads() {
+    let folder = folder("merged");
+    let (cases, both) = (path(&folder, "cases"), path(&folder, "both"));
+    let lines: String = CASES.iter().map(|(line, _)| format!("{line}\n")).collect();
+    fs::write(&cases, lines.repeat(12)).unwrap();
+    let merged = |jobs: &str| {
+        let file = fs::File::create(&both).unwrap();
+        let words = ["--penalty", "16", "--jobs", jobs, &cases];
+        command().args(words).stdout(file.try_clone().unwrap()).stderr(file).status().unwrap();
+        fs::read_to_string(&both).unwrap()
+    };
+    let alone = merged("1");
+    assert!(alone.contains("\nfontcrunch: ") && alone.contains("\nok "));
+    for jobs in ["2", "8"] {
+        assert_eq!(merged(jobs), alone, "by {jobs}");
+    }
+}
+
+#[test]
+fn the_same_picture_for_any_number_of_threads() {
+    let input: String = CASES.iter().map(|(line, _)| format!("{line}\n")).collect();
+    let with = |jobs| drawn_with(&["--jobs", jobs], "jobs_drawn", &input);
+    assert_eq!(with("4"), with("1"));
+}
+
+#[test]
+fn threads_end_where_nobody_reads_answers() {
+    let mut child = command()
+        .args(["--jobs", "3"])
+        .stdin(Stdio::piped())
+        .stdout(Stdio::piped())
+        .stderr(Stdio::piped())
+        .spawn()
+        .unwrap();
+    drop(child.stdout.take());
+    let mut stdin = child.stdin.take().unwrap();
+    // more than the queues hold; what is no longer read cannot be written
+    let writer = thread::spawn(move || _ = stdin.write_all(&b"7 9 1\n".repeat(100_000)));
+    let output = child.wait_with_output().unwrap();
+    writer.join().unwrap();
+    assert_eq!((output.status.code(), text(&output.stderr)), (Some(2), String::new()));
 }

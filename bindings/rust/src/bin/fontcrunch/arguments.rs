@@ -18,11 +18,12 @@ pub enum Request {
     Crunch(Job),
 }
 
-/// What to do with contours, at which settings, and where to draw them.
+/// What to do with contours, at which settings, by how many threads, and where to draw them.
 #[derive(Debug, PartialEq, Eq)]
 pub struct Job {
     pub tool: Tool,
     pub settings: Settings,
+    pub jobs: usize,
     pub inputs: Vec<Input>,
     pub picture: Option<PathBuf>,
 }
@@ -112,6 +113,9 @@ pub fn read(words: impl IntoIterator<Item = OsString>) -> Result<Request, String
     asked.job().map(Request::Crunch)
 }
 
+/// Each thread has rows of a megabyte.
+const MOST_JOBS: u32 = 256;
+
 const NEEDS_RUN: &str = "chain and check need the number of a run before any file, as in: chain 0";
 
 /// What the words so far ask for.
@@ -122,6 +126,7 @@ struct Asked {
     penalty: Option<u32>,
     whole_units: bool,
     closed: bool,
+    jobs: Option<u32>,
     inputs: Vec<Input>,
     picture: Option<PathBuf>,
 }
@@ -153,6 +158,7 @@ impl Asked {
         match (name, value) {
             ("--svg", value) => self.draw_to(value.or_else(|| words.next())),
             ("--penalty", value) => self.at_penalty(value.or_else(|| words.next())),
+            ("--jobs", value) => self.by_jobs(value.or_else(|| words.next())),
             ("--whole-units", None) => yes(&mut self.whole_units),
             ("--closed", None) => yes(&mut self.closed),
             ("--crunch", None) => self.then_crunch(),
@@ -192,6 +198,12 @@ impl Asked {
         once("--penalty", &mut self.penalty, penalty)
     }
 
+    fn by_jobs(&mut self, number: Option<OsString>) -> Result<(), String> {
+        let number = number.as_deref().and_then(whole_number).filter(|jobs| (1..=MOST_JOBS).contains(jobs));
+        let jobs = number.ok_or_else(|| format!("--jobs needs a number of threads, 1 to {MOST_JOBS}"))?;
+        once("--jobs", &mut self.jobs, jobs)
+    }
+
     /// Settings where no run is worked would change nothing, unsaid.
     fn no_settings(&self) -> Result<(), String> {
         let given = [
@@ -222,7 +234,8 @@ impl Asked {
             whole_units: self.whole_units,
             closed: self.closed,
         };
-        Ok(Job { tool: self.tool, settings, inputs: self.inputs, picture: self.picture })
+        let jobs = self.jobs.unwrap_or(1) as usize;
+        Ok(Job { tool: self.tool, settings, jobs, inputs: self.inputs, picture: self.picture })
     }
 }
 

@@ -7,6 +7,8 @@ mod cleaning;
 mod contour_line;
 mod cubics;
 mod glyph;
+mod inputs;
+mod jobs;
 mod outlet;
 mod picture;
 mod reasons;

@@ -5,8 +5,9 @@ use std::path::Path;
 
 use fontcrunch::Settings;
 
+use crate::inputs::Source;
 use crate::picture::{Picture, Sketch};
-use crate::service::{complain, Source, Status};
+use crate::service::{complain, Status};
 use crate::worker::Answer;
 
 pub struct Outlet<W> {
@@ -39,6 +40,8 @@ impl<W: Write> Outlet<W> {
         }
         self.status = self.status.max(answer.status);
         if let Some(message) = &answer.message {
+            // where both go to one file, lines stand in their order, whoever answered them
+            self.flush()?;
             complain(&format!("{}:{}: {message}", source.name, source.line));
         }
         writeln!(self.answers, "{}", answer.text)
@@ -51,6 +54,8 @@ impl<W: Write> Outlet<W> {
 
     pub fn wrong(&mut self, message: &str) {
         self.status = Status::Wrong;
+        // a failure is met again when the next answer is written
+        let _ = self.flush();
         complain(message);
     }
 

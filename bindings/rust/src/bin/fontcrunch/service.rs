@@ -1,13 +1,13 @@
 //! Each line of the inputs answered, and drawn where that is asked.
 
-use std::fs::{self, File};
-use std::io::{self, BufWriter, Read, Write};
+use std::fs;
+use std::io::{self, BufWriter, Write};
 use std::path::Path;
-use std::sync::Arc;
 
 use crate::arguments::{Input, Job};
+use crate::inputs::{read_all, Lane, Source};
+use crate::jobs;
 use crate::outlet::Outlet;
-use crate::stream::{Lines, Stopped};
 use crate::worker::Worker;
 
 /// The exit status: the worst that was met.
@@ -18,12 +18,6 @@ pub enum Status {
     Wrong = 2,
 }
 
-/// Where a line came from.
-pub struct Source {
-    pub name: Arc<str>,
-    pub line: u64,
-}
-
 pub fn run(job: &Job) -> Status {
     let mut outlet = Outlet::new(BufWriter::new(io::stdout()));
     if let Some(path) = &job.picture {
@@ -32,6 +26,9 @@ pub fn run(job: &Job) -> Status {
             return outlet.finish();
         }
         outlet.start_drawing(path, job.settings);
+    }
+    if job.jobs > 1 {
+        return jobs::run(job, outlet);
     }
     let mut desk = Desk { worker: Worker::new(job), outlet };
     if let Err(error) = read_all(job, &mut desk) {
@@ -51,48 +48,20 @@ struct Desk<W> {
     outlet: Outlet<W>,
 }
 
-impl<W: Write> Desk<W> {
+impl<W: Write> Lane for Desk<W> {
     fn take_line(&mut self, source: Source, line: &[u8]) -> io::Result<()> {
         let answer = self.worker.answer(line);
         self.outlet.take(&source, answer)
     }
-}
 
-/// Ends where answers can no longer be written.
-fn read_all<W: Write>(job: &Job, desk: &mut Desk<W>) -> io::Result<()> {
-    let longest = job.tool.longest_line();
-    job.inputs.iter().try_for_each(|input| match input {
-        Input::Standard => read_input("(standard input)", Lines::new(io::stdin().lock(), longest), desk),
-        Input::File(path) => read_file(path, longest, desk),
-    })
-}
-
-fn read_file<W: Write>(path: &Path, longest: usize, desk: &mut Desk<W>) -> io::Result<()> {
-    let name = path.to_string_lossy();
-    match File::open(path) {
-        Ok(file) => read_input(&name, Lines::new(file, longest), desk),
-        Err(error) => {
-            desk.outlet.wrong(&format!("{name}: {error}"));
-            Ok(())
-        }
+    fn wrong(&mut self, message: String) -> io::Result<()> {
+        self.outlet.wrong(&message);
+        Ok(())
     }
-}
 
-/// An input that cannot be read to its end is told, and what it held so far is answered.
-fn read_input<W: Write>(name: &str, mut lines: Lines<impl Read>, desk: &mut Desk<W>) -> io::Result<()> {
-    let name: Arc<str> = name.into();
-    for number in 1.. {
-        match lines.next(|| desk.outlet.flush()) {
-            Ok(Some(line)) => desk.take_line(Source { name: name.clone(), line: number }, line)?,
-            Ok(None) => break,
-            Err(Stopped::Writing(error)) => return Err(error),
-            Err(Stopped::Reading(error)) => {
-                desk.outlet.wrong(&format!("{name}: {error}"));
-                break;
-            }
-        }
+    fn flush(&mut self) -> io::Result<()> {
+        self.outlet.flush()
     }
-    desk.outlet.flush()
 }
 
 /// A picture would empty the file before it is read.

@@ -48,6 +48,8 @@ why            tells why segments start at corners instead
 chain K        gives the chain of run K, counted from 0, instead
 check K        checks chains of run K instead, at the settings they were made with: a
                line in is x y f ... | SCORE, and for each piece start end cx cy
+--jobs N       spreads lines over N threads, 1 to 256; answers keep the order of the
+               lines, and are the same for any N
 --help         this text
 --version      the version
 

@@ -139,6 +139,17 @@ fn settings_are_for_what_crunches() {
 }
 
 #[test]
+fn jobs() {
+    assert_eq!(job(&[]).jobs, 1);
+    assert_eq!(job(&["why", "--jobs", "4"]).jobs, 4);
+    assert_eq!(job(&["--jobs=256"]).jobs, 256);
+    for word in ["0", "257", "-1", "x", "", "99999999999"] {
+        assert!(fault(&["--jobs", word]).contains("1 to 256"), "{word}");
+    }
+    assert!(fault(&["--jobs", "2", "--jobs", "2"]).contains("twice"));
+}
+
+#[test]
 fn wrong_words() {
     assert!(fault(&["--svg"]).contains("needs a file"));
     assert!(fault(&["--svg="]).contains("needs a file"));
