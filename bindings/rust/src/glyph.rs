@@ -23,7 +23,6 @@ use crate::cruncher::{Cruncher, Point};
 use crate::entries;
 use crate::refusal::Refusal;
 use crate::rows::{GlyphRows, Output};
-use crate::settings::Settings;
 
 /// A simple glyph: its contours one after the other, and its instructions.
 #[derive(Clone, Debug, Default, PartialEq, Eq, Hash)]
@@ -207,12 +206,13 @@ impl Cruncher {
     ///     points: vec![Point::on(0, 0), Point::on(100, 0), Point::on(0, 100)],
     ///     instructions: vec![],
     /// };
-    /// let crunched = Cruncher::new().crunch_glyph(&triangle.to_bytes()?, Settings::default())?;
+    /// let crunched = Cruncher::new(Settings::default()).crunch_glyph(&triangle.to_bytes()?)?;
     /// // points come out in reverse order
     /// assert_eq!(glyph::read(&crunched)?.points, [Point::on(0, 100), Point::on(100, 0), Point::on(0, 0)]);
     /// # Ok::<(), fontcrunch::Refusal>(())
     /// ```
-    pub fn crunch_glyph(&mut self, bytes: &[u8], settings: Settings) -> Result<Vec<u8>, Refusal> {
+    pub fn crunch_glyph(&mut self, bytes: &[u8]) -> Result<Vec<u8>, Refusal> {
+        let settings = self.settings();
         let room = Room::for_bytes(bytes);
         let mut glyph = GlyphRows::of_room(room.ends, room.instructions);
         let mut larger;

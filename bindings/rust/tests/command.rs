@@ -476,24 +476,73 @@ fn why_one_segment_is_a_corner() {
 
 // ---- glyph descriptions
 
+/// What `glyph` with these words answers to a line.
+fn glyph(words: &[&str], line: &str) -> String {
+    let said = text(&run(&[&["glyph"], words].concat(), format!("{line}\n").as_bytes()).stdout);
+    said.trim_end().to_owned()
+}
+
+/// A glyph written, crunched with these words, and read; or what crunching says instead.
+fn crunched_glyph(words: &[&str], line: &str) -> String {
+    let written = glyph(&["write"], line);
+    let crunched = glyph(&[&["crunch"], words].concat(), written.strip_prefix("ok ").unwrap());
+    match crunched.strip_prefix("ok ") {
+        Some(hex) => glyph(&["read"], hex),
+        None => crunched,
+    }
+}
+
+const TRIANGLE: &str = "ok ends=2 instr=b003 pts=0 0 1 100 0 1 0 100 1";
+
 #[test]
 fn a_description_is_crunched() {
-    let one = |words: &[&str], line: &str| {
-        text(&run(&[&["glyph"], words].concat(), format!("{line}\n").as_bytes()).stdout)
-    };
-    let triangle = "ok ends=2 instr=b003 pts=0 0 1 100 0 1 0 100 1\n";
-    let bytes = one(&["write"], triangle.trim_end());
-    let hex = bytes.trim_end().strip_prefix("ok ").unwrap();
-    for words in [&["crunch"][..], &["crunch", "--penalty", "16"]] {
-        let crunched = one(words, hex);
-        let new = crunched.trim_end().strip_prefix("ok ").unwrap();
-        assert_eq!(one(&["read"], new), "ok ends=2 instr=b003 pts=0 100 1 100 0 1 0 0 1\n");
+    for words in [&[][..], &["--penalty", "16"], &["--whole-units"]] {
+        assert_eq!(crunched_glyph(words, TRIANGLE), "ok ends=2 instr=b003 pts=0 100 1 100 0 1 0 0 1");
     }
-    assert_eq!(one(&["crunch"], "ffff"), "refused 15\n");
-    assert_eq!(one(&["crunch"], "0"), "malformed\n");
-    // no contour: the penalty is looked at all the same
-    assert_eq!(one(&["crunch", "--penalty", "257"], "000000000000000000000000"), "refused 16\n");
-    assert_eq!(status(&["glyph", "crunch", "--penalty"], ""), 2);
+    assert_eq!(glyph(&["crunch"], "ffff"), "refused 15");
+    assert_eq!(glyph(&["crunch"], "0"), "malformed");
+}
+
+#[test]
+fn a_description_is_crunched_at_settings_in_any_order() {
+    for words in [&["--closed"][..], &["--closed", "--penalty", "16"], &["--penalty=16", "--closed"]] {
+        assert_eq!(crunched_glyph(words, TRIANGLE), TRIANGLE, "{words:?}");
+    }
+    let bow = "ends=2 instr= pts=0 0 1 700 0 0 700 700 1";
+    assert_eq!(crunched_glyph(&["--penalty", "16"], bow), "refused 7");
+    for words in [["--penalty=16", "--whole-units"], ["--whole-units", "--penalty=16"]] {
+        assert!(crunched_glyph(&words, bow).starts_with("ok "), "{words:?}");
+    }
+    // as the contour alone
+    let counter = fs::read_to_string(LETTER).unwrap().lines().last().unwrap().to_owned();
+    let line = format!("ends={} instr= pts={counter}", counter.split(' ').count() / 3 - 1);
+    let points = RECORDED_COUNTER.splitn(3, ' ').last().unwrap();
+    let told = format!("ok ends={} instr= pts={points}", points.split(' ').count() / 3 - 1);
+    assert_eq!(crunched_glyph(&["--penalty", "16"], &line), told);
+    assert_ne!(crunched_glyph(&["--penalty", "256"], &line), told);
+}
+
+#[test]
+fn settings_of_glyph_crunch_are_read_as_those_of_crunch() {
+    for penalty in ["0", "257", "99999999999999999999"] {
+        assert_eq!(crunched_glyph(&["--penalty", penalty], TRIANGLE), "refused 16");
+        // no contour: the penalty is looked at all the same
+        assert_eq!(glyph(&["crunch", "--penalty", penalty], "000000000000000000000000"), "refused 16");
+    }
+    for words in
+        [&["--penalty"][..], &["--penalty", "1.5"], &["--penalty=1", "--penalty=1"], &["--svg=p"], &["a"]]
+    {
+        let wrong = run(&[&["glyph", "crunch"], words].concat(), b"");
+        assert_eq!(wrong.status.code(), Some(2), "{words:?}");
+        assert!(text(&wrong.stderr).ends_with("; see fontcrunch glyph --help\n"), "{words:?}");
+    }
+    // settings are for crunching
+    for tool in ["read", "write"] {
+        assert_eq!(status(&["glyph", tool, "--closed"], ""), 2);
+    }
+    for words in [&["glyph", "--help"][..], &["glyph", "crunch", "--closed", "--help"]] {
+        assert!(text(&run(words, b"").stdout).starts_with("usage: fontcrunch glyph"), "{words:?}");
+    }
 }
 
 // ---- chains

@@ -77,19 +77,47 @@ fn a_glyph_is_crunched_contour_by_contour() {
         points: [&triangle[..], &curve[..]].concat(),
         instructions: vec![0xb0, 0x03],
     };
-    let mut cruncher = Cruncher::new();
-    let new = glyph::read(&cruncher.crunch_glyph(&glyph.to_bytes().unwrap(), Settings::of_crate()).unwrap())
-        .unwrap();
-    let alone = [&triangle[..], &curve[..]].map(|contour| cruncher.crunch(contour).unwrap().points);
-    assert_eq!(new.contours().collect::<Vec<_>>(), alone);
-    assert_eq!(new.instructions, glyph.instructions);
+    let crate_mode = Settings::of_crate();
+    for settings in [
+        crate_mode,
+        Settings { penalty: 256, ..crate_mode },
+        Settings { whole_units: true, ..crate_mode },
+        Settings { closed: true, ..crate_mode },
+    ] {
+        let mut cruncher = Cruncher::new(settings);
+        let new = glyph::read(&cruncher.crunch_glyph(&glyph.to_bytes().unwrap()).unwrap()).unwrap();
+        let alone = [&triangle[..], &curve[..]].map(|contour| cruncher.crunch(contour).unwrap().points);
+        assert_eq!(new.contours().collect::<Vec<_>>(), alone, "{settings:?}");
+        assert_eq!(new.instructions, glyph.instructions);
+    }
+}
+
+#[test]
+fn the_settings_are_those_of_the_cruncher() {
+    let one = |points: &[Point]| Glyph {
+        ends: vec![points.len() as u16 - 1],
+        points: points.to_vec(),
+        instructions: vec![],
+    };
+    let at = |settings, glyph: &Glyph| Cruncher::new(settings).crunch_glyph(&glyph.to_bytes().unwrap());
+    let closed = Settings { closed: true, ..Settings::default() };
+    let mut triangle = [Point::on(0, 0), Point::on(100, 0), Point::on(0, 100)];
+    let forward = one(&triangle);
+    triangle.reverse();
+    assert_eq!(at(closed, &forward), forward.to_bytes());
+    assert_eq!(at(Settings::default(), &forward), one(&triangle).to_bytes());
+    // on half units its breaks are too many
+    let bow = one(&[Point::on(0, 0), Point::off(700, 0), Point::on(700, 700)]);
+    assert_eq!(at(Settings::default(), &bow), Err(Refusal::TooManyBreaks));
+    assert!(at(Settings { whole_units: true, ..Settings::default() }, &bow).is_ok());
 }
 
 #[test]
 fn refusals_of_crunching() {
-    let mut cruncher = Cruncher::new();
-    let mut of =
-        |glyph: &Glyph, penalty| cruncher.crunch_glyph(&glyph.to_bytes().unwrap(), Settings { penalty });
+    let of = |glyph: &Glyph, penalty| {
+        let settings = Settings { penalty, ..Settings::default() };
+        Cruncher::new(settings).crunch_glyph(&glyph.to_bytes().unwrap())
+    };
     let none = Glyph::default();
     assert_eq!(of(&none, 32), none.to_bytes());
     for penalty in [0, 257] {
@@ -105,11 +133,11 @@ fn refusals_of_crunching() {
     };
     assert_eq!(of(&both(&starts_off, &neighbours), 16), Err(Refusal::StartsOffCurve));
     assert_eq!(of(&both(&neighbours, &starts_off), 16), Err(Refusal::OffCurveNeighbours));
-    assert_eq!(cruncher.crunch_glyph(&[0xff, 0xff], Settings::default()), Err(Refusal::Composite));
+    assert_eq!(Cruncher::new(Settings::default()).crunch_glyph(&[0xff, 0xff]), Err(Refusal::Composite));
     // no room for the points
     let square = Glyph { ends: vec![0], points: vec![Point::on(7, 9)], instructions: vec![] };
     assert_eq!(
-        Cruncher::with_point_room(1).crunch_glyph(&square.to_bytes().unwrap(), Settings::default()),
+        Cruncher::with_point_room(Settings::default(), 1).crunch_glyph(&square.to_bytes().unwrap()),
         square.to_bytes()
     );
 }
@@ -122,10 +150,7 @@ fn crunched_contours_too_far_apart() {
         points: vec![Point::on(-32767, 0), Point::on(0, 0), Point::on(32767, 0)],
         instructions: vec![],
     };
-    let mut cruncher = Cruncher::new();
+    let mut cruncher = Cruncher::new(Settings::of_crate());
     assert!(glyph.contours().all(|contour| cruncher.crunch(contour).is_ok()));
-    assert_eq!(
-        cruncher.crunch_glyph(&glyph.to_bytes().unwrap(), Settings::of_crate()),
-        Err(Refusal::TooLarge)
-    );
+    assert_eq!(cruncher.crunch_glyph(&glyph.to_bytes().unwrap()), Err(Refusal::TooLarge));
 }

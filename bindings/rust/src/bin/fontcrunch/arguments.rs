@@ -1,6 +1,7 @@
 //! What the command line asks for.
 
 mod help;
+mod settings;
 
 use std::ffi::{OsStr, OsString};
 use std::path::PathBuf;
@@ -10,6 +11,8 @@ use fontcrunch::{Settings, CRATE_PENALTY, DEFAULT_PENALTY};
 use crate::{chain_line, contour_line};
 
 pub use help::{help, version};
+pub use settings::read_settings;
+use settings::Chosen;
 
 #[derive(Debug, PartialEq, Eq)]
 pub enum Request {
@@ -123,9 +126,7 @@ const NEEDS_RUN: &str = "chain and check need the number of a run before any fil
 struct Asked {
     tool: Tool,
     has_run: bool,
-    penalty: Option<u32>,
-    whole_units: bool,
-    closed: bool,
+    settings: Chosen,
     jobs: Option<u32>,
     inputs: Vec<Input>,
     picture: Option<PathBuf>,
@@ -150,20 +151,15 @@ impl Asked {
         word: &OsStr,
         words: &mut impl Iterator<Item = OsString>,
     ) -> Result<(), String> {
-        let text = word.to_string_lossy();
-        let (name, value) = match word.to_str().and_then(|word| word.split_once('=')) {
-            Some((name, value)) => (name, Some(OsString::from(value))),
-            None => (&*text, None),
-        };
-        match (name, value) {
+        if self.settings.take(word, words)? {
+            return Ok(());
+        }
+        match parted(word) {
             ("--svg", value) => self.draw_to(value.or_else(|| words.next())),
-            ("--penalty", value) => self.at_penalty(value.or_else(|| words.next())),
             ("--jobs", value) => self.by_jobs(value.or_else(|| words.next())),
-            ("--whole-units", None) => yes(&mut self.whole_units),
-            ("--closed", None) => yes(&mut self.closed),
             ("--crunch", None) => self.then_crunch(),
             ("--index", None) => self.by_index(),
-            _ => Err(format!("there is no option {text}")),
+            _ => Err(no_option(word)),
         }
     }
 
@@ -191,13 +187,6 @@ impl Asked {
         once("--svg", &mut self.picture, name.into())
     }
 
-    /// A number outside the range is no fault of the words: the library refuses by it, after 1 to 5.
-    fn at_penalty(&mut self, number: Option<OsString>) -> Result<(), String> {
-        let number = number.as_deref().and_then(whole_number);
-        let penalty = number.ok_or("--penalty needs a whole number of sixteenths, 1 to 256")?;
-        once("--penalty", &mut self.penalty, penalty)
-    }
-
     fn by_jobs(&mut self, number: Option<OsString>) -> Result<(), String> {
         let number = number.as_deref().and_then(whole_number).filter(|jobs| (1..=MOST_JOBS).contains(jobs));
         let jobs = number.ok_or_else(|| format!("--jobs needs a number of threads, 1 to {MOST_JOBS}"))?;
@@ -206,14 +195,9 @@ impl Asked {
 
     /// Settings where no run is worked would change nothing, unsaid.
     fn no_settings(&self) -> Result<(), String> {
-        let given = [
-            (self.penalty.is_some(), "--penalty"),
-            (self.whole_units, "--whole-units"),
-            (self.closed, "--closed"),
-        ];
-        match given.iter().find(|(is_given, _)| *is_given) {
+        match self.settings.first_given() {
             None => Ok(()),
-            Some((_, name)) => Err(format!("{name} is for crunching: of clean and cubic, with --crunch")),
+            Some(name) => Err(format!("{name} is for crunching: of clean and cubic, with --crunch")),
         }
     }
 
@@ -229,19 +213,23 @@ impl Asked {
         }
         // studios preview at the penalty of the Rust
         let usual = if self.picture.is_some() { CRATE_PENALTY } else { DEFAULT_PENALTY };
-        let settings = Settings {
-            penalty: self.penalty.unwrap_or(usual),
-            whole_units: self.whole_units,
-            closed: self.closed,
-        };
+        let settings = self.settings.with_usual(usual);
         let jobs = self.jobs.unwrap_or(1) as usize;
         Ok(Job { tool: self.tool, settings, jobs, inputs: self.inputs, picture: self.picture })
     }
 }
 
-fn yes(choice: &mut bool) -> Result<(), String> {
-    *choice = true;
-    Ok(())
+/// An option's name, and its value where that follows it after a `=`. No name is other than Unicode.
+fn parted(word: &OsStr) -> (&str, Option<OsString>) {
+    let text = word.to_str().unwrap_or_default();
+    match text.split_once('=') {
+        Some((name, value)) => (name, Some(value.into())),
+        None => (text, None),
+    }
+}
+
+fn no_option(word: &OsStr) -> String {
+    format!("there is no option {}", word.to_string_lossy())
 }
 
 fn once<T>(name: &str, place: &mut Option<T>, value: T) -> Result<(), String> {

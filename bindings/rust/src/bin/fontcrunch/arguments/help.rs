@@ -20,7 +20,7 @@ const USAGE: &str = "\
 Crunches TrueType contours: puts fewer quadratic pieces between their corners.
 
 usage: fontcrunch [crunch] [SETTINGS] [--svg PICTURE] [FILE...]
-       fontcrunch glyph read|write    glyph descriptions; see fontcrunch glyph --help
+       fontcrunch glyph read|write|crunch    see fontcrunch glyph --help
        fontcrunch clean [--crunch [SETTINGS]] [FILE...]
        fontcrunch cubic [--crunch [SETTINGS]] [FILE...]
        fontcrunch why [--index] [FILE...]

@@ -139,6 +139,25 @@ fn settings_are_for_what_crunches() {
 }
 
 #[test]
+fn settings_alone() {
+    let alone = |words: &[&str]| read_settings(words.iter().map(OsString::from));
+    assert_eq!(alone(&[]), Ok(Some(Settings::default())));
+    let all = Settings { penalty: 20, whole_units: true, closed: true };
+    for words in
+        [["--penalty=20", "--whole-units", "--closed"], ["--closed", "--penalty=20", "--whole-units"]]
+    {
+        assert_eq!(alone(&words), Ok(Some(all)));
+    }
+    assert_eq!(alone(&["--closed", "--penalty", "0"]).unwrap().unwrap().penalty, 0);
+    assert_eq!(alone(&["--closed", "--help"]), Ok(None));
+    assert!(alone(&["--penalty", "--help"]).unwrap_err().contains("whole number"));
+    assert!(alone(&["--penalty", "16", "--penalty", "16"]).unwrap_err().contains("twice"));
+    for word in ["a", "-", "--", "--jobs=2", "--svg=p", "--closed=1"] {
+        assert!(alone(&[word]).unwrap_err().contains(&format!("no option {word}")), "{word}");
+    }
+}
+
+#[test]
 fn jobs() {
     assert_eq!(job(&[]).jobs, 1);
     assert_eq!(job(&["why", "--jobs", "4"]).jobs, 4);
