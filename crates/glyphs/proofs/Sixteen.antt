@@ -11,28 +11,28 @@ use lib.Ieee.{Float, toSigned}
 use lib.Ieee.Casts.{toSigned-in}
 use lib.Signed.{mag}
 use lib.ListN.{length, getD, take, drop}
-use Rattle.refusals.specs.Refusals.{judged}
 use Rattle.refusals.specs.declared.Judged.{Judged}
 use Rattle.refusals.specs.declared.Judged.the-variants as Judged
 use Rattle.geometry.specs.declared.Quad as Q
 use Rattle.geometry.specs.Geometry.{isLine}
-use Rattle.corners.specs.Segments.{countOf, segAt}
+use Rattle.corners.specs.Segments.{onAt, countOf, segAt}
 use Rattle.corners.specs.declared.Seg.{Seg}
 use Rattle.corners.specs.declared.Seg.the-variants.{Line, Quad}
-use Rattle.runs.specs.Runs.{Span, runsOf, isCopied}
+use Rattle.runs.specs.Runs.{Span, between, stopsOf, isCopied}
 use Rattle.runs.specs.declared.Run.the-variants.{Between}
+use Rattle.settings.specs.Settings.{judgedFor}
 use Rattle.settings.specs.declared.Settings.{Settings}
 use Rattle.edition.specs.Edition.{Result, Rooms}
 use Rattle.edition.specs.Edition as Edition
-use Rattle.contour.specs.Points.{Points, pointsOf, pieceIf, piecesPoints, pointsTo, startPoint}
-use Rattle.contour.specs.Implied.{number, isImplied, impliedAt, removed, look, dropFrom, finished}
+use Rattle.contour.specs.Points.{Points, pointsOf, pieceIf, piecesPoints, pointsTo, pointAs, cameTo, unchangedIn}
+use Rattle.contour.specs.Implied.{number, isImplied, impliedAt, removed, look, dropFrom, dropImplied, finished}
 use Rattle.pieces.specs.Slots.{quadsOf}
-use Rattle.assembly.specs.Assembly.{State, ended, going, added, runIf, resultOf, afterRun, onward, crunchAll, crunchRuns}
+use Rattle.assembly.specs.Assembly.{State, ended, going, added, closedUp, itself, runIf, resultOf, afterRun, onward, crunchAll, crunchRound, crunchIn, crunchRuns}
 use Rattle.assembly.specs.Assembly as State
 use Rattle.crunch.specs.Crunch.{Outcome, crunched, overIf, outcomeOf, afterJudging, crunchOf}
 use Rattle.crunch.specs.Crunch as Outcome
 use Rattle.glyf.specs.Layout.{in16, all16}
-use Rattle.glyf.proofs.Codes.{and-left}
+use Rattle.glyf.proofs.Codes.{and-left, and-right}
 
 -- ---- rows of points
 
@@ -61,15 +61,20 @@ turned : {ps qs : Points} → All16 ps → All16 qs → All16 (reverseAux ps qs)
 turned none k = k
 turned (one x y h) k = turned h (one x y k)
 
-looked : (k i : ℕ) (b : Bool) {ps : Points} → All16 ps → All16 (look isImplied k b ps i)
-unfolding look
-looked zero i b h = h
-looked (suc k) i true {ps} h = looked k i (impliedAt isImplied (removed ps i) i) (both (taken i h) (dropped (i + 1) h))
-looked (suc k) i false {ps} h = looked k (i + 1) (impliedAt isImplied ps (i + 1)) h
+module _ (closed : Bool) where
+  looked : (k i : ℕ) (b : Bool) {ps : Points} → All16 ps → All16 (look (isImplied closed) k b ps i)
+  unfolding look
+  looked zero i b h = h
+  looked (suc k) i true {ps} h = looked k i (impliedAt (isImplied closed) (removed ps i) i) (both (taken i h) (dropped (i + 1) h))
+  looked (suc k) i false {ps} h = looked k (i + 1) (impliedAt (isImplied closed) ps (i + 1)) h
 
-finished-16 : {ps : Points} → All16 ps → All16 (finished ps)
-unfolding dropFrom
-finished-16 {ps} h = looked (length (reverse ps) - 0) 0 (impliedAt isImplied (reverse ps) 0) (turned h none)
+  drop-16 : {ps : Points} → All16 ps → All16 (dropImplied (isImplied closed) ps)
+  unfolding dropFrom
+  drop-16 {ps} h = looked (length ps - 0) 0 (impliedAt (isImplied closed) ps 0) h
+
+finished-16 : (closed : Bool) {ps : Points} → All16 ps → All16 (finished closed ps)
+finished-16 true h = drop-16 true h
+finished-16 false h = drop-16 false (turned h none)
 
 -- ---- a contour's points
 
@@ -93,10 +98,11 @@ unfolding piecesPoints
 pieces-16 [] = none
 pieces-16 (q ∷ qs) = both (piece-16 (isLine q) q) (pieces-16 qs)
 
-first-16 : (xs : List ℤ) → all16 xs ≡ true → in16 (getD xs 0 (pos 0)) ≡ true
+at-16 : (xs : List ℤ) (i : ℕ) → all16 xs ≡ true → in16 (getD xs i (pos 0)) ≡ true
 unfolding all16
-first-16 [] h = refl
-first-16 (x ∷ xs) h = and-left (in16 x) (all16 xs) h
+at-16 [] i h = refl
+at-16 (x ∷ xs) zero h = and-left (in16 x) (all16 xs) h
+at-16 (x ∷ xs) (suc i) h = at-16 xs i (and-right (in16 x) (all16 xs) h)
 
 data Sixteen : State → Type 0 where
   no : (k : ℕ) → Sixteen (State.refused k)
@@ -104,17 +110,26 @@ data Sixteen : State → Type 0 where
   goes : {ps : Points} {pairs : ℕ} → All16 ps → Sixteen (going ps pairs)
 
 module _ (rooms : Rooms) (settings : Settings) (xs ys : List ℤ) (fs : List ℕ) (hx : all16 xs ≡ true) (hy : all16 ys ≡ true) where
-  start-16 : All16 (startPoint xs ys ∷ [])
-  start-16 = one (first-16 xs hx) (first-16 ys hy) none
+  place-16 : (on : Bool) (i : ℕ) {ps : Points} → All16 ps → All16 (pointAs on xs ys i ∷ ps)
+  place-16 on i h = one (at-16 xs i hx) (at-16 ys i hy) h
 
   to-16 : (k : ℕ) → All16 (pointsTo xs ys fs k)
   unfolding pointsTo
-  to-16 zero = start-16
+  to-16 zero = place-16 true 0 none
   to-16 (suc k) = both (to-16 k) (seg-16 (segAt xs ys fs k))
 
-  added-16 : (x : Result) {ps : Points} (pairs : ℕ) → All16 ps → Sixteen (added xs ys fs x ps pairs)
+  came-16 : (k : ℕ) → All16 (cameTo xs ys fs k)
+  unfolding cameTo
+  came-16 zero = none
+  came-16 (suc k) = both (came-16 k) (place-16 (onAt fs k) k none)
+
+  itself-16 : (closed : Bool) → All16 (unchangedIn xs ys fs closed)
+  itself-16 true = came-16 (length fs)
+  itself-16 false = to-16 (countOf fs)
+
+  added-16 : (x : Result) {ps : Points} (pairs : ℕ) → All16 ps → Sixteen (added (itself rooms settings xs ys fs) x ps pairs)
   added-16 (Edition.refused k) pairs h = no k
-  added-16 (Edition.unchanged p) pairs h = ends (to-16 (countOf fs))
+  added-16 (Edition.unchanged p) pairs h = ends (itself-16 (settings .closed))
   added-16 (Edition.solved a p) pairs h = goes (both h (pieces-16 (quadsOf a)))
 
   run-16 : (copied : Bool) (r : Span) {ps : Points} (pairs : ℕ) → All16 ps → Sixteen (runIf rooms settings xs ys fs copied r ps pairs)
@@ -132,9 +147,22 @@ module _ (rooms : Rooms) (settings : Settings) (xs ys : List ℤ) (fs : List ℕ
   all-16 [] h = h
   all-16 (r ∷ rs) h = all-16 rs (onward-16 r h)
 
+  closed-16 : (i : ℕ) {s : State} → Sixteen s → Sixteen (closedUp (pointAs true xs ys i) s)
+  closed-16 i (no k) = no k
+  closed-16 i (ends h) = ends h
+  closed-16 i (goes {ps = ps} h) = goes (place-16 true i (taken (length ps - 1) h))
+
+  round-16 : (stops : List ℕ) → Sixteen (crunchRound rooms settings xs ys fs stops)
+  round-16 [] = ends (itself-16 (settings .closed))
+  round-16 (a ∷ stops) = closed-16 _ (all-16 (between (a ∷ stops)) (goes none))
+
+  mode-16 : (closed : Bool) (stops : List ℕ) → Sixteen (crunchIn rooms settings xs ys fs closed stops)
+  mode-16 true stops = round-16 stops
+  mode-16 false stops = all-16 (between stops) (goes (place-16 true 0 none))
+
   runs-16 : Sixteen (crunchRuns rooms settings xs ys fs)
   unfolding crunchRuns
-  runs-16 = all-16 (runsOf xs ys fs) (goes start-16)
+  runs-16 = mode-16 (settings .closed) (stopsOf (settings .closed) xs ys fs)
 
 -- ---- the outcome
 
@@ -142,14 +170,15 @@ data In16 : Outcome → Type 0 where
   no : (k : ℕ) → In16 (Outcome.refused k)
   yes : {ps : Points} {pairs : ℕ} → All16 ps → In16 (crunched ps pairs)
 
-over-16 : (b : Bool) {ps : Points} (pairs : ℕ) → All16 ps → In16 (overIf b ps pairs)
-over-16 true pairs h = no 9
-over-16 false pairs h = yes (finished-16 h)
+module _ (closed : Bool) where
+  over-16 : (b : Bool) {ps : Points} (pairs : ℕ) → All16 ps → In16 (overIf closed b ps pairs)
+  over-16 true pairs h = no 9
+  over-16 false pairs h = yes (finished-16 closed h)
 
-outcome-16 : (room : ℕ) {s : State} → Sixteen s → In16 (outcomeOf room s)
-outcome-16 room (no k) = no k
-outcome-16 room (ends {ps = ps} {pairs = pairs} h) = over-16 (ltb room (length ps)) pairs h
-outcome-16 room (goes {ps = ps} {pairs = pairs} h) = over-16 (ltb room (length ps)) pairs h
+  outcome-16 : (room : ℕ) {s : State} → Sixteen s → In16 (outcomeOf closed room s)
+  outcome-16 room (no k) = no k
+  outcome-16 room (ends {ps = ps} {pairs = pairs} h) = over-16 (ltb room (length ps)) pairs h
+  outcome-16 room (goes {ps = ps} {pairs = pairs} h) = over-16 (ltb room (length ps)) pairs h
 
 judged-16 : (j : Judged) {x : Outcome} → In16 x → In16 (afterJudging j x)
 judged-16 (Judged.Refused k) h = no k
@@ -161,4 +190,4 @@ got (yes h) = h
 pub crunched-16 : (rooms : Rooms) (room : ℕ) (settings : Settings) (xs ys : List ℤ) (fs : List ℕ) {ps : Points} {pairs : ℕ} →
     all16 xs ≡ true → all16 ys ≡ true → crunchOf rooms room settings xs ys fs ≡ crunched ps pairs → All16 ps
 unfolding crunchOf
-crunched-16 rooms room settings xs ys fs hx hy e = got (subst In16 e (judged-16 (judged xs ys fs) (outcome-16 room (runs-16 rooms settings xs ys fs hx hy))))
+crunched-16 rooms room settings xs ys fs hx hy e = got (subst In16 e (judged-16 (judgedFor settings xs ys fs) (outcome-16 (settings .closed) room (runs-16 rooms settings xs ys fs hx hy))))
