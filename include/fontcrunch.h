@@ -416,6 +416,32 @@ GlyphWriteReport fontcrunch_write_glyph(const uint16_t *ends, size_t ends_len, c
                                         const uint8_t *instructions, size_t instructions_len, uint8_t *out,
                                         size_t out_len);
 
+/*
+ * Crunches a description: reads it, crunches each contour in order as fontcrunch_crunch does, and writes what they
+ * became to the first places of `out`, with the instructions as they stood; no other place of `out` is touched.
+ * Instructions that name points are kept though the points are others now. `penalty`, `whole_units` and `closed`
+ * mean what they mean to fontcrunch_crunch, and hold for every contour.
+ *
+ * All other rows are scratch, as described above, and are zero throughout on every return. The glyph is read into
+ * `ends`, `xs`, `ys`, `flags` and `instructions`. The new points are put together in `points` and pass through
+ * `xs`, `ys` and `flags`: all contours together have as many places as the shortest of these four, and a contour
+ * has those that the ones before it left.
+ *
+ * Refusals, in this order: 15, 12, 13 and 14 of reading, 9 where a row is too short for what is read; then, contour
+ * by contour, whatever fontcrunch_crunch gives, so that the first contour that is refused refuses the glyph by its
+ * number (4 or 5 where it starts off-curve or has implied points, 9 where its places do not suffice); 16 where
+ * there is no contour and the penalty is not 1 to 256; then 14 (a difference outside 16 bits, more than 65,536
+ * points), and last 9, `out` too short. A refusal writes nothing.
+ */
+GlyphWriteReport fontcrunch_crunch_glyph(const uint8_t *bytes, size_t bytes_len, uint32_t penalty,
+                                         uint32_t whole_units, uint32_t closed, uint8_t *out, size_t out_len,
+                                         uint16_t *ends, size_t ends_len, int16_t *xs, size_t xs_len, int16_t *ys,
+                                         size_t ys_len, uint8_t *flags, size_t flags_len, uint8_t *instructions,
+                                         size_t instructions_len, double (*samples)[4], size_t samples_len,
+                                         double (*breaks)[5], size_t breaks_len, double (*answers)[3],
+                                         size_t answers_len, uint32_t *links, size_t links_len,
+                                         int16_t (*points)[3], size_t points_len);
+
 #ifdef __cplusplus
 }
 #endif

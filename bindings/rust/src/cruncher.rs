@@ -69,8 +69,8 @@ pub struct Cruncher {
     settings: Settings,
     contour: Contour,
     chain: ChainRows,
-    output: Output,
-    scratch: Scratch,
+    pub(crate) output: Output,
+    pub(crate) scratch: Scratch,
 }
 
 impl Cruncher {

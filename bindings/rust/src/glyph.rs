@@ -13,12 +13,16 @@
 //! # Ok::<(), fontcrunch::Refusal>(())
 //! ```
 //!
+//! [`Cruncher::crunch_glyph`] crunches a description, bytes in and bytes out.
+//!
 //! Whatever is written reads back the same, and whatever is read can be written again: both are proved. The
 //! bytes may differ from those that were read, since every difference gets its shortest coding, and bits 6
 //! and 7 of the flags are not kept.
 
-use crate::cruncher::Point;
+use crate::cruncher::{Cruncher, Point};
+use crate::entries;
 use crate::refusal::Refusal;
+use crate::rows::{GlyphRows, Output};
 
 /// A simple glyph: its contours one after the other, and its instructions.
 #[derive(Clone, Debug, Default, PartialEq, Eq, Hash)]
@@ -181,5 +185,51 @@ impl Glyph {
     pub fn contours(&self) -> impl Iterator<Item = &[Point]> {
         let starts = std::iter::once(0).chain(self.ends.iter().map(|&end| usize::from(end) + 1));
         starts.zip(&self.ends).map(|(start, &end)| &self.points[start..usize::from(end) + 1])
+    }
+}
+
+impl Cruncher {
+    /// Crunches a simple glyph description, each contour as [`Cruncher::crunch`] does, and writes the new one.
+    /// Instructions stay as they stand, though the points that they name are others now.
+    ///
+    /// Refused, in this order: as [`read`]; then by the first contour that is refused, whatever its number;
+    /// then by 16 where the penalty is out of range and there is no contour;
+    /// [`TooLarge`](Refusal::TooLarge), where contours lie too far apart to be written, or there are more than
+    /// 65,536 points. The contours share the cruncher's room for points, or as many places as the glyph has
+    /// points where these are more: [`OutputTooShort`](Refusal::OutputTooShort) where it does not suffice.
+    ///
+    /// ```
+    /// use fontcrunch::{glyph::Glyph, glyph, Cruncher, Point, Settings};
+    ///
+    /// let triangle = Glyph {
+    ///     ends: vec![2],
+    ///     points: vec![Point::on(0, 0), Point::on(100, 0), Point::on(0, 100)],
+    ///     instructions: vec![],
+    /// };
+    /// let crunched = Cruncher::new(Settings::default()).crunch_glyph(&triangle.to_bytes()?)?;
+    /// // points come out in reverse order
+    /// assert_eq!(glyph::read(&crunched)?.points, [Point::on(0, 100), Point::on(100, 0), Point::on(0, 0)]);
+    /// # Ok::<(), fontcrunch::Refusal>(())
+    /// ```
+    pub fn crunch_glyph(&mut self, bytes: &[u8]) -> Result<Vec<u8>, Refusal> {
+        let settings = self.settings();
+        let room = Room::for_bytes(bytes);
+        let mut glyph = GlyphRows::of_room(room.ends, room.instructions);
+        let mut larger;
+        let rows = if room.points <= self.output.points.len() {
+            &mut self.output
+        } else {
+            larger = Output::of_room(room.points);
+            &mut larger
+        };
+        // a flag byte and two words a point, and the header
+        let mut out = vec![0; 12 + 2 * room.ends + room.instructions + 5 * rows.points.len()];
+        let report =
+            entries::glyph::crunch_glyph(bytes, settings, &mut out, &mut glyph, rows, &mut self.scratch);
+        if let Some(refusal) = Refusal::from_number(report.number) {
+            return Err(refusal);
+        }
+        out.truncate(report.bytes);
+        Ok(out)
     }
 }

@@ -46,6 +46,11 @@
 //!
 //! [`from_cubics`] makes quads of a contour of cubics, whose off-curve points stand in pairs.
 //!
+//! # Glyph descriptions
+//!
+//! [`glyph`] reads and writes OpenType's simple glyph descriptions; [`Cruncher::crunch_glyph`] crunches one, contour
+//! by contour.
+//!
 //! # Linking
 //!
 //! `tools/library`, run at the repository's top, writes the library where this crate looks for

@@ -102,6 +102,18 @@ impl Output {
     }
 }
 
+/// What a glyph description has beside its points.
+pub(crate) struct GlyphRows {
+    pub ends: Box<[u16]>,
+    pub instructions: Box<[u8]>,
+}
+
+impl GlyphRows {
+    pub fn of_room(ends: usize, instructions: usize) -> GlyphRows {
+        GlyphRows { ends: vec![0; ends].into(), instructions: vec![0; instructions].into() }
+    }
+}
+
 /// The points that come out of cleaning, and of cubics.
 pub(crate) struct PointRows {
     pub xs: Box<[i16]>,

@@ -139,7 +139,12 @@ fn a_line_of_any_length_is_passed_over() {
 
 #[test]
 fn answers_come_before_the_input_ends() {
-    let mut child = command().stdin(Stdio::piped()).stdout(Stdio::piped()).spawn().unwrap();
+    assert_answers_come_at_once(&[]);
+    assert_answers_come_at_once(&["--jobs", "3"]);
+}
+
+fn assert_answers_come_at_once(words: &[&str]) {
+    let mut child = command().args(words).stdin(Stdio::piped()).stdout(Stdio::piped()).spawn().unwrap();
     let mut stdin = child.stdin.take().unwrap();
     let mut stdout = BufReader::new(child.stdout.take().unwrap());
     for _ in 0..3 {
@@ -467,4 +472,213 @@ fn why_one_segment_is_a_corner() {
     );
     assert_eq!(said.status.code(), Some(1));
     assert!(text(&said.stderr).contains("(standard input):4: refused 11: "));
+}
+
+// ---- glyph descriptions
+
+/// What `glyph` with these words answers to a line.
+fn glyph(words: &[&str], line: &str) -> String {
+    let said = text(&run(&[&["glyph"], words].concat(), format!("{line}\n").as_bytes()).stdout);
+    said.trim_end().to_owned()
+}
+
+/// A glyph written, crunched with these words, and read; or what crunching says instead.
+fn crunched_glyph(words: &[&str], line: &str) -> String {
+    let written = glyph(&["write"], line);
+    let crunched = glyph(&[&["crunch"], words].concat(), written.strip_prefix("ok ").unwrap());
+    match crunched.strip_prefix("ok ") {
+        Some(hex) => glyph(&["read"], hex),
+        None => crunched,
+    }
+}
+
+const TRIANGLE: &str = "ok ends=2 instr=b003 pts=0 0 1 100 0 1 0 100 1";
+
+#[test]
+fn a_description_is_crunched() {
+    for words in [&[][..], &["--penalty", "16"], &["--whole-units"]] {
+        assert_eq!(crunched_glyph(words, TRIANGLE), "ok ends=2 instr=b003 pts=0 100 1 100 0 1 0 0 1");
+    }
+    assert_eq!(glyph(&["crunch"], "ffff"), "refused 15");
+    assert_eq!(glyph(&["crunch"], "0"), "malformed");
+}
+
+#[test]
+fn a_description_is_crunched_at_settings_in_any_order() {
+    for words in [&["--closed"][..], &["--closed", "--penalty", "16"], &["--penalty=16", "--closed"]] {
+        assert_eq!(crunched_glyph(words, TRIANGLE), TRIANGLE, "{words:?}");
+    }
+    let bow = "ends=2 instr= pts=0 0 1 700 0 0 700 700 1";
+    assert_eq!(crunched_glyph(&["--penalty", "16"], bow), "refused 7");
+    for words in [["--penalty=16", "--whole-units"], ["--whole-units", "--penalty=16"]] {
+        assert!(crunched_glyph(&words, bow).starts_with("ok "), "{words:?}");
+    }
+    // as the contour alone
+    let counter = fs::read_to_string(LETTER).unwrap().lines().last().unwrap().to_owned();
+    let line = format!("ends={} instr= pts={counter}", counter.split(' ').count() / 3 - 1);
+    let points = RECORDED_COUNTER.splitn(3, ' ').last().unwrap();
+    let told = format!("ok ends={} instr= pts={points}", points.split(' ').count() / 3 - 1);
+    assert_eq!(crunched_glyph(&["--penalty", "16"], &line), told);
+    assert_ne!(crunched_glyph(&["--penalty", "256"], &line), told);
+}
+
+#[test]
+fn settings_of_glyph_crunch_are_read_as_those_of_crunch() {
+    for penalty in ["0", "257", "99999999999999999999"] {
+        assert_eq!(crunched_glyph(&["--penalty", penalty], TRIANGLE), "refused 16");
+        // no contour: the penalty is looked at all the same
+        assert_eq!(glyph(&["crunch", "--penalty", penalty], "000000000000000000000000"), "refused 16");
+    }
+    for words in
+        [&["--penalty"][..], &["--penalty", "1.5"], &["--penalty=1", "--penalty=1"], &["--svg=p"], &["a"]]
+    {
+        let wrong = run(&[&["glyph", "crunch"], words].concat(), b"");
+        assert_eq!(wrong.status.code(), Some(2), "{words:?}");
+        assert!(text(&wrong.stderr).ends_with("; see fontcrunch glyph --help\n"), "{words:?}");
+    }
+    // settings are for crunching
+    for tool in ["read", "write"] {
+        assert_eq!(status(&["glyph", tool, "--closed"], ""), 2);
+    }
+    for words in [&["glyph", "--help"][..], &["glyph", "crunch", "--closed", "--help"]] {
+        assert!(text(&run(words, b"").stdout).starts_with("usage: fontcrunch glyph"), "{words:?}");
+    }
+}
+
+// ---- chains
+
+const HILL: &str = "0 0 1 0 60 0 40 90 1 80 120 0 130 120 1 200 -40 1";
+
+// the same as the oracle's, tools/chains/check
+const HILL_CHAIN: &str = "ok 937 40081ec11db47a5f 2 \
+     0 241 8000000000000000 404e000000000000 241 469 4054000000000000 405e000000000000";
+
+#[test]
+fn the_chain_of_a_run() {
+    let input = format!("{HILL}\n5 5 1 5 5 0 5 5 1\n\n0 0 0\nx\n0 0 1 700 0 0 700 700 1\n");
+    let said = run(&["chain", "0", "--penalty", "16"], input.as_bytes());
+    let lines = [HILL_CHAIN, "unchanged 1", "refused 2", "refused 4", "malformed", "refused 7"];
+    assert_eq!(text(&said.stdout), lines.join("\n") + "\n");
+    assert_eq!(said.status.code(), Some(2));
+    // a copied line, and none
+    for run in ["1", "2", "99999999999999999999"] {
+        assert_eq!(answers_to(&["chain", run, "--penalty", "16"], HILL), ["refused 10"]);
+    }
+    assert_eq!(answers_to(&["chain", "7", "--penalty", "0"], HILL), ["refused 16"]);
+    assert_eq!(status(&["chain", "0"], &format!("{HILL}\n")), 0);
+}
+
+/// What `chain` answered as `check` reads it: the score and the pieces.
+fn as_given(answer: &str) -> String {
+    let words: Vec<&str> = answer.split(' ').collect();
+    assert_eq!(words[0], "ok");
+    [&words[2..3], &words[4..]].concat().join(" ")
+}
+
+#[test]
+fn a_chain_is_checked_as_it_was_made() {
+    for settings in [&["--penalty", "16"][..], &[], &["--whole-units"], &["--closed", "--penalty", "1"]] {
+        let words = |tool| [&[tool, "0"], settings].concat();
+        let chain = as_given(&answers_to(&words("chain"), HILL)[0]);
+        let said = run(&words("check"), format!("{HILL} | {chain}\n").as_bytes());
+        assert_eq!((text(&said.stdout).as_str(), said.status.code()), ("yes\n", Some(0)), "{settings:?}");
+        // at another penalty it has another score
+        assert_eq!(answers_to(&["check", "0", "--penalty", "256"], &format!("{HILL} | {chain}")), ["no"]);
+    }
+}
+
+#[test]
+fn chains_that_are_not_accepted_and_lines_that_are_none() {
+    let chain = as_given(HILL_CHAIN);
+    let damaged = chain.replacen("40081ec11db47a5f", "40081ec11db47a60", 1);
+    let input = format!(
+        "{HILL} | {chain}\n{HILL} | {damaged}\n{HILL} | {ONE}\n| {ONE}\n0 0 0 | {ONE}\n{HILL}\n",
+        ONE = "3ff0000000000000"
+    );
+    let said = run(&["check", "0", "--penalty", "16"], input.as_bytes());
+    assert_eq!(text(&said.stdout), "yes\nno\nno\nrefused 2\nrefused 4\nmalformed\n");
+    let first: String = input.lines().take(2).map(|line| format!("{line}\n")).collect();
+    assert_eq!(status(&["check", "0", "--penalty", "16"], &first), 1);
+    assert_eq!(answers_to(&["check", "1", "--penalty", "16"], &first), ["refused 10"; 2]);
+    assert!(
+        text(&said.stderr).contains("(standard input):6: malformed: after the contour, ' | ' and a chain")
+    );
+}
+
+#[test]
+fn a_line_for_check_may_be_longer() {
+    let piece = format!(" 0 1 {0} {0}", "3ff0000000000000");
+    let line = format!("{HILL} | 3ff0000000000000{}\n", piece.repeat(3000));
+    assert!(line.len() > 65_536);
+    assert_eq!(answers_to(&["check", "0"], &line), ["no"]);
+    let longer = format!("{HILL} | 3ff0000000000000{}\n", piece.repeat(8000));
+    assert_eq!(answers_to(&["check", "0"], &longer), ["malformed"]);
+}
+
+// ---- jobs
+
+#[test]
+fn the_same_for_any_number_of_threads() {
+    let folder = folder("jobs");
+    let (cases, missing) = (path(&folder, "cases"), path(&folder, "missing"));
+    let lines: String = CASES.iter().map(|(line, _)| format!("{line}\n")).collect();
+    fs::write(&cases, lines.repeat(12)).unwrap();
+    for tool in
+        [&["--penalty", "16"][..], &["why"], &["clean", "--crunch"], &["chain", "0", "--penalty", "16"]]
+    {
+        let with = |jobs: &str| {
+            let words = [tool, &["--jobs", jobs, &cases, &missing, "-", &cases]].concat();
+            let output = run(&words, b"7 9 1\nx");
+            (output.status.code(), text(&output.stdout), text(&output.stderr))
+        };
+        let alone = with("1");
+        assert_eq!(alone.1.lines().count(), 2 * 12 * CASES.len() + 2);
+        for jobs in ["2", "3", "8"] {
+            assert_eq!(with(jobs), alone, "{tool:?} by {jobs}");
+        }
+    }
+}
+
+#[test]
+fn answers_and_messages_in_one_file_are_in_order_for_any_number_of_threads() {
+    let folder = folder("merged");
+    let (cases, both) = (path(&folder, "cases"), path(&folder, "both"));
+    let lines: String = CASES.iter().map(|(line, _)| format!("{line}\n")).collect();
+    fs::write(&cases, lines.repeat(12)).unwrap();
+    let merged = |jobs: &str| {
+        let file = fs::File::create(&both).unwrap();
+        let words = ["--penalty", "16", "--jobs", jobs, &cases];
+        command().args(words).stdout(file.try_clone().unwrap()).stderr(file).status().unwrap();
+        fs::read_to_string(&both).unwrap()
+    };
+    let alone = merged("1");
+    assert!(alone.contains("\nfontcrunch: ") && alone.contains("\nok "));
+    for jobs in ["2", "8"] {
+        assert_eq!(merged(jobs), alone, "by {jobs}");
+    }
+}
+
+#[test]
+fn the_same_picture_for_any_number_of_threads() {
+    let input: String = CASES.iter().map(|(line, _)| format!("{line}\n")).collect();
+    let with = |jobs| drawn_with(&["--jobs", jobs], "jobs_drawn", &input);
+    assert_eq!(with("4"), with("1"));
+}
+
+#[test]
+fn threads_end_where_nobody_reads_answers() {
+    let mut child = command()
+        .args(["--jobs", "3"])
+        .stdin(Stdio::piped())
+        .stdout(Stdio::piped())
+        .stderr(Stdio::piped())
+        .spawn()
+        .unwrap();
+    drop(child.stdout.take());
+    let mut stdin = child.stdin.take().unwrap();
+    // more than the queues hold; what is no longer read cannot be written
+    let writer = thread::spawn(move || _ = stdin.write_all(&b"7 9 1\n".repeat(100_000)));
+    let output = child.wait_with_output().unwrap();
+    writer.join().unwrap();
+    assert_eq!((output.status.code(), text(&output.stderr)), (Some(2), String::new()));
 }

@@ -1,7 +1,7 @@
 //! Glyph descriptions through the crate: round trips and refusals.
 
 use fontcrunch::glyph::{self, Glyph};
-use fontcrunch::{Point, Refusal};
+use fontcrunch::{Cruncher, Point, Refusal, Settings};
 
 fn square() -> Glyph {
     Glyph {
@@ -65,4 +65,92 @@ fn refusals_of_writing() {
     assert_eq!(far.to_bytes(), Err(Refusal::TooLarge));
     let long = Glyph { instructions: vec![0; 65_536], ..square() };
     assert_eq!(long.to_bytes(), Err(Refusal::TooLarge));
+}
+
+/// A triangle and a lone point, as bytes; each contour alone as [`Cruncher::crunch`] gives it.
+#[test]
+fn a_glyph_is_crunched_contour_by_contour() {
+    let triangle = [Point::on(0, 0), Point::on(100, 0), Point::on(0, 100)];
+    let curve = [Point::on(0, 0), Point::off(40, 0), Point::on(0, 0), Point::on(5, 50)];
+    let glyph = Glyph {
+        ends: vec![2, 6],
+        points: [&triangle[..], &curve[..]].concat(),
+        instructions: vec![0xb0, 0x03],
+    };
+    let crate_mode = Settings::of_crate();
+    for settings in [
+        crate_mode,
+        Settings { penalty: 256, ..crate_mode },
+        Settings { whole_units: true, ..crate_mode },
+        Settings { closed: true, ..crate_mode },
+    ] {
+        let mut cruncher = Cruncher::new(settings);
+        let new = glyph::read(&cruncher.crunch_glyph(&glyph.to_bytes().unwrap()).unwrap()).unwrap();
+        let alone = [&triangle[..], &curve[..]].map(|contour| cruncher.crunch(contour).unwrap().points);
+        assert_eq!(new.contours().collect::<Vec<_>>(), alone, "{settings:?}");
+        assert_eq!(new.instructions, glyph.instructions);
+    }
+}
+
+#[test]
+fn the_settings_are_those_of_the_cruncher() {
+    let one = |points: &[Point]| Glyph {
+        ends: vec![points.len() as u16 - 1],
+        points: points.to_vec(),
+        instructions: vec![],
+    };
+    let at = |settings, glyph: &Glyph| Cruncher::new(settings).crunch_glyph(&glyph.to_bytes().unwrap());
+    let closed = Settings { closed: true, ..Settings::default() };
+    let mut triangle = [Point::on(0, 0), Point::on(100, 0), Point::on(0, 100)];
+    let forward = one(&triangle);
+    triangle.reverse();
+    assert_eq!(at(closed, &forward), forward.to_bytes());
+    assert_eq!(at(Settings::default(), &forward), one(&triangle).to_bytes());
+    // on half units its breaks are too many
+    let bow = one(&[Point::on(0, 0), Point::off(700, 0), Point::on(700, 700)]);
+    assert_eq!(at(Settings::default(), &bow), Err(Refusal::TooManyBreaks));
+    assert!(at(Settings { whole_units: true, ..Settings::default() }, &bow).is_ok());
+}
+
+#[test]
+fn refusals_of_crunching() {
+    let of = |glyph: &Glyph, penalty| {
+        let settings = Settings { penalty, ..Settings::default() };
+        Cruncher::new(settings).crunch_glyph(&glyph.to_bytes().unwrap())
+    };
+    let none = Glyph::default();
+    assert_eq!(of(&none, 32), none.to_bytes());
+    for penalty in [0, 257] {
+        assert_eq!(of(&none, penalty).map_err(Refusal::number), Err(16));
+    }
+    // the first contour that is refused, whatever its number
+    let starts_off = [Point::off(0, 0), Point::on(9, 9)];
+    let neighbours = [Point::on(0, 0), Point::off(1, 1), Point::off(2, 2)];
+    let both = |first: &[Point], then: &[Point]| Glyph {
+        ends: vec![first.len() as u16 - 1, (first.len() + then.len()) as u16 - 1],
+        points: [first, then].concat(),
+        instructions: vec![],
+    };
+    assert_eq!(of(&both(&starts_off, &neighbours), 16), Err(Refusal::StartsOffCurve));
+    assert_eq!(of(&both(&neighbours, &starts_off), 16), Err(Refusal::OffCurveNeighbours));
+    assert_eq!(Cruncher::new(Settings::default()).crunch_glyph(&[0xff, 0xff]), Err(Refusal::Composite));
+    // no room for the points
+    let square = Glyph { ends: vec![0], points: vec![Point::on(7, 9)], instructions: vec![] };
+    assert_eq!(
+        Cruncher::with_point_room(Settings::default(), 1).crunch_glyph(&square.to_bytes().unwrap()),
+        square.to_bytes()
+    );
+}
+
+/// Contours that are each fine, and after reversal too far apart for a difference of 16 bits.
+#[test]
+fn crunched_contours_too_far_apart() {
+    let glyph = Glyph {
+        ends: vec![1, 2],
+        points: vec![Point::on(-32767, 0), Point::on(0, 0), Point::on(32767, 0)],
+        instructions: vec![],
+    };
+    let mut cruncher = Cruncher::new(Settings::of_crate());
+    assert!(glyph.contours().all(|contour| cruncher.crunch(contour).is_ok()));
+    assert_eq!(cruncher.crunch_glyph(&glyph.to_bytes().unwrap()), Err(Refusal::TooLarge));
 }

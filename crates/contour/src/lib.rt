@@ -142,7 +142,13 @@ fn unchanged_closed(xs: &[i16], ys: &[i16], flags: &[u8], points: &mut [[i16; 3]
 }
 
 // The contour itself, by the mode.
-pub fn unchanged_in(xs: &[i16], ys: &[i16], flags: &[u8], closed: bool, points: &mut [[i16; 3]]) -> Written
+pub fn unchanged_in(
+    xs: &[i16],
+    ys: &[i16],
+    flags: &[u8],
+    closed: bool,
+    points: &mut [[i16; 3]],
+) -> Written
     ensures { λ r. ⌜ Wrote (now (points .exit)) r (written (length (now (points .entry))) (unchangedIn (now (xs .entry)) (now (ys .entry)) (now (flags .entry)) closed)) ⌝ }
 {
     if closed {

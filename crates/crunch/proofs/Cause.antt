@@ -155,6 +155,7 @@ unfolding crunchRuns runsOf
 one-cause rooms settings xs ys fs mode sx sy =
     let runs = between (stopsOf false xs ys fs) in
     let crate : crunchIn rooms settings xs ys fs (settings .closed) (stopsOf (settings .closed) xs ys fs) ≡ crunchIn rooms settings xs ys fs false (stopsOf false xs ys fs) =
-    ap (λ (b : Bool). crunchIn rooms settings xs ys fs b (stopsOf b xs ys fs)) mode in
-    (λ h. all-stuck rooms settings xs ys fs sx sy runs _ _ (h .0, sym crate ∙ h .1),
-     λ s. let left = all-leaves rooms settings xs ys fs sx sy runs s _ _ in (left .0, crate ∙ left .1))
+    ap (λ (b : Bool). crunchIn rooms settings xs ys fs b (stopsOf b xs ys fs)) mode in (
+      λ h. all-stuck rooms settings xs ys fs sx sy runs _ _ (h .0, sym crate ∙ h .1),
+      λ s. let left = all-leaves rooms settings xs ys fs sx sy runs s _ _ in (left .0, crate ∙ left .1),
+    )

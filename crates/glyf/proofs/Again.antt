@@ -20,23 +20,23 @@ use Rattle.glyf.proofs.Back.{Whole, whole-back, whole-of, Written, writ
 
 -- ---- what a parser took
 
-record Took {A B : Type 0} (t : Taken A) (k : A → List ℕ → Taken B) (b : B) (end : List ℕ) : Type 0 where
-  a : A
-  rest : List ℕ
-  was : t ≡ taken a rest
-  then : k a rest ≡ taken b end
+pub record Took {A B : Type 0} (t : Taken A) (k : A → List ℕ → Taken B) (b : B) (end : List ℕ) : Type 0 where
+  pub a : A
+  pub rest : List ℕ
+  pub was : t ≡ taken a rest
+  pub then : k a rest ≡ taken b end
 
-took : {A B : Type 0} (t : Taken A) (k : A → List ℕ → Taken B) {b : B} {end : List ℕ} → next t k ≡ taken b end → Took t k b end
+pub took : {A B : Type 0} (t : Taken A) (k : A → List ℕ → Taken B) {b : B} {end : List ℕ} → next t k ≡ taken b end → Took t k b end
 took (taken a rest) k e = record { a = a; rest = rest; was = refl; then = e }
 took cut k e = absurd (let z : _≡_ {A = ℕ} 0 1 = cc in omega arith)
 
-taken-is : {A : Type 0} {a b : A} {r s : List ℕ} → taken a r ≡ taken b s → a ≡ b
+pub taken-is : {A : Type 0} {a b : A} {r s : List ℕ} → taken a r ≡ taken b s → a ≡ b
 taken-is e = cc
 
 taken-left : {A : Type 0} {a b : A} {r s : List ℕ} → taken a r ≡ taken b s → r ≡ s
 taken-left e = cc
 
-done-is : {A : Type 0} {a b : A} → done a ≡ done b → a ≡ b
+pub done-is : {A : Type 0} {a b : A} → done a ≡ done b → a ≡ b
 done-is e = cc
 
 -- ---- bytes are left after bytes, and what is made of them
@@ -196,7 +196,7 @@ parts-fit n bs p end h e =
     let is : _≡_ {A = Parts} (record { ends = b .a; instructions = d .a; flags = f .a; dxs = x .a; dys = y .a }) p = taken-is (y .then) in
     rw (← is) (record { few = kb .0; short = rw (kd .0) (kc .0); count = kf .0; as-x = kx .0; as-y = ky .0; near-x = kx .1; near-y = ky .1 })
 
-sums-length : (z : ℤ) (ds : List ℤ) → length (sums z ds) ≡ length ds
+pub sums-length : (z : ℤ) (ds : List ℤ) → length (sums z ds) ≡ length ds
 unfolding sums
 sums-length z [] = refl
 sums-length z (d ∷ ds) = ap suc (sums-length _ ds)

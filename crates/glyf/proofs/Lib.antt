@@ -5,3 +5,4 @@ pub mod Unpacked
 pub mod Back
 pub mod Box
 pub mod Again
+pub mod Sound

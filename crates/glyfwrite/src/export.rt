@@ -14,7 +14,7 @@ pub struct GlyphWriteReport {
     pub bytes: usize,
 }
 
-fn report_of(r: Wrote) -> GlyphWriteReport
+pub fn report_of(r: Wrote) -> GlyphWriteReport
     ensures { λ s. ⌜ s ≡ report r ⌝ }
 {
     match r {

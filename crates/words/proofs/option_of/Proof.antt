@@ -16,7 +16,8 @@ unfolding optionOf
 returns c =
     let args = c .before .before .before .before .args in
     rw (
-      ← is-same (args .word .now) penaltyWord (c .before .same .ensures), c .if1 .taken,
+      ← is-same (args .word .now) penaltyWord (c .before .same .ensures),
+      c .if1 .taken,
     ) refl
 
 slice-aggregate-same-2 : tie.Need-slice-aggregate-same-2
@@ -30,8 +31,10 @@ unfolding optionOf
 returns-2 c =
     let args = c .before .before .before .before .before .before .before .args in
     rw (
-      ← is-same (args .word .now) penaltyWord (c .before .before .before .before .same .ensures), c .before .before .before .if1 .left,
-      ← is-same (args .word .now) wholeUnitsWord (c .before .same2 .ensures), c .if2 .taken,
+      ← is-same (args .word .now) penaltyWord (c .before .before .before .before .same .ensures),
+      c .before .before .before .if1 .left,
+      ← is-same (args .word .now) wholeUnitsWord (c .before .same2 .ensures),
+      c .if2 .taken,
     ) refl
 
 slice-aggregate-same-3 : tie.Need-slice-aggregate-same-3
@@ -45,9 +48,12 @@ unfolding optionOf
 returns-3 c =
     let args = c .before .before .before .before .before .before .before .before .before .before .args in
     rw (
-      ← is-same (args .word .now) penaltyWord (c .before .before .before .before .before .before .before .same .ensures), c .before .before .before .before .before .before .if1 .left,
-      ← is-same (args .word .now) wholeUnitsWord (c .before .before .before .before .same2 .ensures), c .before .before .before .if2 .left,
-      ← is-same (args .word .now) closedWord (c .before .same3 .ensures), c .if3 .taken,
+      ← is-same (args .word .now) penaltyWord (c .before .before .before .before .before .before .before .same .ensures),
+      c .before .before .before .before .before .before .if1 .left,
+      ← is-same (args .word .now) wholeUnitsWord (c .before .before .before .before .same2 .ensures),
+      c .before .before .before .if2 .left,
+      ← is-same (args .word .now) closedWord (c .before .same3 .ensures),
+      c .if3 .taken,
     ) refl
 
 returns-4 : tie.Need-returns-4
@@ -55,9 +61,12 @@ unfolding optionOf
 returns-4 c =
     let args = c .before .before .before .before .before .before .before .before .before .before .args in
     rw (
-      ← is-same (args .word .now) penaltyWord (c .before .before .before .before .before .before .before .same .ensures), c .before .before .before .before .before .before .if1 .left,
-      ← is-same (args .word .now) wholeUnitsWord (c .before .before .before .before .same2 .ensures), c .before .before .before .if2 .left,
-      ← is-same (args .word .now) closedWord (c .before .same3 .ensures), c .if3 .left,
+      ← is-same (args .word .now) penaltyWord (c .before .before .before .before .before .before .before .same .ensures),
+      c .before .before .before .before .before .before .if1 .left,
+      ← is-same (args .word .now) wholeUnitsWord (c .before .before .before .before .same2 .ensures),
+      c .before .before .before .if2 .left,
+      ← is-same (args .word .now) closedWord (c .before .same3 .ensures),
+      c .if3 .left,
     ) refl
 
 pub option-of-spec : {M : Type 1} → statement M

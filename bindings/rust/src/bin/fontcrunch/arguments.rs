@@ -1,13 +1,18 @@
 //! What the command line asks for.
 
 mod help;
+mod settings;
 
 use std::ffi::{OsStr, OsString};
 use std::path::PathBuf;
 
 use fontcrunch::{Settings, CRATE_PENALTY, DEFAULT_PENALTY};
 
+use crate::{chain_line, contour_line};
+
 pub use help::{help, version};
+pub use settings::read_settings;
+use settings::Chosen;
 
 #[derive(Debug, PartialEq, Eq)]
 pub enum Request {
@@ -16,11 +21,12 @@ pub enum Request {
     Crunch(Job),
 }
 
-/// What to do with contours, at which settings, and where to draw them.
+/// What to do with contours, at which settings, by how many threads, and where to draw them.
 #[derive(Debug, PartialEq, Eq)]
 pub struct Job {
     pub tool: Tool,
     pub settings: Settings,
+    pub jobs: usize,
     pub inputs: Vec<Input>,
     pub picture: Option<PathBuf>,
 }
@@ -42,6 +48,12 @@ pub enum Tool {
         /// of the segment whose index comes first on each line
         index: bool,
     },
+    Chain {
+        run: usize,
+    },
+    Check {
+        run: usize,
+    },
 }
 
 impl Tool {
@@ -51,6 +63,8 @@ impl Tool {
             Some("clean") => Some(Tool::Clean { crunch: false }),
             Some("cubic") => Some(Tool::Cubic { crunch: false }),
             Some("why") => Some(Tool::Why { index: false }),
+            Some("chain") => Some(Tool::Chain { run: 0 }),
+            Some("check") => Some(Tool::Check { run: 0 }),
             _ => None,
         }
     }
@@ -58,9 +72,17 @@ impl Tool {
     /// Whether runs are worked, so that settings mean something.
     fn works_runs(self) -> bool {
         match self {
-            Tool::Crunch => true,
+            Tool::Crunch | Tool::Chain { .. } | Tool::Check { .. } => true,
             Tool::Clean { crunch } | Tool::Cubic { crunch } => crunch,
             Tool::Why { .. } => false,
+        }
+    }
+
+    /// The bytes that a line may have.
+    pub fn longest_line(self) -> usize {
+        match self {
+            Tool::Check { .. } => chain_line::LONGEST_LINE,
+            _ => contour_line::LONGEST_LINE,
         }
     }
 }
@@ -88,43 +110,56 @@ pub fn read(words: impl IntoIterator<Item = OsString>) -> Result<Request, String
             }
             Some("-") => asked.inputs.push(Input::Standard),
             _ if is_option(&word) => asked.take_option(&word, &mut words)?,
-            _ => asked.inputs.push(Input::File(word.into())),
+            _ => asked.take_word(word)?,
         }
     }
     asked.job().map(Request::Crunch)
 }
 
+/// Each thread has rows of a megabyte.
+const MOST_JOBS: u32 = 256;
+
+const NEEDS_RUN: &str = "chain and check need the number of a run before any file, as in: chain 0";
+
 /// What the words so far ask for.
 #[derive(Default)]
 struct Asked {
     tool: Tool,
-    penalty: Option<u32>,
-    whole_units: bool,
-    closed: bool,
+    has_run: bool,
+    settings: Chosen,
+    jobs: Option<u32>,
     inputs: Vec<Input>,
     picture: Option<PathBuf>,
 }
 
 impl Asked {
+    /// A file; but first the run, of the tools that need one.
+    fn take_word(&mut self, word: OsString) -> Result<(), String> {
+        match &mut self.tool {
+            Tool::Chain { run } | Tool::Check { run } if !self.has_run => {
+                *run = whole_number(&word).ok_or(NEEDS_RUN)? as usize;
+                self.has_run = true;
+            }
+            _ => self.inputs.push(Input::File(word.into())),
+        }
+        Ok(())
+    }
+
     /// An option whose value, where it has one, follows it as a word of its own or after a `=`.
     fn take_option(
         &mut self,
         word: &OsStr,
         words: &mut impl Iterator<Item = OsString>,
     ) -> Result<(), String> {
-        let text = word.to_string_lossy();
-        let (name, value) = match word.to_str().and_then(|word| word.split_once('=')) {
-            Some((name, value)) => (name, Some(OsString::from(value))),
-            None => (&*text, None),
-        };
-        match (name, value) {
+        if self.settings.take(word, words)? {
+            return Ok(());
+        }
+        match parted(word) {
             ("--svg", value) => self.draw_to(value.or_else(|| words.next())),
-            ("--penalty", value) => self.at_penalty(value.or_else(|| words.next())),
-            ("--whole-units", None) => yes(&mut self.whole_units),
-            ("--closed", None) => yes(&mut self.closed),
+            ("--jobs", value) => self.by_jobs(value.or_else(|| words.next())),
             ("--crunch", None) => self.then_crunch(),
             ("--index", None) => self.by_index(),
-            _ => Err(format!("there is no option {text}")),
+            _ => Err(no_option(word)),
         }
     }
 
@@ -152,27 +187,24 @@ impl Asked {
         once("--svg", &mut self.picture, name.into())
     }
 
-    /// A number outside the range is no fault of the words: the library refuses by it, after 1 to 5.
-    fn at_penalty(&mut self, number: Option<OsString>) -> Result<(), String> {
-        let number = number.as_deref().and_then(whole_number);
-        let penalty = number.ok_or("--penalty needs a whole number of sixteenths, 1 to 256")?;
-        once("--penalty", &mut self.penalty, penalty)
+    fn by_jobs(&mut self, number: Option<OsString>) -> Result<(), String> {
+        let number = number.as_deref().and_then(whole_number).filter(|jobs| (1..=MOST_JOBS).contains(jobs));
+        let jobs = number.ok_or_else(|| format!("--jobs needs a number of threads, 1 to {MOST_JOBS}"))?;
+        once("--jobs", &mut self.jobs, jobs)
     }
 
     /// Settings where no run is worked would change nothing, unsaid.
     fn no_settings(&self) -> Result<(), String> {
-        let given = [
-            (self.penalty.is_some(), "--penalty"),
-            (self.whole_units, "--whole-units"),
-            (self.closed, "--closed"),
-        ];
-        match given.iter().find(|(is_given, _)| *is_given) {
+        match self.settings.first_given() {
             None => Ok(()),
-            Some((_, name)) => Err(format!("{name} is for crunching: of clean and cubic, with --crunch")),
+            Some(name) => Err(format!("{name} is for crunching: of clean and cubic, with --crunch")),
         }
     }
 
     fn job(mut self) -> Result<Job, String> {
+        if matches!(self.tool, Tool::Chain { .. } | Tool::Check { .. }) && !self.has_run {
+            return Err(NEEDS_RUN.to_owned());
+        }
         if !self.tool.works_runs() {
             self.no_settings()?;
         }
@@ -181,18 +213,23 @@ impl Asked {
         }
         // studios preview at the penalty of the Rust
         let usual = if self.picture.is_some() { CRATE_PENALTY } else { DEFAULT_PENALTY };
-        let settings = Settings {
-            penalty: self.penalty.unwrap_or(usual),
-            whole_units: self.whole_units,
-            closed: self.closed,
-        };
-        Ok(Job { tool: self.tool, settings, inputs: self.inputs, picture: self.picture })
+        let settings = self.settings.with_usual(usual);
+        let jobs = self.jobs.unwrap_or(1) as usize;
+        Ok(Job { tool: self.tool, settings, jobs, inputs: self.inputs, picture: self.picture })
     }
 }
 
-fn yes(choice: &mut bool) -> Result<(), String> {
-    *choice = true;
-    Ok(())
+/// An option's name, and its value where that follows it after a `=`. No name is other than Unicode.
+fn parted(word: &OsStr) -> (&str, Option<OsString>) {
+    let text = word.to_str().unwrap_or_default();
+    match text.split_once('=') {
+        Some((name, value)) => (name, Some(value.into())),
+        None => (text, None),
+    }
+}
+
+fn no_option(word: &OsStr) -> String {
+    format!("there is no option {}", word.to_string_lossy())
 }
 
 fn once<T>(name: &str, place: &mut Option<T>, value: T) -> Result<(), String> {

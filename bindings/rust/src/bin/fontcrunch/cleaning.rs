@@ -2,7 +2,7 @@
 
 use fontcrunch::{Cruncher, Point, Refusal};
 
-use crate::service::{crunched_text, points_text};
+use crate::worker::{crunched_text, points_text};
 
 /// The points kept, and after a bar the drops.
 pub fn clean(points: &[Point]) -> Result<String, Refusal> {

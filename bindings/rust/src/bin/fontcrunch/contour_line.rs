@@ -11,22 +11,26 @@ use fontcrunch::Point;
 /// A line of more bytes is malformed.
 pub const LONGEST_LINE: usize = 65_536;
 
-/// Why a line is no contour. Words are numbered from 1.
+/// Why a line is no contour, or no contour and chain. Words are numbered from 1.
 #[derive(Debug, PartialEq, Eq)]
 pub enum Malformed {
-    TooLong,
+    TooLong { most: usize },
     NoIndex { text: String },
     EmptyWord { word: usize },
     NotWhole { word: usize, text: String },
     NoCoordinate { word: usize, text: String },
     NoFlag { word: usize, text: String },
     NotThrees { words: usize },
+    NoBar,
+    NoBreak { word: usize, text: String },
+    NoDouble { word: usize, text: String },
+    NotFours { words: usize },
 }
 
 impl fmt::Display for Malformed {
     fn fmt(&self, f: &mut fmt::Formatter<'_>) -> fmt::Result {
         match self {
-            Malformed::TooLong => write!(f, "the line is longer than {LONGEST_LINE} bytes"),
+            Malformed::TooLong { most } => write!(f, "the line is longer than {most} bytes"),
             Malformed::NoIndex { text } => write!(f, "'{text}', which comes first, is no index of a segment"),
             Malformed::EmptyWord { word } => write!(
                 f,
@@ -44,6 +48,19 @@ impl fmt::Display for Malformed {
             Malformed::NotThrees { words } => {
                 write!(f, "there are {words} numbers, and three make a point: x, y, flag")
             }
+            Malformed::NoBar => write!(f, "after the contour, ' | ' and a chain are missing"),
+            Malformed::NoBreak { word, text } => {
+                write!(f, "number {word} after the bar, '{text}', is no break's number")
+            }
+            Malformed::NoDouble { word, text } => {
+                write!(
+                    f,
+                    "number {word} after the bar, '{text}', is not the 16 hexadecimal digits of a double"
+                )
+            }
+            Malformed::NotFours { words } => {
+                write!(f, "after the bar are {words} numbers: a score, and four for each piece")
+            }
         }
     }
 }
@@ -53,7 +70,7 @@ impl fmt::Display for Malformed {
 pub fn parse(line: &[u8], points: &mut Vec<Point>) -> Result<(), Malformed> {
     points.clear();
     if line.len() > LONGEST_LINE {
-        return Err(Malformed::TooLong);
+        return Err(Malformed::TooLong { most: LONGEST_LINE });
     }
     if line.is_empty() {
         return Ok(());
@@ -76,7 +93,7 @@ pub fn parse(line: &[u8], points: &mut Vec<Point>) -> Result<(), Malformed> {
 pub fn parse_indexed(line: &[u8], points: &mut Vec<Point>) -> Result<usize, Malformed> {
     points.clear();
     if line.len() > LONGEST_LINE {
-        return Err(Malformed::TooLong);
+        return Err(Malformed::TooLong { most: LONGEST_LINE });
     }
     let (index, rest) = match line.iter().position(|&byte| byte == b' ') {
         Some(at) => (&line[..at], Some(&line[at + 1..])),
@@ -121,7 +138,7 @@ fn whole(text: &[u8], word: usize) -> Result<i32, Malformed> {
 }
 
 /// A word for a message: what is no plain character is escaped, and a long word is cut.
-fn shown(text: &[u8]) -> String {
+pub fn shown(text: &[u8]) -> String {
     const MOST: usize = 24;
     let mut shown = text[..text.len().min(MOST)].escape_ascii().to_string();
     if text.len() > MOST {

@@ -2,7 +2,7 @@
 
 use fontcrunch::{Cruncher, Point, Refusal};
 
-use crate::service::{crunched_text, points_text};
+use crate::worker::{crunched_text, points_text};
 
 /// The points of the quads.
 pub fn cubic(points: &[Point]) -> Result<String, Refusal> {

@@ -1,4 +1,4 @@
-//! The subcommand glyph: simple glyph descriptions as lines of hex, read and written.
+//! The subcommand glyph: simple glyph descriptions as lines of hex, read, written and crunched.
 
 use std::ffi::OsString;
 use std::fmt::Write as _;
@@ -6,17 +6,26 @@ use std::io::{self, BufRead, BufWriter, Write};
 use std::str::FromStr;
 
 use fontcrunch::glyph::{self, Glyph};
-use fontcrunch::{Point, Refusal};
+use fontcrunch::{Cruncher, Point, Refusal, Settings};
 
+use crate::arguments::read_settings;
 use crate::service::{complain, Status};
 
 pub const USAGE: &str = "\
 usage: fontcrunch glyph read     a description a line, in hex; out: ok GLYPH, or refused K
        fontcrunch glyph write    GLYPH a line; out: ok HEX, or refused K
+       fontcrunch glyph crunch [--penalty N] [--whole-units] [--closed]
+                                 a description a line, in hex; out: ok HEX, or refused K
 
 GLYPH is ends=a,b,... instr=HEX pts=x y f x y f ...: the number of each contour's
 last point, the instructions, and the points of all contours, f 1 on the curve and 0
 off it. An ok before it is passed over, so that what is read can be written again.
+
+crunch crunches each contour as fontcrunch alone does, at the same settings, in any
+order. N is the penalty of a piece in sixteenths, 1 to 256; 32 where it is not given.
+--whole-units rounds breaks to whole units, not to half ones. With --closed points come
+out in order and nothing is lost; without it, in reverse order. The first contour that
+is refused refuses the glyph.
 ";
 
 /// What stands on a line is no hex, or no glyph.
@@ -25,36 +34,43 @@ struct Malformed;
 /// The answer of a line: a text, or a refusal.
 type Answer = Result<Result<String, Refusal>, Malformed>;
 
+type Answering = Box<dyn FnMut(&str) -> Answer>;
+
+const NEEDS_TOOL: &str = "glyph needs read, write or crunch";
+
 pub fn run(words: &[OsString]) -> Status {
-    let answer: fn(&str) -> Answer = match words.iter().map(|w| w.to_str()).collect::<Vec<_>>()[..] {
-        [Some("read")] => read,
-        [Some("write")] => write,
-        [Some("--help" | "-h")] => {
-            return match io::stdout().write_all(USAGE.as_bytes()) {
-                Ok(()) => Status::AllCrunched,
-                Err(_) => Status::Wrong,
-            }
-        }
-        _ => {
-            complain("glyph needs read or write; see fontcrunch glyph --help");
+    let told = match asked(words) {
+        Ok(Some(mut answer)) => answer_lines(&mut answer),
+        Ok(None) => io::stdout().write_all(USAGE.as_bytes()).map(|()| Status::AllCrunched),
+        Err(wrong) => {
+            complain(&format!("{wrong}; see fontcrunch glyph --help"));
             return Status::Wrong;
         }
     };
-    match answer_lines(answer) {
-        Ok(status) => status,
-        Err(e) => {
-            complain(&e.to_string());
-            Status::Wrong
-        }
+    told.unwrap_or_else(|e| {
+        complain(&e.to_string());
+        Status::Wrong
+    })
+}
+
+/// What answers lines as the words ask, or none where they ask for help.
+fn asked(words: &[OsString]) -> Result<Option<Answering>, String> {
+    let (tool, rest) = words.split_first().ok_or(NEEDS_TOOL)?;
+    match (tool.to_str(), rest) {
+        (Some("read"), []) => Ok(Some(Box::new(read))),
+        (Some("write"), []) => Ok(Some(Box::new(write))),
+        (Some("crunch"), _) => Ok(read_settings(rest.iter().cloned())?.map(crunch_at)),
+        (Some("--help" | "-h"), []) => Ok(None),
+        _ => Err(NEEDS_TOOL.to_owned()),
     }
 }
 
-fn answer_lines(answer: fn(&str) -> Answer) -> io::Result<Status> {
+fn answer_lines(answer: &mut dyn FnMut(&str) -> Answer) -> io::Result<Status> {
     let mut status = Status::AllCrunched;
     let mut out = BufWriter::new(io::stdout().lock());
     for line in io::stdin().lock().split(b'\n') {
         let line = line?;
-        let told = std::str::from_utf8(&line).map_err(|_| Malformed).and_then(answer);
+        let told = std::str::from_utf8(&line).map_err(|_| Malformed).and_then(&mut *answer);
         match told {
             Ok(Ok(text)) => writeln!(out, "ok {text}")?,
             Ok(Err(refusal)) => {
@@ -79,6 +95,14 @@ fn read(line: &str) -> Answer {
 fn write(line: &str) -> Answer {
     let glyph = of_text(line.strip_prefix("ok ").unwrap_or(line))?;
     Ok(glyph.to_bytes().map(|bytes| hex_of(&bytes)))
+}
+
+fn crunch_at(settings: Settings) -> Answering {
+    let mut cruncher = Cruncher::new(settings);
+    Box::new(move |line| {
+        let bytes = of_hex(line)?;
+        Ok(cruncher.crunch_glyph(&bytes).map(|new| hex_of(&new)))
+    })
 }
 
 fn text_of(glyph: &Glyph) -> String {

@@ -1,14 +1,20 @@
 //! The command fontcrunch: contours in, one a line; a line out for each. `fontcrunch --help` tells all.
 
 mod arguments;
+mod chain_line;
+mod chains;
 mod cleaning;
 mod contour_line;
 mod cubics;
 mod glyph;
+mod inputs;
+mod jobs;
+mod outlet;
 mod picture;
 mod reasons;
 mod service;
 mod stream;
+mod worker;
 
 use std::env;
 use std::io::{self, Write};

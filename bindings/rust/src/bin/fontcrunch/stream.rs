@@ -2,12 +2,7 @@
 
 use std::io::{self, ErrorKind, Read};
 
-use crate::contour_line::LONGEST_LINE;
-
 const CHUNK: usize = 65_536;
-
-/// With one byte more than a line may have, a full buffer is a line too long; what follows is dropped.
-const KEPT: usize = LONGEST_LINE + 1;
 
 /// What ends the reading of lines before their end.
 #[derive(Debug)]
@@ -25,22 +20,25 @@ pub struct Lines<R> {
     from: usize,
     until: usize,
     line: Vec<u8>,
+    kept: usize,
     ended: bool,
 }
 
 impl<R: Read> Lines<R> {
-    pub fn new(input: R) -> Lines<R> {
+    /// With one byte more than a line may have, a full buffer is a line too long; what follows is dropped.
+    pub fn new(input: R, longest: usize) -> Lines<R> {
         Lines {
             input,
             chunk: vec![0; CHUNK].into(),
             from: 0,
             until: 0,
-            line: Vec::with_capacity(KEPT),
+            line: Vec::new(),
+            kept: longest + 1,
             ended: false,
         }
     }
 
-    /// The next line without its end, cut to `KEPT` bytes; None after the last. `send` is called before
+    /// The next line without its end, cut to one byte more than a line may have; None after the last. `send` is called before
     /// input is waited for, so that what was answered goes out first.
     pub fn next(&mut self, mut send: impl FnMut() -> io::Result<()>) -> Result<Option<&[u8]>, Stopped> {
         self.line.clear();
@@ -62,7 +60,7 @@ impl<R: Read> Lines<R> {
         let left = &self.chunk[self.from..self.until];
         let end = left.iter().position(|&byte| byte == b'\n');
         let part = &left[..end.unwrap_or(left.len())];
-        let room = KEPT - self.line.len();
+        let room = self.kept - self.line.len();
         self.line.extend_from_slice(&part[..part.len().min(room)]);
         self.from += part.len() + usize::from(end.is_some());
         end.is_some()

@@ -7,9 +7,9 @@ pub fn version() -> String {
 }
 
 pub fn help() -> String {
-    // 1 and 10 cannot be met by whole contours on lines
-    let refusals: String = (2..=9)
-        .chain([11, 16, 17])
+    // 1 cannot be met by contours on lines
+    let refusals: String = (2..=11)
+        .chain([16, 17])
         .filter_map(Refusal::from_number)
         .map(|refusal| format!("  {refusal}\n"))
         .collect();
@@ -20,10 +20,12 @@ const USAGE: &str = "\
 Crunches TrueType contours: puts fewer quadratic pieces between their corners.
 
 usage: fontcrunch [crunch] [SETTINGS] [--svg PICTURE] [FILE...]
-       fontcrunch glyph read|write    glyph descriptions; see fontcrunch glyph --help
+       fontcrunch glyph read|write|crunch    see fontcrunch glyph --help
        fontcrunch clean [--crunch [SETTINGS]] [FILE...]
        fontcrunch cubic [--crunch [SETTINGS]] [FILE...]
        fontcrunch why [--index] [FILE...]
+       fontcrunch chain K [SETTINGS] [FILE...]
+       fontcrunch check K [SETTINGS] [FILE...]
 
 FILE           contours, one a line; standard input where there is none, or for -
 crunch         crunches, which a first word that names no tool does too; a file of a
@@ -43,6 +45,11 @@ cubic          makes quads of cubics instead: off-curve points stand in pairs, a
 --crunch       cleans, or makes quads, then crunches what is left
 why            tells why segments start at corners instead
 --index        of one segment alone: a line in is k x y f ..., k its index
+chain K        gives the chain of run K, counted from 0, instead
+check K        checks chains of run K instead, at the settings they were made with: a
+               line in is x y f ... | SCORE, and for each piece start end cx cy
+--jobs N       spreads lines over N threads, 1 to 256; answers keep the order of the
+               lines, and are the same for any N
 --help         this text
 --version      the version
 
@@ -65,11 +72,18 @@ A line out, for each line in:
                       why: N segments, each with what makes its start a corner: x, y
                       (a sign turn), before, after (a zero tangent), angle
   ok why,why          why --index; ok none where the segment starts at no corner
-  malformed           the line is no such list, or has more than 65536 bytes; what
-                      is wrong goes to standard error
+  ok PAIRS SCORE n start end cx cy ...
+                      chain: n pieces, each from break start to break end with the
+                      control (cx, cy); SCORE, cx and cy are the 16 hexadecimal digits
+                      of a double's bits
+  unchanged PAIRS     chain: the run leaves its contour unchanged
+  yes, no             check: whether the chain is accepted
+  malformed           the line is no such list, or has more than 65536 bytes (check:
+                      262144); what is wrong goes to standard error
 ";
 
 const STATUS: &str = "\
-Exit status: 0 every contour was crunched; 1 some were refused; 2 some lines were
-malformed, a file could not be read or written, or the command line was wrong.
+Exit status: 0 every contour was crunched; 1 some were refused, or some chains not
+accepted; 2 some lines were malformed, a file could not be read or written, or the
+command line was wrong.
 ";

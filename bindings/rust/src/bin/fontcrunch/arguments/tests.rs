@@ -70,6 +70,22 @@ fn why() {
 }
 
 #[test]
+fn chains() {
+    assert_eq!(job(&["chain", "0"]).tool, Tool::Chain { run: 0 });
+    let checked = job(&["check", "--penalty", "16", "12", "3", "-"]);
+    assert_eq!(checked.tool, Tool::Check { run: 12 });
+    assert_eq!(checked.inputs, [file("3"), Input::Standard]);
+    assert_eq!(checked.settings, Settings::of_crate());
+    assert!(matches!(job(&["chain", "99999999999999"]).tool, Tool::Chain { run } if run > 1024));
+    for words in [&["chain"][..], &["check"], &["chain", "a", "0"], &["chain", "-1"], &["check", "--", "0"]] {
+        assert!(asked(words).is_err(), "{words:?}");
+    }
+    assert!(fault(&["chain", "letter.txt"]).contains("number of a run"));
+    assert!(fault(&["chain", "0", "--svg", "p"]).contains("--svg"));
+    assert_eq!(asked(&["chain", "--help"]), Ok(Request::Help));
+}
+
+#[test]
 fn the_penalty_is_32_and_that_of_a_picture_16() {
     assert_eq!(job(&[]).settings, Settings::default());
     assert_eq!(job(&["crunch"]).settings, Settings::default());
@@ -123,6 +139,36 @@ fn settings_are_for_what_crunches() {
 }
 
 #[test]
+fn settings_alone() {
+    let alone = |words: &[&str]| read_settings(words.iter().map(OsString::from));
+    assert_eq!(alone(&[]), Ok(Some(Settings::default())));
+    let all = Settings { penalty: 20, whole_units: true, closed: true };
+    for words in
+        [["--penalty=20", "--whole-units", "--closed"], ["--closed", "--penalty=20", "--whole-units"]]
+    {
+        assert_eq!(alone(&words), Ok(Some(all)));
+    }
+    assert_eq!(alone(&["--closed", "--penalty", "0"]).unwrap().unwrap().penalty, 0);
+    assert_eq!(alone(&["--closed", "--help"]), Ok(None));
+    assert!(alone(&["--penalty", "--help"]).unwrap_err().contains("whole number"));
+    assert!(alone(&["--penalty", "16", "--penalty", "16"]).unwrap_err().contains("twice"));
+    for word in ["a", "-", "--", "--jobs=2", "--svg=p", "--closed=1"] {
+        assert!(alone(&[word]).unwrap_err().contains(&format!("no option {word}")), "{word}");
+    }
+}
+
+#[test]
+fn jobs() {
+    assert_eq!(job(&[]).jobs, 1);
+    assert_eq!(job(&["why", "--jobs", "4"]).jobs, 4);
+    assert_eq!(job(&["--jobs=256"]).jobs, 256);
+    for word in ["0", "257", "-1", "x", "", "99999999999"] {
+        assert!(fault(&["--jobs", word]).contains("1 to 256"), "{word}");
+    }
+    assert!(fault(&["--jobs", "2", "--jobs", "2"]).contains("twice"));
+}
+
+#[test]
 fn wrong_words() {
     assert!(fault(&["--svg"]).contains("needs a file"));
     assert!(fault(&["--svg="]).contains("needs a file"));
@@ -136,7 +182,7 @@ fn wrong_words() {
 fn help_tells_every_refusal_that_can_be_met() {
     assert_eq!(asked(&["a", "--help"]), Ok(Request::Help));
     assert_eq!(asked(&["--version"]), Ok(Request::Version));
-    for number in (2..=9).chain([11, 16, 17]) {
+    for number in (2..=11).chain([16, 17]) {
         assert!(help().contains(&format!("refused {number}: ")));
     }
 }

@@ -107,7 +107,7 @@ fn a_line_may_have_65536_bytes() {
     let longest = format!("{}0 0 {}1", "0 0 1 ".repeat(10_921), "0".repeat(5));
     assert_eq!(longest.len(), 65_536);
     assert_eq!(points(&longest).unwrap().len(), 10_922);
-    assert_eq!(points(&points_of(0)), Err(Malformed::TooLong));
+    assert_eq!(points(&points_of(0)), Err(Malformed::TooLong { most: LONGEST_LINE }));
 }
 
 #[test]
@@ -133,5 +133,5 @@ fn an_index_comes_first() {
         assert!(matches!(indexed(line), Err(Malformed::NoIndex { .. })), "{line}");
     }
     let long = "1".repeat(LONGEST_LINE + 1);
-    assert_eq!(indexed(&long), Err(Malformed::TooLong));
+    assert_eq!(indexed(&long), Err(Malformed::TooLong { most: LONGEST_LINE }));
 }

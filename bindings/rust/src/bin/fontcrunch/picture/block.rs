@@ -8,7 +8,7 @@ use super::outline::{Outline, Place};
 use super::reading::{Join, Reading};
 use super::svg::{self, Ink};
 use super::view::{fitting, Extent, View};
-use super::{MARGIN, WIDTH};
+use super::{Sketch, MARGIN, WIDTH};
 
 const GAP: f64 = 20.0;
 const PANEL: f64 = (WIDTH - 2.0 * MARGIN - GAP) / 2.0;
@@ -21,12 +21,10 @@ const CAPTION: f64 = 30.0;
 /// Within a panel, below the outline.
 const FOOT: f64 = 22.0;
 
-/// A contour, and what is told of it.
+/// A contour with its title, and what it was crunched at.
 pub struct Subject<'a> {
     pub title: &'a str,
-    pub before: &'a [Point],
-    pub result: &'a Result<Crunched, Refusal>,
-    pub reading: &'a Reading,
+    pub sketch: &'a Sketch,
     pub settings: Settings,
 }
 
@@ -44,7 +42,7 @@ struct Panel {
 }
 
 pub fn drawn(subject: &Subject, top: f64) -> Block {
-    let &Subject { before, result, reading, .. } = subject;
+    let Sketch { before, result, reading } = subject.sketch;
     let after = result.as_ref().map_or(&[][..], |crunched| &crunched.points);
     let extent = Extent::of(before.iter().chain(after).map(|&point| Place::from(point)));
     let scale = fitting(&extent, PANEL - 2.0 * INSET, TALLEST);
@@ -99,13 +97,13 @@ fn heading(subject: &Subject, top: f64) -> String {
 }
 
 fn outcome(subject: &Subject) -> String {
-    match subject.result {
+    match &subject.sketch.result {
         Err(refusal) => format!("refused by {}", refusal.number()),
         Ok(crunched) => {
             let pairs = svg::counted(crunched.pairs, "pair");
-            let change = match subject.reading.unchanged() {
+            let change = match subject.sketch.reading.unchanged() {
                 Some(cause) => format!("unchanged: {cause}"),
-                None => saving(subject.before.len(), crunched.points.len()),
+                None => saving(subject.sketch.before.len(), crunched.points.len()),
             };
             format!("{change}, {pairs} tried")
         }
@@ -146,7 +144,7 @@ fn left_panel(panel: Panel, view: View, extent: &Extent, before: &[Point], readi
 }
 
 fn right_panel(panel: Panel, view: View, extent: &Extent, subject: &Subject, crunched: &Crunched) -> String {
-    let ghost = Outline::of(subject.before);
+    let ghost = Outline::of(&subject.sketch.before);
     let outline = Outline::of(&crunched.points);
     let data = svg::closed_path(&outline, &view);
     [
@@ -157,11 +155,11 @@ fn right_panel(panel: Panel, view: View, extent: &Extent, subject: &Subject, cru
         grid::drawn(&view, extent, grid::step(subject.settings)),
         // the old outline is under the new one, so that it shows only where they differ
         svg::stroked(&svg::closed_path(&ghost, &view), svg::GHOST, svg::GHOST_DASHES),
-        lost_drawn(&ghost, &view, subject.reading),
+        lost_drawn(&ghost, &view, &subject.sketch.reading),
         svg::stroked(&data, svg::AFTER.line, svg::OUTLINE),
         points_drawn(&crunched.points, &view, svg::AFTER),
         start_drawn(&outline, &view, svg::AFTER),
-        joins_drawn(&outline, &view, subject.reading),
+        joins_drawn(&outline, &view, &subject.sketch.reading),
     ]
     .concat()
 }

@@ -22,6 +22,20 @@ use reading::Reading;
 const WIDTH: f64 = 1180.0;
 const MARGIN: f64 = 30.0;
 
+/// What is drawn of a contour: its points, what came of them, and what else is to be told.
+pub struct Sketch {
+    before: Vec<Point>,
+    result: Result<Crunched, Refusal>,
+    reading: Reading,
+}
+
+impl Sketch {
+    pub fn of(cruncher: &mut Cruncher, before: &[Point], result: Result<Crunched, Refusal>) -> Sketch {
+        let reading = Reading::of(cruncher, before, &result);
+        Sketch { before: before.to_vec(), result, reading }
+    }
+}
+
 pub struct Picture {
     file: BufWriter<File>,
     settings: Settings,
@@ -41,17 +55,8 @@ impl Picture {
         Ok(picture)
     }
 
-    /// Draws a contour, with what came of it.
-    pub fn add(
-        &mut self,
-        cruncher: &mut Cruncher,
-        title: &str,
-        before: &[Point],
-        result: &Result<Crunched, Refusal>,
-    ) -> io::Result<()> {
-        let reading = Reading::of(cruncher, before, result);
-        let subject = Subject { title, before, result, reading: &reading, settings: self.settings };
-        let block = block::drawn(&subject, self.bottom);
+    pub fn add(&mut self, title: &str, sketch: &Sketch) -> io::Result<()> {
+        let block = block::drawn(&Subject { title, sketch, settings: self.settings }, self.bottom);
         self.file.write_all(block.svg.as_bytes())?;
         self.bottom += block.height;
         Ok(())

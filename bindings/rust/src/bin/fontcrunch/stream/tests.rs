@@ -1,5 +1,7 @@
 use super::*;
 
+const LONGEST: usize = 65_536;
+
 /// Gives its bytes in parts of so many.
 struct Slowly<'a> {
     bytes: &'a [u8],
@@ -17,7 +19,7 @@ impl Read for Slowly<'_> {
 }
 
 fn lines_of(bytes: &[u8], part: usize) -> Vec<Vec<u8>> {
-    let mut lines = Lines::new(Slowly { bytes, part });
+    let mut lines = Lines::new(Slowly { bytes, part }, LONGEST);
     let mut all = Vec::new();
     while let Some(line) = lines.next(|| Ok(())).unwrap() {
         all.push(line.to_vec());
@@ -56,14 +58,14 @@ fn a_long_line_is_cut_and_the_next_is_whole() {
     for part in [1000, 65_536, 1_000_006] {
         let lines = lines_of(&bytes, part);
         assert_eq!(lines.len(), 2);
-        assert_eq!(lines[0].len(), LONGEST_LINE + 1);
+        assert_eq!(lines[0].len(), LONGEST + 1);
         assert_eq!(lines[1], b"next");
     }
 }
 
 #[test]
 fn answers_go_out_before_input_is_waited_for() {
-    let mut lines = Lines::new(Slowly { bytes: b"a\nb\n", part: 2 });
+    let mut lines = Lines::new(Slowly { bytes: b"a\nb\n", part: 2 }, LONGEST);
     let mut sent = 0;
     for expected in 1..=2 {
         lines
@@ -84,7 +86,7 @@ fn failures_are_told_apart() {
             Err(io::Error::other("broken"))
         }
     }
-    let mut lines = Lines::new(Broken);
+    let mut lines = Lines::new(Broken, LONGEST);
     assert!(matches!(lines.next(|| Ok(())), Err(Stopped::Reading(_))));
     assert!(matches!(lines.next(|| Err(io::Error::other("full"))), Err(Stopped::Writing(_))));
 }
@@ -101,6 +103,6 @@ fn an_interrupted_read_is_tried_again() {
             Ok(1)
         }
     }
-    let mut lines = Lines::new(Interrupted(false).take(3));
+    let mut lines = Lines::new(Interrupted(false).take(3), LONGEST);
     assert_eq!(lines.next(|| Ok(())).unwrap().unwrap(), b"aaa");
 }

@@ -1,0 +1,70 @@
+//! The words that are settings, by the same rules for every tool that works runs.
+
+use std::ffi::{OsStr, OsString};
+
+use fontcrunch::{Settings, DEFAULT_PENALTY};
+
+use super::{no_option, once, parted, whole_number};
+
+/// The settings that the words so far ask for.
+#[derive(Default)]
+pub struct Chosen {
+    penalty: Option<u32>,
+    whole_units: bool,
+    closed: bool,
+}
+
+impl Chosen {
+    /// Takes an option that is a setting, and from the words its value where that is the next; false where it is
+    /// none.
+    pub fn take(&mut self, word: &OsStr, words: &mut impl Iterator<Item = OsString>) -> Result<bool, String> {
+        match parted(word) {
+            ("--penalty", value) => self.at_penalty(value.or_else(|| words.next()))?,
+            ("--whole-units", None) => self.whole_units = true,
+            ("--closed", None) => self.closed = true,
+            _ => return Ok(false),
+        }
+        Ok(true)
+    }
+
+    /// A number outside the range is no fault of the words: the library refuses by it, after 1 to 5.
+    fn at_penalty(&mut self, number: Option<OsString>) -> Result<(), String> {
+        let number = number.as_deref().and_then(whole_number);
+        let penalty = number.ok_or("--penalty needs a whole number of sixteenths, 1 to 256")?;
+        once("--penalty", &mut self.penalty, penalty)
+    }
+
+    /// The name of a setting that is given.
+    pub fn first_given(&self) -> Option<&'static str> {
+        let given = [
+            (self.penalty.is_some(), "--penalty"),
+            (self.whole_units, "--whole-units"),
+            (self.closed, "--closed"),
+        ];
+        given.into_iter().find(|(is_given, _)| *is_given).map(|(_, name)| name)
+    }
+
+    /// The settings, at the usual penalty where none is given.
+    pub fn with_usual(&self, penalty: u32) -> Settings {
+        Settings {
+            penalty: self.penalty.unwrap_or(penalty),
+            whole_units: self.whole_units,
+            closed: self.closed,
+        }
+    }
+}
+
+/// The settings that words ask for which are all settings; none where one of them asks for help.
+pub fn read_settings(words: impl IntoIterator<Item = OsString>) -> Result<Option<Settings>, String> {
+    let mut words = words.into_iter();
+    let mut chosen = Chosen::default();
+    while let Some(word) = words.next() {
+        if word == "--help" || word == "-h" {
+            return Ok(None);
+        }
+        if !chosen.take(&word, &mut words)? {
+            return Err(no_option(&word));
+        }
+    }
+    Ok(Some(chosen.with_usual(DEFAULT_PENALTY)))
+}

@@ -1,0 +1,36 @@
+//! The tool chain: the answer to a contour.
+
+use fontcrunch::{Cruncher, Point, Refusal};
+
+/// All NaNs have one pattern on a line, since which of them comes is not fixed.
+const NAN_BITS: u64 = 0x7ff8_0000_0000_0000;
+
+/// The pieces of a run.
+pub fn chain(cruncher: &mut Cruncher, points: &[Point], run: usize) -> Result<String, Refusal> {
+    let chain = cruncher.chain(points, run)?;
+    if chain.pieces.is_empty() {
+        return Ok(format!("unchanged {}", chain.pairs));
+    }
+    let mut text = format!("ok {} {} {}", chain.pairs, bits(chain.score), chain.pieces.len());
+    for piece in &chain.pieces {
+        let (x, y) = piece.control;
+        text.push_str(&format!(" {} {} {} {}", piece.start, piece.end, bits(x), bits(y)));
+    }
+    Ok(text)
+}
+
+fn bits(x: f64) -> String {
+    format!("{:016x}", if x.is_nan() { NAN_BITS } else { x.to_bits() })
+}
+
+#[cfg(test)]
+mod tests {
+    use super::*;
+
+    #[test]
+    fn a_double_is_its_bits() {
+        assert_eq!(bits(1.0), "3ff0000000000000");
+        assert_eq!(bits(-0.0), "8000000000000000");
+        assert_eq!(bits(f64::from_bits(0xfff8_0000_0000_0001)), "7ff8000000000000");
+    }
+}
