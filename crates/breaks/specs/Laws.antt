@@ -20,7 +20,9 @@ use Rattle.lookup.specs.Lookup.{Found, found, xyAt, dirAt}
 use Rattle.breaks.specs.declared.Grid.{Grid}
 use Rattle.breaks.specs.declared.Placed as P
 use Rattle.breaks.specs.declared.Placed.the-variants as Placed
-use Rattle.breaks.specs.Breaks.{Row, onGrid, packedOf, breakAt, placed, unlessPast, placeAt, placeOf, placesOf, Finding, so, full, last, past, pushedIf, opened, replacedIf, joinedIf, opens, joinOf, stepped, walk, Result, breaks, refused, unchanged, resultOf, breaksOf}
+use Rattle.breaks.specs.Breaks.{Row, onGrid, packedOf, breakAt, placed, unlessPast, placeAt, placeOf, placesOf, Finding, so, full, last, past}
+use Rattle.breaks.specs.Breaks.{pushedIf, opened, replacedIf, joinedIf, opens, joinOf, stepped, walk}
+use Rattle.breaks.specs.Breaks.{Result, breaks, refused, unchanged, resultOf, breaksOf}
 
 -- q is a point brought to the grid
 pub record Brought (g : Grid) (q : Point) : Type 0 where

@@ -85,7 +85,8 @@ shortState (ended ps pairs) = false
 shortState (going ps pairs) = false
 
 module _ (rooms rooms' : Rooms) (within : Within rooms rooms') (settings : Settings) (xs ys : List ℤ) (fs : List ℕ) where
-  not-short : (ps : Points) (pairs : ℕ) (x : Result) → shortState (added (itself rooms settings xs ys fs) x ps pairs) ≡ false → (k : ℕ) → forRoom k ≡ true → x ≡ Edition.refused k → ⊥
+  not-short : (ps : Points) (pairs : ℕ) (x : Result) → shortState (added (itself rooms settings xs ys fs) x ps pairs) ≡ false →
+      (k : ℕ) → forRoom k ≡ true → x ≡ Edition.refused k → ⊥
   not-short ps pairs x e k lacking h = let z : _≡_ {A = ℕ} 0 1 = cc in omega arith
 
   run-same : (copied : Bool) (r : Span) (ps : Points) (pairs : ℕ) → shortState (runIf rooms settings xs ys fs copied r ps pairs) ≡ false →
