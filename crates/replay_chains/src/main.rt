@@ -1,5 +1,6 @@
-// The chain entry and the checker on runs from standard input, one a line: `16 0 K x y f x y f ...`, in the places of a
-// point the penalty, the choices as a number and a run number, then a contour. A line out for each: `refused N`,
+// The chain entry and the checker, with the crate's settings, on runs from standard input, one a line: `16 0 K x y f x y f
+// ...`, in the places of a point the settings that it was recorded with, which are not looked at, and a run number, then
+// a contour. A line out for each: `refused N`,
 // `pairs P unchanged`, or `pairs P score S chain C` with START END CX CY of each piece, floats by their bits, and then two
 // verdicts: on this chain, and on it with a score that is one more.
 use chains::Chained;
