@@ -194,6 +194,32 @@ fn messages_name_the_input_the_line_and_the_reason() {
     );
 }
 
+/// What a shell says to a command of an example, `fontcrunch` being this one.
+fn shell(command: &str) -> String {
+    let folder = PathBuf::from(env!("CARGO_BIN_EXE_fontcrunch")).parent().unwrap().to_owned();
+    let found = format!("{}:{}", folder.display(), std::env::var("PATH").unwrap());
+    text(&Command::new("sh").args(["-c", command]).env("PATH", found).output().unwrap().stdout)
+}
+
+#[test]
+fn the_examples_of_each_page_are_so() {
+    for tool in ["crunch", "why", "chain", "check", "glyph", "clean", "cubic"] {
+        let page = run(&[tool, "--help"], b"");
+        assert!(page.status.success());
+        let page = text(&page.stdout);
+        let example = page.split_once("\nExample:\n").unwrap().1.split_once("\n\n").unwrap().0;
+        let mut lines = example.lines().peekable();
+        while let Some(line) = lines.next() {
+            let command = line.strip_prefix("  $ ").unwrap();
+            let mut told = String::new();
+            while let Some(line) = lines.next_if(|line| !line.starts_with("  $ ")) {
+                told += &format!("{}\n", line.trim_start());
+            }
+            assert_eq!(shell(command), told, "{command}");
+        }
+    }
+}
+
 #[test]
 fn help_and_version() {
     let help = run(&["--help"], b"");
@@ -530,7 +556,7 @@ fn settings_of_glyph_crunch_are_read_as_those_of_crunch() {
         assert_eq!(glyph(&["crunch", "--penalty", penalty], "000000000000000000000000"), "refused 16");
     }
     for words in
-        [&["--penalty"][..], &["--penalty", "1.5"], &["--penalty=1", "--penalty=1"], &["--svg=p"], &["a"]]
+        [&["--penalty"][..], &["--penalty", "1.5"], &["--penalty=1", "--penalty=1"], &["--svg=p"], &["--a"]]
     {
         let wrong = run(&[&["glyph", "crunch"], words].concat(), b"");
         assert_eq!(wrong.status.code(), Some(2), "{words:?}");
@@ -541,8 +567,34 @@ fn settings_of_glyph_crunch_are_read_as_those_of_crunch() {
         assert_eq!(status(&["glyph", tool, "--closed"], ""), 2);
     }
     for words in [&["glyph", "--help"][..], &["glyph", "crunch", "--closed", "--help"]] {
-        assert!(text(&run(words, b"").stdout).starts_with("usage: fontcrunch glyph"), "{words:?}");
+        assert!(text(&run(words, b"").stdout).contains("usage: fontcrunch glyph"), "{words:?}");
     }
+}
+
+#[test]
+fn messages_of_glyph_name_the_line_and_the_reason() {
+    let folder = folder("glyphs");
+    let file = path(&folder, "hex");
+    fs::write(&file, "ffff\n0g\n").unwrap();
+    let said = run(&["glyph", "read", &file], b"");
+    assert_eq!((text(&said.stdout).as_str(), said.status.code()), ("refused 15\nmalformed\n", Some(2)));
+    assert_eq!(
+        text(&said.stderr),
+        format!(
+            "fontcrunch: {file}:1: refused 15: the glyph is composite\n\
+             fontcrunch: {file}:2: malformed: the line is not hexadecimal digits, two for each byte\n"
+        )
+    );
+    assert!(text(&run(&["glyph", "write"], b"ends=0\n").stderr).contains("the line is not ends=a,b,..."));
+    assert_eq!(status(&["glyph", "read"], "ffff\n"), 1);
+}
+
+#[test]
+fn a_line_for_glyph_may_be_longer() {
+    // a glyph of no contour, with bytes after it, which are not looked at
+    let line = "00".repeat(2_097_152);
+    let said = run(&["glyph", "read"], format!("{line}\n{line}00\n").as_bytes());
+    assert_eq!(text(&said.stdout), "ok ends= instr= pts=\nmalformed\n");
 }
 
 // ---- chains
@@ -623,9 +675,13 @@ fn the_same_for_any_number_of_threads() {
     let (cases, missing) = (path(&folder, "cases"), path(&folder, "missing"));
     let lines: String = CASES.iter().map(|(line, _)| format!("{line}\n")).collect();
     fs::write(&cases, lines.repeat(12)).unwrap();
-    for tool in
-        [&["--penalty", "16"][..], &["why"], &["clean", "--crunch"], &["chain", "0", "--penalty", "16"]]
-    {
+    for tool in [
+        &["--penalty", "16"][..],
+        &["why"],
+        &["clean", "--crunch"],
+        &["chain", "0", "--penalty", "16"],
+        &["glyph", "read"],
+    ] {
         let with = |jobs: &str| {
             let words = [tool, &["--jobs", jobs, &cases, &missing, "-", &cases]].concat();
             let output = run(&words, b"7 9 1\nx");

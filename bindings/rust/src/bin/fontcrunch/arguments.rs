@@ -8,15 +8,15 @@ use std::path::PathBuf;
 
 use fontcrunch::{Settings, CRATE_PENALTY, DEFAULT_PENALTY};
 
-use crate::{chain_line, contour_line};
+use crate::{chain_line, contour_line, glyph};
 
 pub use help::{help, version};
-pub use settings::read_settings;
 use settings::Chosen;
 
 #[derive(Debug, PartialEq, Eq)]
 pub enum Request {
-    Help,
+    /// Of a tool, where the first word names one.
+    Help(Option<Tool>),
     Version,
     Crunch(Job),
 }
@@ -54,6 +54,28 @@ pub enum Tool {
     Check {
         run: usize,
     },
+    Glyph {
+        step: Step,
+    },
+}
+
+/// What is done with a glyph description.
+#[derive(Clone, Copy, Debug, PartialEq, Eq)]
+pub enum Step {
+    Read,
+    Write,
+    Crunch,
+}
+
+impl Step {
+    fn named(word: &OsStr) -> Option<Step> {
+        match word.to_str() {
+            Some("read") => Some(Step::Read),
+            Some("write") => Some(Step::Write),
+            Some("crunch") => Some(Step::Crunch),
+            _ => None,
+        }
+    }
 }
 
 impl Tool {
@@ -65,6 +87,7 @@ impl Tool {
             Some("why") => Some(Tool::Why { index: false }),
             Some("chain") => Some(Tool::Chain { run: 0 }),
             Some("check") => Some(Tool::Check { run: 0 }),
+            Some("glyph") => Some(Tool::Glyph { step: Step::Read }),
             _ => None,
         }
     }
@@ -74,7 +97,17 @@ impl Tool {
         match self {
             Tool::Crunch | Tool::Chain { .. } | Tool::Check { .. } => true,
             Tool::Clean { crunch } | Tool::Cubic { crunch } => crunch,
+            Tool::Glyph { step } => step == Step::Crunch,
             Tool::Why { .. } => false,
+        }
+    }
+
+    /// What the tool needs to know before any file, where it needs something.
+    fn needs(self) -> Option<&'static str> {
+        match self {
+            Tool::Chain { .. } | Tool::Check { .. } => Some(NEEDS_RUN),
+            Tool::Glyph { .. } => Some(NEEDS_STEP),
+            _ => None,
         }
     }
 
@@ -82,6 +115,7 @@ impl Tool {
     pub fn longest_line(self) -> usize {
         match self {
             Tool::Check { .. } => chain_line::LONGEST_LINE,
+            Tool::Glyph { .. } => glyph::LONGEST_LINE,
             _ => contour_line::LONGEST_LINE,
         }
     }
@@ -93,17 +127,23 @@ pub enum Input {
     File(PathBuf),
 }
 
-/// A request, or what is wrong with the words.
+/// A request, or what is wrong with the words and where to read on.
 pub fn read(words: impl IntoIterator<Item = OsString>) -> Result<Request, String> {
     let mut words = words.into_iter().peekable();
-    let mut asked = Asked::default();
-    if let Some(tool) = words.peek().and_then(|word| Tool::named(word)) {
-        asked.tool = tool;
-        words.next();
-    }
+    let named = words.peek().and_then(|word| Tool::named(word));
+    let page = match named {
+        Some(_) => format!(" {}", words.next().unwrap_or_default().to_string_lossy()),
+        None => String::new(),
+    };
+    read_for(named, words).map_err(|wrong| format!("{wrong}; see fontcrunch{page} --help"))
+}
+
+/// The request of the words after the tool's name.
+fn read_for(named: Option<Tool>, mut words: impl Iterator<Item = OsString>) -> Result<Request, String> {
+    let mut asked = Asked { tool: named.unwrap_or_default(), ..Asked::default() };
     while let Some(word) = words.next() {
         match word.to_str() {
-            Some("--help" | "-h") => return Ok(Request::Help),
+            Some("--help" | "-h") => return Ok(Request::Help(named)),
             Some("--version" | "-V") => return Ok(Request::Version),
             Some("--") => {
                 asked.inputs.extend(words.by_ref().map(|name| Input::File(name.into())));
@@ -121,11 +161,13 @@ const MOST_JOBS: u32 = 256;
 
 const NEEDS_RUN: &str = "chain and check need the number of a run before any file, as in: chain 0";
 
+const NEEDS_STEP: &str = "glyph needs read, write or crunch before any file, as in: glyph read";
+
 /// What the words so far ask for.
 #[derive(Default)]
 struct Asked {
     tool: Tool,
-    has_run: bool,
+    has_needed: bool,
     settings: Chosen,
     jobs: Option<u32>,
     inputs: Vec<Input>,
@@ -133,15 +175,16 @@ struct Asked {
 }
 
 impl Asked {
-    /// A file; but first the run, of the tools that need one.
+    /// A file; but first what the tool needs, where it needs something.
     fn take_word(&mut self, word: OsString) -> Result<(), String> {
         match &mut self.tool {
-            Tool::Chain { run } | Tool::Check { run } if !self.has_run => {
+            Tool::Chain { run } | Tool::Check { run } if !self.has_needed => {
                 *run = whole_number(&word).ok_or(NEEDS_RUN)? as usize;
-                self.has_run = true;
             }
+            Tool::Glyph { step } if !self.has_needed => *step = Step::named(&word).ok_or(NEEDS_STEP)?,
             _ => self.inputs.push(Input::File(word.into())),
         }
+        self.has_needed = true;
         Ok(())
     }
 
@@ -197,13 +240,15 @@ impl Asked {
     fn no_settings(&self) -> Result<(), String> {
         match self.settings.first_given() {
             None => Ok(()),
-            Some(name) => Err(format!("{name} is for crunching: of clean and cubic, with --crunch")),
+            Some(name) => {
+                Err(format!("{name} is for crunching: clean --crunch, cubic --crunch, glyph crunch"))
+            }
         }
     }
 
     fn job(mut self) -> Result<Job, String> {
-        if matches!(self.tool, Tool::Chain { .. } | Tool::Check { .. }) && !self.has_run {
-            return Err(NEEDS_RUN.to_owned());
+        if let Some(needs) = self.tool.needs().filter(|_| !self.has_needed) {
+            return Err(needs.to_owned());
         }
         if !self.tool.works_runs() {
             self.no_settings()?;

@@ -11,7 +11,7 @@ use fontcrunch::Point;
 /// A line of more bytes is malformed.
 pub const LONGEST_LINE: usize = 65_536;
 
-/// Why a line is no contour, or no contour and chain. Words are numbered from 1.
+/// Why a line is no contour, no contour and chain, or no glyph. Words are numbered from 1.
 #[derive(Debug, PartialEq, Eq)]
 pub enum Malformed {
     TooLong { most: usize },
@@ -25,6 +25,8 @@ pub enum Malformed {
     NoBreak { word: usize, text: String },
     NoDouble { word: usize, text: String },
     NotFours { words: usize },
+    NoHex,
+    NoGlyph,
 }
 
 impl fmt::Display for Malformed {
@@ -61,6 +63,8 @@ impl fmt::Display for Malformed {
             Malformed::NotFours { words } => {
                 write!(f, "after the bar are {words} numbers: a score, and four for each piece")
             }
+            Malformed::NoHex => write!(f, "the line is not hexadecimal digits, two for each byte"),
+            Malformed::NoGlyph => write!(f, "the line is not ends=a,b,... instr=HEX pts=x y f x y f ..."),
         }
     }
 }

@@ -24,16 +24,12 @@ use arguments::Request;
 use service::Status;
 
 fn main() -> ExitCode {
-    let words: Vec<_> = env::args_os().skip(1).collect();
-    if words.first().is_some_and(|word| word == "glyph") {
-        return ExitCode::from(glyph::run(&words[1..]) as u8);
-    }
-    let status = match arguments::read(words) {
-        Ok(Request::Help) => print(&arguments::help()),
+    let status = match arguments::read(env::args_os().skip(1)) {
+        Ok(Request::Help(tool)) => print(&arguments::help(tool)),
         Ok(Request::Version) => print(&arguments::version()),
         Ok(Request::Crunch(job)) => service::run(&job),
         Err(wrong) => {
-            service::complain(&format!("{wrong}; see fontcrunch --help"));
+            service::complain(&wrong);
             Status::Wrong
         }
     };

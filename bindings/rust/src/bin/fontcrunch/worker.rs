@@ -8,6 +8,7 @@ use crate::chains;
 use crate::cleaning;
 use crate::contour_line::{self, Malformed};
 use crate::cubics;
+use crate::glyph;
 use crate::picture::Sketch;
 use crate::reasons;
 use crate::service::Status;
@@ -84,6 +85,7 @@ impl Worker {
                 reasons::why_at(cruncher, points, index)
             }
             Tool::Chain { run } => chains::chain(cruncher, contour(line, points)?, run),
+            Tool::Glyph { step } => glyph::answer(step, cruncher, line)?,
             Tool::Check { run } => {
                 let chain = chain_line::parse(line, points)?;
                 return Ok(cruncher.check(points, run, &chain).map(verdict));

@@ -1,35 +1,87 @@
-//! What the command says of itself.
+//! What the command says of itself: an overview, and a page for each tool.
 
 use fontcrunch::Refusal;
+
+use super::Tool;
 
 pub fn version() -> String {
     format!("fontcrunch {}\n", env!("CARGO_PKG_VERSION"))
 }
 
-pub fn help() -> String {
-    // 1 cannot be met by contours on lines
-    let refusals: String = (2..=11)
-        .chain([16, 17])
-        .filter_map(Refusal::from_number)
-        .map(|refusal| format!("  {refusal}\n"))
-        .collect();
-    format!("{USAGE}\nRefusals:\n{refusals}\n{STATUS}")
+/// The page of a tool, or the overview where none is named.
+pub fn help(tool: Option<Tool>) -> String {
+    match tool {
+        None => format!("{OVERVIEW}\n{SETTINGS}\n{COMMON}\n{}\n{STATUS}", told(&ALL_REFUSALS)),
+        Some(tool) => page(tool).text(),
+    }
 }
 
-const USAGE: &str = "\
+fn told(numbers: &[u32]) -> String {
+    let each = numbers.iter().filter_map(|&number| Refusal::from_number(number));
+    each.fold("Refusals:\n".to_owned(), |text, refusal| format!("{text}  {refusal}\n"))
+}
+
+/// What a tool says of itself.
+struct Page {
+    /// What it does, its usage, and the options that it alone has.
+    what: &'static str,
+    /// Whether it takes settings.
+    settings: bool,
+    /// Lines in, and lines out where nothing is refused.
+    lines: &'static str,
+    /// The refusals that can be met on its lines. 1 cannot.
+    refusals: &'static [u32],
+    /// Commands after `  $ `, each followed by what it answers. They are run by the tests.
+    example: &'static str,
+}
+
+impl Page {
+    fn text(&self) -> String {
+        let settings = if self.settings { format!("{SETTINGS}\n") } else { String::new() };
+        let Page { what, lines, example, .. } = self;
+        format!(
+            "{what}\n{settings}{COMMON}\n{lines}{OTHERWISE}\n{}\nExample:\n{example}\n{STATUS}",
+            told(self.refusals)
+        )
+    }
+}
+
+fn page(tool: Tool) -> &'static Page {
+    match tool {
+        Tool::Crunch => &CRUNCH,
+        Tool::Clean { .. } => &CLEAN,
+        Tool::Cubic { .. } => &CUBIC,
+        Tool::Why { .. } => &WHY,
+        Tool::Chain { .. } => &CHAIN,
+        Tool::Check { .. } => &CHECK,
+        Tool::Glyph { .. } => &GLYPH,
+    }
+}
+
+const OVERVIEW: &str = "\
 Crunches TrueType contours: puts fewer quadratic pieces between their corners.
 
 usage: fontcrunch [crunch] [SETTINGS] [--svg PICTURE] [FILE...]
-       fontcrunch glyph read|write|crunch    see fontcrunch glyph --help
-       fontcrunch clean [--crunch [SETTINGS]] [FILE...]
-       fontcrunch cubic [--crunch [SETTINGS]] [FILE...]
        fontcrunch why [--index] [FILE...]
        fontcrunch chain K [SETTINGS] [FILE...]
        fontcrunch check K [SETTINGS] [FILE...]
+       fontcrunch glyph read|write|crunch [SETTINGS] [FILE...]
+       fontcrunch clean [--crunch [SETTINGS]] [FILE...]
+       fontcrunch cubic [--crunch [SETTINGS]] [FILE...]
 
-FILE           contours, one a line; standard input where there is none, or for -
-crunch         crunches, which a first word that names no tool does too; a file of a
-               tool's name is ./crunch, ./clean and so on
+crunch         crunches contours, which a first word that names no tool does too; a file
+               of a tool's name is ./crunch, ./clean and so on
+why            tells why segments start at corners
+chain K        gives the chain of run K, counted from 0
+check K        checks chains of run K, whoever made them
+glyph          reads, writes and crunches simple glyph descriptions
+clean          drops repeated points
+cubic          makes quads of cubics
+
+fontcrunch TOOL --help tells a tool's lines, and has an example.
+";
+
+const SETTINGS: &str = "\
 SETTINGS       --penalty N, --whole-units, --closed; without them 32, half units and
                the crate's mode, in which what lies outside the corners is lost
 --penalty N    what each piece adds to a score, in sixteenths, 1 to 256. A larger one
@@ -37,53 +89,217 @@ SETTINGS       --penalty N, --whole-units, --closed; without them 32, half units
 --whole-units  rounds breaks to whole units, not to half ones
 --closed       a last run goes round from the last corner to the first, points come
                out in order from the first corner on, and nothing is lost
---svg PICTURE  draws each contour before and after, to a file. Without --penalty the
-               penalty is 16, of the picture and of the answers
-clean          drops repeated points instead
-cubic          makes quads of cubics instead: off-curve points stand in pairs, and
-               a last pair leads back to the start
---crunch       cleans, or makes quads, then crunches what is left
-why            tells why segments start at corners instead
---index        of one segment alone: a line in is k x y f ..., k its index
-chain K        gives the chain of run K, counted from 0, instead
-check K        checks chains of run K instead, at the settings they were made with: a
-               line in is x y f ... | SCORE, and for each piece start end cx cy
+";
+
+const COMMON: &str = "\
+FILE           what is read, a line at a time; standard input where there is none, or
+               for -
 --jobs N       spreads lines over N threads, 1 to 256; answers keep the order of the
                lines, and are the same for any N
 --help         this text
 --version      the version
+";
 
+const OTHERWISE: &str = "  \
+  refused K           nothing came out; the reason goes to standard error
+  malformed           the line is not as above, or too long; what is wrong goes to
+                      standard error
+";
+
+const STATUS: &str = "\
+Exit status: 0 every line was answered; 1 some were refused, or some chains not
+accepted; 2 some lines were malformed, a file could not be read or written, or the
+command line was wrong.
+";
+
+const ALL_REFUSALS: [u32; 16] = [2, 3, 4, 5, 6, 7, 8, 9, 10, 11, 12, 13, 14, 15, 16, 17];
+
+const CRUNCH: Page = Page {
+    what: "\
+Crunches TrueType contours: puts fewer quadratic pieces between their corners.
+
+usage: fontcrunch [crunch] [SETTINGS] [--svg PICTURE] [FILE...]
+
+--svg PICTURE  draws each contour before and after, to a file. Without --penalty the
+               penalty is 16, of the picture and of the answers
+",
+    settings: true,
+    lines: "\
 A line in is x y f x y f ..., whole numbers with one blank between them: x and y
 from -32768 to 32767, and a flag f from 0 to 255, of which only bit 0 counts (1:
 on-curve). The first point is on-curve, and implied points are written out. An
-empty line is a contour of no point.
+empty line is a contour of no point. A line has at most 65536 bytes.
 
 A line out, for each line in:
   ok PAIRS x y f ...  the points that came out, in reverse order, or with --closed
                       in order; PAIRS of breaks were tried
-  refused K           nothing came out; the reason goes to standard error
-  ok x y f ... | k:why ...
-                      clean: the points kept, and each dropped place k of the line,
-                      counted from 0, in the order of dropping; why is before (equal
-                      to the on-curve point before it), both (off-curve, equal to both
-                      neighbours) or first (last, and equal to the first)
-  ok x y f ...        cubic: the points of the quads, in order
-  ok N 0:why,why 1: ...
-                      why: N segments, each with what makes its start a corner: x, y
-                      (a sign turn), before, after (a zero tangent), angle
-  ok why,why          why --index; ok none where the segment starts at no corner
-  ok PAIRS SCORE n start end cx cy ...
-                      chain: n pieces, each from break start to break end with the
-                      control (cx, cy); SCORE, cx and cy are the 16 hexadecimal digits
-                      of a double's bits
-  unchanged PAIRS     chain: the run leaves its contour unchanged
-  yes, no             check: whether the chain is accepted
-  malformed           the line is no such list, or has more than 65536 bytes (check:
-                      262144); what is wrong goes to standard error
-";
+",
+    refusals: &[2, 3, 4, 5, 6, 7, 8, 9, 16],
+    example: "  \
+  $ echo '0 0 1 0 60 0 40 90 1 80 120 0 130 120 1 200 -40 1' | fontcrunch --penalty 16
+  ok 937 200 -40 1 130 120 1 80 120 0 0 60 0 0 0 1
+",
+};
 
-const STATUS: &str = "\
-Exit status: 0 every contour was crunched; 1 some were refused, or some chains not
-accepted; 2 some lines were malformed, a file could not be read or written, or the
-command line was wrong.
-";
+const WHY: Page = Page {
+    what: "\
+Tells why segments start at corners.
+
+usage: fontcrunch why [--index] [FILE...]
+
+--index        of one segment alone: a line in is k x y f ..., k its index
+",
+    settings: false,
+    lines: "\
+A line in is a contour, x y f x y f ..., as for fontcrunch crunch.
+
+A line out, for each line in:
+  ok N 0:why,why 1: ...
+                      N segments, each with what makes its start a corner: x, y (a
+                      sign turn), before, after (a zero tangent), angle
+  ok why,why          with --index; ok none where the segment starts at no corner
+",
+    refusals: &[2, 3, 4, 5, 11],
+    example: "  \
+  $ echo '0 0 1 100 0 1 200 0 1 200 100 1' | fontcrunch why
+  ok 4 0:x,angle 1: 2:angle 3:x,y,angle
+",
+};
+
+const CHAIN: Page = Page {
+    what: "\
+Gives the chain of pieces that is found for one run of a contour.
+
+usage: fontcrunch chain K [SETTINGS] [FILE...]
+
+K              the number of the run, counted from 0: it lies between corners K and
+               K + 1
+",
+    settings: true,
+    lines: "\
+A line in is a contour, x y f x y f ..., as for fontcrunch crunch.
+
+A line out, for each line in:
+  ok PAIRS SCORE n start end cx cy ...
+                      n pieces, each from break start to break end with the control
+                      (cx, cy); SCORE, cx and cy are the 16 hexadecimal digits of a
+                      double's bits
+  unchanged PAIRS     the run leaves its contour unchanged
+",
+    refusals: &[2, 3, 4, 5, 6, 7, 8, 10, 16],
+    example: "  \
+  $ echo '2 2 1 1 1 1 0 0 1 0 0 1 0 2 1' | fontcrunch chain 0 --penalty 16
+  ok 1 3ff0000000000000 1 0 4 3ff0000000000000 3ff0000000000000
+",
+};
+
+const CHECK: Page = Page {
+    what: "\
+Checks chains of one run of a contour, whoever made them, at the settings that they
+were made with.
+
+usage: fontcrunch check K [SETTINGS] [FILE...]
+
+K              the number of the run, counted from 0: it lies between corners K and
+               K + 1
+",
+    settings: true,
+    lines: "\
+A line in is a contour as for fontcrunch crunch, a bar, and a chain: x y f ... | SCORE,
+and for each piece start end cx cy, as fontcrunch chain gives them. A line has at most
+262144 bytes.
+
+A line out, for each line in:
+  yes, no             whether the chain is accepted
+",
+    refusals: &[2, 3, 4, 5, 6, 7, 8, 10, 16],
+    example: "  \
+  $ echo '2 2 1 1 1 1 0 0 1 0 0 1 0 2 1 | 3ff0000000000000 0 4 3ff0000000000000 3ff0000000000000' | fontcrunch check 0 --penalty 16
+  yes
+",
+};
+
+const GLYPH: Page = Page {
+    what: "\
+Reads, writes and crunches simple glyph descriptions, as OpenType's glyf table has them.
+
+usage: fontcrunch glyph read [FILE...]
+       fontcrunch glyph write [FILE...]
+       fontcrunch glyph crunch [SETTINGS] [FILE...]
+
+crunch         crunches each contour as fontcrunch crunch does. The first that is
+               refused refuses the glyph. Instructions stay as they stand
+",
+    settings: true,
+    lines: "\
+A line in is a description in hexadecimal digits for read and crunch, and a glyph for
+write: ends=a,b,... instr=HEX pts=x y f x y f ..., the number of each contour's last
+point, the instructions, and the points of all contours, f 1 on the curve and 0 off it.
+An ok before it is passed over, so that what is read can be written again. A line has
+at most 4194304 bytes.
+
+A line out, for each line in:
+  ok ends=a,b,... instr=HEX pts=x y f ...
+                      read: the glyph
+  ok HEX              write and crunch: the description
+",
+    refusals: &[3, 4, 5, 6, 7, 8, 9, 12, 13, 14, 15, 16],
+    example: "  \
+  $ echo 'ends=2 instr= pts=0 0 1 100 0 1 0 100 1' | fontcrunch glyph write
+  ok 0001000000000064006400020000313327646464
+  $ echo 0001000000000064006400020000313327646464 | fontcrunch glyph crunch --closed | cut -c 4- | fontcrunch glyph read
+  ok ends=2 instr= pts=0 0 1 100 0 1 0 100 1
+",
+};
+
+const CLEAN: Page = Page {
+    what: "\
+Drops points that repeat their neighbours.
+
+usage: fontcrunch clean [--crunch [SETTINGS]] [FILE...]
+
+--crunch       cleans, then crunches what is left: lines out are those of fontcrunch
+               crunch
+",
+    settings: true,
+    lines: "\
+A line in is a contour, x y f x y f ..., as for fontcrunch crunch.
+
+A line out, for each line in:
+  ok x y f ... | k:why ...
+                      the points kept, and each dropped place k of the line, counted
+                      from 0, in the order of dropping; why is before (equal to the
+                      on-curve point before it), both (off-curve, equal to both
+                      neighbours) or first (last, and equal to the first)
+",
+    refusals: &[2, 3, 4, 5, 6, 7, 8, 9, 16],
+    example: "  \
+  $ echo '0 0 1 0 0 1 5 0 1' | fontcrunch clean
+  ok 0 0 1 5 0 1 | 1:before
+",
+};
+
+const CUBIC: Page = Page {
+    what: "\
+Makes quads of cubics: off-curve points stand in pairs, and a last pair leads back to
+the start.
+
+usage: fontcrunch cubic [--crunch [SETTINGS]] [FILE...]
+
+--crunch       makes quads, then crunches them: lines out are those of fontcrunch
+               crunch
+",
+    settings: true,
+    lines: "\
+A line in is a contour, x y f x y f ..., as for fontcrunch crunch, with pairs of off-curve
+points.
+
+A line out, for each line in:
+  ok x y f ...        the points of the quads, in order
+",
+    refusals: &[2, 3, 4, 5, 6, 7, 8, 9, 16, 17],
+    example: "  \
+  $ echo '0 0 1 0 0 0 0 0 0 9 0 1' | fontcrunch cubic
+  ok 0 0 1 0 0 0 1 0 1 3 0 0 9 0 1
+",
+};

@@ -2,9 +2,9 @@
 
 use std::ffi::{OsStr, OsString};
 
-use fontcrunch::{Settings, DEFAULT_PENALTY};
+use fontcrunch::Settings;
 
-use super::{no_option, once, parted, whole_number};
+use super::{once, parted, whole_number};
 
 /// The settings that the words so far ask for.
 #[derive(Default)]
@@ -52,19 +52,4 @@ impl Chosen {
             closed: self.closed,
         }
     }
-}
-
-/// The settings that words ask for which are all settings; none where one of them asks for help.
-pub fn read_settings(words: impl IntoIterator<Item = OsString>) -> Result<Option<Settings>, String> {
-    let mut words = words.into_iter();
-    let mut chosen = Chosen::default();
-    while let Some(word) = words.next() {
-        if word == "--help" || word == "-h" {
-            return Ok(None);
-        }
-        if !chosen.take(&word, &mut words)? {
-            return Err(no_option(&word));
-        }
-    }
-    Ok(Some(chosen.with_usual(DEFAULT_PENALTY)))
 }

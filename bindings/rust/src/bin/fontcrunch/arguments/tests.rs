@@ -82,7 +82,6 @@ fn chains() {
     }
     assert!(fault(&["chain", "letter.txt"]).contains("number of a run"));
     assert!(fault(&["chain", "0", "--svg", "p"]).contains("--svg"));
-    assert_eq!(asked(&["chain", "--help"]), Ok(Request::Help));
 }
 
 #[test]
@@ -139,22 +138,27 @@ fn settings_are_for_what_crunches() {
 }
 
 #[test]
-fn settings_alone() {
-    let alone = |words: &[&str]| read_settings(words.iter().map(OsString::from));
-    assert_eq!(alone(&[]), Ok(Some(Settings::default())));
+fn glyphs() {
+    for (word, step) in [("read", Step::Read), ("write", Step::Write), ("crunch", Step::Crunch)] {
+        let job = job(&["glyph", word, "read", "-"]);
+        assert_eq!((job.tool, job.inputs), (Tool::Glyph { step }, vec![file("read"), Input::Standard]));
+    }
+    for words in [&["glyph"][..], &["glyph", "clean"], &["glyph", "--closed"], &["glyph", "--", "read"]] {
+        assert!(fault(words).contains("needs read, write or crunch"), "{words:?}");
+    }
+    assert_eq!(job(&["glyph", "crunch"]).settings, Settings::default());
     let all = Settings { penalty: 20, whole_units: true, closed: true };
-    for words in
-        [["--penalty=20", "--whole-units", "--closed"], ["--closed", "--penalty=20", "--whole-units"]]
-    {
-        assert_eq!(alone(&words), Ok(Some(all)));
+    for words in [
+        ["glyph", "crunch", "--penalty=20", "--whole-units", "--closed"],
+        ["glyph", "--closed", "--penalty=20", "crunch", "--whole-units"],
+    ] {
+        assert_eq!(job(&words).settings, all);
     }
-    assert_eq!(alone(&["--closed", "--penalty", "0"]).unwrap().unwrap().penalty, 0);
-    assert_eq!(alone(&["--closed", "--help"]), Ok(None));
-    assert!(alone(&["--penalty", "--help"]).unwrap_err().contains("whole number"));
-    assert!(alone(&["--penalty", "16", "--penalty", "16"]).unwrap_err().contains("twice"));
-    for word in ["a", "-", "--", "--jobs=2", "--svg=p", "--closed=1"] {
-        assert!(alone(&[word]).unwrap_err().contains(&format!("no option {word}")), "{word}");
+    for word in ["read", "write"] {
+        assert!(fault(&["glyph", word, "--closed"]).contains("--closed is for crunching"));
     }
+    assert_eq!(job(&["glyph", "read", "--jobs", "4"]).jobs, 4);
+    assert!(fault(&["glyph", "crunch", "--svg", "p"]).contains("--svg"));
 }
 
 #[test]
@@ -178,11 +182,40 @@ fn wrong_words() {
     assert!(fault(&["-x"]).contains("no option -x"));
 }
 
+const TOOLS: [&str; 7] = ["crunch", "why", "chain", "check", "glyph", "clean", "cubic"];
+
+#[test]
+fn each_tool_has_a_page() {
+    assert_eq!(asked(&["--version"]), Ok(Request::Version));
+    assert_eq!(asked(&["a", "--help"]), Ok(Request::Help(None)));
+    assert!(help(None).starts_with("Crunches TrueType contours"));
+    for tool in TOOLS {
+        for words in [[tool, "--help"], [tool, "-h"]] {
+            assert_eq!(asked(&words), Ok(Request::Help(Tool::named(tool.as_ref()))));
+        }
+        let page = help(Tool::named(tool.as_ref()));
+        assert!(page.contains(&format!("fontcrunch {tool}")) || tool == "crunch", "{tool}");
+        assert!(help(None).contains(&format!("\n{tool} ")), "{tool}");
+        assert!(page.contains("\nExample:\n  $ ") && page.ends_with("was wrong.\n"), "{tool}");
+        assert!(page.lines().all(|line| line.len() <= 132), "{tool}");
+        // settings by the same names and words wherever runs are worked
+        assert_eq!(page.contains("--penalty N    what each piece adds"), tool != "why", "{tool}");
+    }
+}
+
+#[test]
+fn a_fault_says_where_to_read_on() {
+    assert!(fault(&["--runs"]).ends_with("; see fontcrunch --help"));
+    for tool in TOOLS {
+        assert!(fault(&[tool, "--runs"]).ends_with(&format!("; see fontcrunch {tool} --help")));
+    }
+}
+
 #[test]
 fn help_tells_every_refusal_that_can_be_met() {
-    assert_eq!(asked(&["a", "--help"]), Ok(Request::Help));
-    assert_eq!(asked(&["--version"]), Ok(Request::Version));
-    for number in (2..=11).chain([16, 17]) {
-        assert!(help().contains(&format!("refused {number}: ")));
+    for number in 2..=17 {
+        assert!(help(None).contains(&format!("refused {number}: ")));
     }
+    assert!(help(Tool::named("why".as_ref())).contains("refused 11: "));
+    assert!(!help(Tool::named("why".as_ref())).contains("refused 16: "));
 }
