@@ -1,0 +1,83 @@
+"""Crunches TrueType contours: finds a contour's corners, and puts fewer quadratic pieces between them.
+
+The work is done by a proved library, libfontcrunch.so; this module has functions over it and needs nothing else. Equal
+contours give equal points on every host, always.
+
+    >>> import fontcrunch
+    >>> triangle = [(0, 0, 1), (100, 0, 1), (0, 100, 1)]
+    >>> crunched = fontcrunch.crunch(triangle)
+    >>> [(point.x, point.y) for point in crunched.points]  # in reverse order
+    [(0, 100), (100, 0), (0, 0)]
+    >>> closed = fontcrunch.Settings(closed=True)
+    >>> [(point.x, point.y) for point in fontcrunch.crunch(triangle, closed).points]
+    [(0, 0), (100, 0), (0, 100)]
+
+Contours. A contour is points, each x, y and a flag: Point, or any three numbers. Bit 0 of a flag is set for an on-curve
+point. The first point is on-curve, and an implied point between two off-curve ones is written out. The contour is closed:
+its last point leads back to its first, by a line if it is on-curve, by a curve if not.
+
+Settings. The penalty of a piece, by default 2.0; whether breaks are on half units, as by default, or on whole ones; and
+whether contours are crunched in closed mode, as by default they are not. Settings.of_crate() has those of the Rust which this
+follows: a penalty of 1.0, half units, not closed.
+
+Refusals. What is not done is refused by a number, with its reason in words:
+
+    >>> try:
+    ...     fontcrunch.crunch([])
+    ... except fontcrunch.Refused as refused:
+    ...     print(refused.number, refused)
+    2 refused 2: the contour has no point
+
+Runs and chains. Corners cut a contour into runs, numbered from 0: run k lies between corners k and k + 1. What lies before
+the first corner and after the last is in no run, and is not written, or in closed mode it is the last run, which goes round.
+`chain` gives the pieces of a run, and `check` judges those of anyone: it measures anew and seeks nothing. `why` tells which
+tests make the start of a segment a corner.
+
+Uploads. `clean` drops repeated points and lists each with why, and `put_back` gives the upload's points again. `from_cubics`
+makes quads of cubics.
+
+Glyphs. `read_glyph` and `write_glyph` take OpenType's simple glyph descriptions, bytes, to a Glyph and back;
+`crunch_glyph` crunches one, bytes in and bytes out.
+
+Threads. Every function may be called in any thread. The library works outside Python's lock, so that threads do work at
+the same time; answers do not depend on them.
+"""
+
+from ._contours import CRATE_PENALTY, DEFAULT_PENALTY, Chain, Crunched, Piece, Reasons, Settings
+from ._contours import chain, check, crunch, why
+from ._glyphs import Glyph, crunch_glyph, read_glyph, write_glyph
+from ._refusal import Refused
+from ._rows import ANSWER_ROOM, BREAK_ROOM, MOST_PIECES, MOST_POINTS_IN, SAMPLE_ROOM, USUAL_POINT_ROOM, Point
+from ._uploads import Cleaned, Dropped, Why, clean, from_cubics, put_back
+
+__all__ = [
+    "ANSWER_ROOM",
+    "BREAK_ROOM",
+    "CRATE_PENALTY",
+    "Chain",
+    "Cleaned",
+    "Crunched",
+    "DEFAULT_PENALTY",
+    "Dropped",
+    "Glyph",
+    "MOST_PIECES",
+    "MOST_POINTS_IN",
+    "Piece",
+    "Point",
+    "Reasons",
+    "Refused",
+    "SAMPLE_ROOM",
+    "Settings",
+    "USUAL_POINT_ROOM",
+    "Why",
+    "chain",
+    "check",
+    "clean",
+    "crunch",
+    "crunch_glyph",
+    "from_cubics",
+    "put_back",
+    "read_glyph",
+    "why",
+    "write_glyph",
+]

@@ -1,0 +1,159 @@
+"""Contours crunched, chains asked for and checked, corners explained."""
+
+from __future__ import annotations
+
+import dataclasses
+import operator
+import struct
+from typing import Iterable, NamedTuple
+
+from ._entries import F64, U32, call
+from ._rows import MOST_PIECES, SCRATCH, USUAL_POINT_ROOM
+from ._rows import AnyPoint, Point, assembly_room, counted, point_rows, points_in, points_room, row_of
+
+DEFAULT_PENALTY = 32
+"""The penalty of Settings(), 2.0."""
+
+CRATE_PENALTY = 16
+"""The penalty of the Rust that this follows, 1.0."""
+
+_MOST_U32 = 2**32 - 1
+_MOST_SIZE = 2**64 - 1
+
+
+@dataclasses.dataclass(frozen=True)
+class Settings:
+    """What a caller chooses."""
+
+    penalty: int = DEFAULT_PENALTY
+    """What each piece adds to a score, in sixteenths. A larger one asks for fewer pieces. Refused by 16 where it is not
+    from 1 to 256."""
+
+    whole_units: bool = False
+    """Whether breaks are rounded to whole units instead of half ones, for engines that misdraw implied points on half units."""
+
+    closed: bool = False
+    """Whether a last run goes round from the last corner to the first, so that nothing is lost. Then points come out in order,
+    from the first corner on, the start is not written again at the end, and implied points are those that OpenType
+    implies. Without it the mode is that of the Rust which this follows."""
+
+    @classmethod
+    def of_crate(cls) -> Settings:
+        """Those of the Rust that this follows, whose points come out with them."""
+        return cls(penalty=CRATE_PENALTY)
+
+    def _words(self) -> tuple[int, int, int]:
+        """As the library takes them. A penalty that cannot be held is out of the range, as its neighbour is that can be."""
+        penalty = min(max(operator.index(self.penalty), 0), _MOST_U32)
+        return penalty, int(bool(self.whole_units)), int(bool(self.closed))
+
+
+class Crunched(NamedTuple):
+    """A crunched contour."""
+
+    points: list[Point]
+    """Its points, with implied points dropped: in reverse order, or in closed mode in order."""
+    pairs: int
+    """How many pairs of breaks were tried, over all runs."""
+
+
+class Piece(NamedTuple):
+    """A piece of a chain: a quadratic curve between two breaks."""
+
+    start: int
+    """The number of the break where it starts."""
+    end: int
+    """The number of the break where it ends."""
+    control: tuple[float, float]
+    """Its control point, x and y. A straight piece has it midway."""
+
+
+class Chain(NamedTuple):
+    """The pieces of one run."""
+
+    pieces: list[Piece]
+    """The pieces in order. There is none where the run leaves the contour unchanged."""
+    score: float
+    """How far the pieces are from the run, with a penalty for each; 0.0 where there is no piece."""
+    pairs: int
+    """How many pairs of breaks were tried. The checker does not look at it."""
+
+
+class Reasons(NamedTuple):
+    """Which of the tests that make a segment's start a corner hold there. Where none holds, it is no corner."""
+
+    x: bool
+    """A sign turn in x: the product was negative in either of the two rounds."""
+    y: bool
+    """A sign turn in y."""
+    before: bool
+    """A zero tangent before."""
+    after: bool
+    """A zero tangent after."""
+    angle: bool
+    """An angle. It never stands beside a zero tangent."""
+
+    @property
+    def is_corner(self) -> bool:
+        """Whether some reason holds."""
+        return any(self)
+
+    def __str__(self) -> str:
+        """The names of those that hold, with commas between them."""
+        return ",".join(name for name, holds in zip(self._fields, self) if holds)
+
+
+def crunch(
+    points: Iterable[AnyPoint], settings: Settings = Settings(), *, point_room: int = USUAL_POINT_ROOM
+) -> Crunched:
+    """Crunches a contour.
+
+    A run for which no chain is found leaves the whole contour unchanged: then its own points come out, reversed, with the
+    start at both ends. In closed mode they come out as they stand, and so do those of a contour with no corner.
+
+    No fixed number of points suffices for every result; one that has more than point_room, implied points counted, is
+    refused by 9.
+    """
+    out = points_room(point_room)
+    assembled = assembly_room(point_room)
+    report = call("crunch", *point_rows(points), *settings._words(), *out, *SCRATCH.rows, assembled)
+    return Crunched(points_in(out, report.points), report.pairs)
+
+
+def chain(points: Iterable[AnyPoint], run: int, settings: Settings = Settings()) -> Chain:
+    """The chain that is found for one run of a contour, the only run that is worked.
+
+    Refused by 10 where there is no run of that number, and where it is one copied line.
+    """
+    starts, ends = (U32 * MOST_PIECES)(), (U32 * MOST_PIECES)()
+    xs, ys = (F64 * MOST_PIECES)(), (F64 * MOST_PIECES)()
+    asked = (*point_rows(points), counted(run, _MOST_SIZE), *settings._words())
+    report = call("chain", *asked, starts, ends, xs, ys, *SCRATCH.rows)
+    n = report.pieces
+    pieces = [Piece(a, b, (x, y)) for a, b, x, y in zip(starts[:n], ends[:n], xs[:n], ys[:n])]
+    return Chain(pieces, struct.unpack("d", struct.pack("Q", report.score_bits))[0], report.pairs)
+
+
+def check(points: Iterable[AnyPoint], run: int, given: Chain, settings: Settings = Settings()) -> bool:
+    """Whether a chain, whoever made it, is valid for one run of a contour and has the score that it says, at these settings:
+    a chain is checked at those that it was made with.
+
+    Controls and score are compared as values: -0.0 equals 0.0, and a NaN equals a NaN. A chain with no piece is never
+    accepted.
+    """
+    starts, ends = (row_of(U32, (piece[k] for piece in given.pieces)) for k in (0, 1))
+    xs, ys = (row_of(F64, (piece.control[k] for piece in given.pieces)) for k in (0, 1))
+    asked = (*point_rows(points), counted(run, _MOST_SIZE), *settings._words())
+    report = call("check", *asked, starts, ends, xs, ys, given.score, *SCRATCH.rows)
+    return bool(report.accepted)
+
+
+def why(points: Iterable[AnyPoint], index: int) -> Reasons:
+    """Why the segment of that index, counted from 0, starts at a corner: all reasons that hold. Where there is none, it does
+    not. A contour has a segment for each on-curve point.
+
+    Refused by 1 to 5, then by 11 where there is no segment of that index. No other refusal is given, since no run is
+    worked.
+    """
+    report = call("why", *point_rows(points), counted(index, _MOST_SIZE))
+    return Reasons(*(report.reasons >> bit & 1 == 1 for bit in range(5)))

@@ -1,0 +1,75 @@
+"""Uploads cleaned of repeated points, and put back as they were; contours of cubics made quads."""
+
+from __future__ import annotations
+
+import enum
+import itertools
+from typing import Iterable, NamedTuple, Tuple
+
+from ._entries import U32, call
+from ._rows import MOST_POINTS_IN, AnyPoint, Point, point_rows, points_in, points_room, row_of
+
+
+class Why(enum.IntEnum):
+    """Why a point was dropped: the first of these that held."""
+
+    BEFORE = 1
+    """An on-curve point equal to the on-curve point before it."""
+    BOTH = 2
+    """An off-curve point equal to both neighbours, going round."""
+    FIRST = 3
+    """A last on-curve point equal to the first point."""
+
+
+class Dropped(NamedTuple):
+    """A dropped point."""
+
+    place: int
+    """Its place in the upload."""
+    why: Why
+    """Why it was dropped."""
+
+
+class Cleaned(NamedTuple):
+    """A cleaned contour."""
+
+    points: list[Point]
+    """The points kept, in order. None of refusals 1 to 5 is given for them."""
+    dropped: list[Dropped]
+    """The points dropped, in the order of dropping."""
+
+
+def clean(points: Iterable[AnyPoint]) -> Cleaned:
+    """Drops points that repeat their neighbours: lowest place first, until none remains. Place 0 always stays."""
+    contour = point_rows(points)
+    # as long as the contour, which always suffices
+    room = min(len(contour[0]), MOST_POINTS_IN)
+    out, drops = points_room(room), (U32 * 2 * room)()
+    report = call("clean", *contour, *out, drops)
+    dropped = [Dropped(place, Why(why)) for place, why in drops[: report.dropped]]
+    return Cleaned(points_in(out, report.kept), dropped)
+
+
+def put_back(points: Iterable[AnyPoint], dropped: Iterable[Tuple[int, int]]) -> list[Point]:
+    """The upload's points, of the points kept and the list. A list that no cleaning gave is put back too, by the same rule.
+
+    Refused by 3 where there are more than MOST_POINTS_IN points with those dropped.
+    """
+    contour = point_rows(points)
+    listed = [(place, int(Why(why))) for place, why in dropped]
+    drops = (U32 * 2 * len(listed)).from_buffer_copy(row_of(U32, itertools.chain.from_iterable(listed)))
+    out = points_room(min(len(contour[0]) + len(listed), MOST_POINTS_IN))
+    report = call("put_back", *contour, drops, *out)
+    return points_in(out, report.points)
+
+
+def from_cubics(points: Iterable[AnyPoint]) -> list[Point]:
+    """The quads of a contour of cubics, whose off-curve points stand in pairs; a last pair leads back to the start, which is
+    not written again. None of refusals 1 to 5 is given for the points that come out.
+
+    Refused by 5 where a stretch of off-curve points is not two long, by 3 where more than MOST_POINTS_IN points come out
+    (more may go in), and by 17.
+    """
+    out = points_room(MOST_POINTS_IN)
+    report = call("from_cubics", *point_rows(points), *out)
+    return points_in(out, report.points)

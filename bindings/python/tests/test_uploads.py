@@ -1,0 +1,73 @@
+"""Cleaning: which points go and why, and that they can be put back. Cubics made quads."""
+
+import random
+import unittest
+
+import fontcrunch
+from fontcrunch import Dropped, Why
+
+from .common import RECORDED, Case, points, zigzag
+
+
+class Cleaning(Case):
+    def cleans(self, line, kept, *dropped):
+        upload = points(line)
+        cleaned = fontcrunch.clean(upload)
+        self.assertEqual(cleaned.points, points(kept))
+        self.assertEqual(cleaned.dropped, [Dropped(*drop) for drop in dropped])
+        self.assertEqual(fontcrunch.put_back(*cleaned), upload)
+        self.assertEqual(fontcrunch.clean(cleaned.points).dropped, [])
+
+    def test_each_reason(self):
+        self.cleans("0 0 1 0 0 1", "0 0 1", (1, Why.BEFORE))
+        self.cleans("0 0 1 0 0 0", "0 0 1", (1, Why.BOTH))
+        self.cleans("0 0 1 5 0 1 0 0 1", "0 0 1 5 0 1", (2, Why.FIRST))
+        self.cleans("0 0 1 5 0 0", "0 0 1 5 0 0")
+        self.cleans("0 0 1 0 1 1 0 0 1 0 0 1", "0 0 1 0 1 1", (3, Why.BEFORE), (2, Why.FIRST))
+
+    def test_put_back_gives_the_upload(self):
+        made = random.Random(1)
+        for _ in range(500):
+            upload = [fontcrunch.Point(0, 0, True)]
+            for _ in range(made.randrange(12)):
+                on_curve = made.random() < 0.6 or not upload[-1].on_curve
+                upload.append(fontcrunch.Point(made.randrange(2), made.randrange(2), on_curve))
+            cleaned = fontcrunch.clean(upload)
+            self.assertEqual(fontcrunch.put_back(*cleaned), upload)
+            listed = {drop.place for drop in cleaned.dropped}
+            self.assertEqual(cleaned.points, [p for k, p in enumerate(upload) if k not in listed])
+
+    def test_most_points(self):
+        still = [fontcrunch.Point(7, 9, True)] * 1024
+        cleaned = fontcrunch.clean(still)
+        self.assertEqual((len(cleaned.points), len(cleaned.dropped)), (1, 1023))
+        self.assertEqual(fontcrunch.put_back(*cleaned), still)
+        self.assert_refused(3, fontcrunch.put_back, zigzag(1024), [(1, 1)])
+        self.assert_refused(2, fontcrunch.put_back, [], [])
+
+    def test_a_list_has_reasons_and_places(self):
+        for wrong in ((1, 4), (1, 0), (2**32, 1), (-1, 1)):
+            with self.assertRaises(ValueError):
+                fontcrunch.put_back(points("0 0 1"), [wrong])
+
+
+class Cubics(Case):
+    def test_halved_where_the_third_difference_is_above_8(self):
+        self.assertEqual(fontcrunch.from_cubics(points("0 0 1 0 0 0 0 0 0 8 0 1")), points("0 0 1 -2 0 0 8 0 1"))
+        nine = points("0 0 1 0 0 0 1 0 1 3 0 0 9 0 1")
+        self.assertEqual(fontcrunch.from_cubics(points("0 0 1 0 0 0 0 0 0 9 0 1")), nine)
+
+    def test_a_last_pair_leads_back(self):
+        self.assertEqual(fontcrunch.from_cubics(points("0 0 1 2 0 0 2 2 0")), points("0 0 1 3 2 0"))
+
+    def test_more_points_in_than_out(self):
+        flat = [(k % 2, 0, on) for k in range(512) for on in (1, 0, 0)]
+        self.assertEqual(len(fontcrunch.from_cubics(flat)), 1024)
+
+    def test_what_comes_out_is_crunched(self):
+        quads = fontcrunch.from_cubics(points("0 0 1 0 200 0 300 400 0 600 400 1 600 0 1"))
+        self.assertLess(len(fontcrunch.crunch(quads, RECORDED).points), len(quads))
+
+
+if __name__ == "__main__":
+    unittest.main()
