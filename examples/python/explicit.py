@@ -1,4 +1,4 @@
-"""A contour as fonts hold it, made one that the library takes. An entry of the library is to take this step's place."""
+"""A contour as fonts hold it, made one that the library takes, and takes well. An entry of the library is to take the place of the first step."""
 
 
 def from_first_with_implied(contour):
@@ -13,6 +13,15 @@ def from_first_with_implied(contour):
             row.append((half(last_x + x), half(last_y + y), True))
         row.append((x, y, on_curve))
     return row
+
+
+def without_idle_controls(row):
+    """The same without controls that stand on an end of their curve, which is a line then, in the same places.
+
+    Such a curve has no direction where its control stands. Left in, the first score of its run is a NaN, which nothing
+    replaces, and the run comes out as one straight piece, as in the Rust that the library follows."""
+    beside = zip([*row[-1:], *row], row, [*row[1:], *row[:1]])
+    return [point for before, point, after in beside if point[2] or point[:2] not in (before[:2], after[:2])]
 
 
 def half(total):

@@ -5,8 +5,8 @@
 
 It needs fontTools (Debian's python3-fonttools) and the library (tools/library && tools/shared).
 
-Each contour is turned to its first on-curve point and its implied points are written out, then the glyph is crunched in
-closed mode. A glyph that is refused stays as it was and is listed with its number; so does one that would come out with no
+Each contour is turned to its first on-curve point, its implied points are written out, and a curve whose control stands on
+one of its ends is made the line that it is; then the glyph is crunched in closed mode. A glyph that is refused stays as it was and is listed with its number; so does one that would come out with no
 fewer points. What a font is beside its outlines stays:
 
 - advance widths stay, and the side bearing goes along with the box, so that no outline moves against its origin;
@@ -32,7 +32,7 @@ sys.path.insert(0, str(TOP / "bindings/python"))
 
 import fontcrunch  # noqa: E402
 import picture  # noqa: E402
-from explicit import from_first_with_implied  # noqa: E402
+from explicit import from_first_with_implied, without_idle_controls  # noqa: E402
 
 try:
     from fontTools.ttLib import TTFont
@@ -63,7 +63,7 @@ def box(data):
 
 def crunched(data, settings):
     """The description crunched, without instructions."""
-    contours = [from_first_with_implied(contour) for contour in fontcrunch.read_glyph(data).contours()]
+    contours = [without_idle_controls(from_first_with_implied(contour)) for contour in fontcrunch.read_glyph(data).contours()]
     new = fontcrunch.crunch_glyph(fontcrunch.write_glyph(fontcrunch.Glyph.of_contours(contours)), settings)
     if len(fontcrunch.read_glyph(new).points) >= len(fontcrunch.read_glyph(data).points):
         raise Left

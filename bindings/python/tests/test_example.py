@@ -44,6 +44,27 @@ class Explicit(Case):
             rest = iter(row)
             self.assertTrue(all(point in rest for point in contour[first:] + contour[:first]))
 
+class Idle(Case):
+    BENT = "60 200 1 20 100 1 0 50 0 0 0 1 90 20 1"
+
+    def test_controls_on_an_end_are_dropped(self):
+        def kept(line):
+            return [fontcrunch.Point(*point) for point in explicit.without_idle_controls(points(line))]
+
+        self.assertEqual(kept("60 200 1 60 200 0 20 100 1 0 50 0 0 0 1 90 20 1"), points(self.BENT))
+        self.assertEqual(kept("60 200 1 20 100 0 20 100 1 0 50 0 0 0 1 90 20 1"), points(self.BENT))
+        # a last control, on the start
+        self.assertEqual(kept(f"{self.BENT} 60 200 0"), points(self.BENT))
+        self.assertEqual(kept(self.BENT), points(self.BENT))
+        self.assertEqual(explicit.without_idle_controls([]), [])
+
+    def test_left_in_the_run_is_one_straight_piece(self):
+        idle = fontcrunch.chain(points("60 200 1 60 200 0 20 100 1 0 50 0 0 0 1 90 20 1"), 0)
+        self.assertNotEqual(idle.score, idle.score)
+        self.assertEqual((len(idle.pieces), idle.pairs), (1, 1))
+        self.assertEqual(len(fontcrunch.chain(points(self.BENT), 0).pieces), 2)
+
+
 class Picture(Case):
     def test_well_formed(self):
         class Side:
