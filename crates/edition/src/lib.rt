@@ -20,7 +20,7 @@ pub enum Worked {
 // Two stored answers a break: half the shortest answer row is a room for breaks.
 pub fn edition(
     samples: &[[f64; 4]],
-    breaks: &[[f64; 5]],
+    breaks: &[[f64; 6]],
     answers: &mut [[f64; 3]],
     links: &mut [u32],
     penalty: f64,
@@ -50,7 +50,7 @@ pub fn work_run(
     g: Grid,
     penalty: f64,
     samples: &mut [[f64; 4]],
-    breaks: &mut [[f64; 5]],
+    breaks: &mut [[f64; 6]],
     answers: &mut [[f64; 3]],
     links: &mut [u32],
 ) -> Worked
