@@ -72,7 +72,7 @@
  *
  *   row      a place holds                              full room
  *   samples  x, y, direction x, direction y             FONTCRUNCH_SAMPLES
- *   breaks   length, x, y, direction x, direction y     FONTCRUNCH_BREAKS
+ *   breaks   length, x, y, direction x, y, segment      FONTCRUNCH_BREAKS
  *   answers  score, control x, control y                FONTCRUNCH_ANSWERS
  *   links    what a stored answer was built on          FONTCRUNCH_ANSWERS
  *   points   x, y, flag                                 as many as the output rows
@@ -131,7 +131,8 @@ enum {
     FONTCRUNCH_PAST_LAST_SAMPLE = 8,
     /* fontcrunch_crunch: the points, counted before implied ones are dropped, are more than the shortest of
        ox, oy, of and points has places; in closed mode the end that is not written does not count.
-       fontcrunch_chain: the pieces are more than the shortest of starts, ends, cxs and cys has places */
+       fontcrunch_chain: the pieces are more than the shortest of starts, ends, cxs, cys and spans has
+       places */
     FONTCRUNCH_OUTPUT_TOO_SHORT = 9,
     /* fontcrunch_chain and fontcrunch_check: there is no such run, or it is one copied line */
     FONTCRUNCH_NO_SUCH_RUN = 10,
@@ -238,15 +239,18 @@ CrunchReport fontcrunch_crunch(
     int16_t *oy, size_t oy_len,
     uint8_t *of, size_t of_len,
     double (*samples)[4], size_t samples_len,
-    double (*breaks)[5], size_t breaks_len,
+    double (*breaks)[6], size_t breaks_len,
     double (*answers)[3], size_t answers_len,
     uint32_t *links, size_t links_len,
     int16_t (*points)[3], size_t points_len);
 
 /*
  * The chain that was found for run k of a contour. Piece i leads from break starts[i] to break ends[i], with
- * the control (cxs[i], cys[i]). The first places of these four rows are written, and no other place is
- * touched. A refusal writes none; so does a run that leaves the contour unchanged, with number 0, no piece
+ * the control (cxs[i], cys[i]). It replaces the segments of the contour from spans[i][0] to spans[i][1]: those
+ * that hold its start break and its end break. A segment is counted by its start, each on-curve point starting
+ * one, from 0; in closed mode a run goes round, so that the last may be before the first. Where a segment ends
+ * exactly at a break, the break is in it, not in the next. The first places of these five rows are written, and
+ * no other place is touched. A refusal writes none; so does a run that leaves the contour unchanged, with number 0, no piece
  * and the score 0.0. Other runs are not worked, so their refusals do not count.
  */
 ChainReport fontcrunch_chain(
@@ -258,8 +262,9 @@ ChainReport fontcrunch_chain(
     uint32_t *ends, size_t ends_len,
     double *cxs, size_t cxs_len,
     double *cys, size_t cys_len,
+    uint32_t (*spans)[2], size_t spans_len,
     double (*samples)[4], size_t samples_len,
-    double (*breaks)[5], size_t breaks_len,
+    double (*breaks)[6], size_t breaks_len,
     double (*answers)[3], size_t answers_len,
     uint32_t *links, size_t links_len);
 
@@ -281,7 +286,7 @@ CheckReport fontcrunch_check(
     const double *cys, size_t cys_len,
     double score,
     double (*samples)[4], size_t samples_len,
-    double (*breaks)[5], size_t breaks_len,
+    double (*breaks)[6], size_t breaks_len,
     double (*answers)[3], size_t answers_len,
     uint32_t *links, size_t links_len);
 
@@ -438,7 +443,7 @@ GlyphWriteReport fontcrunch_crunch_glyph(const uint8_t *bytes, size_t bytes_len,
                                          uint16_t *ends, size_t ends_len, int16_t *xs, size_t xs_len, int16_t *ys,
                                          size_t ys_len, uint8_t *flags, size_t flags_len, uint8_t *instructions,
                                          size_t instructions_len, double (*samples)[4], size_t samples_len,
-                                         double (*breaks)[5], size_t breaks_len, double (*answers)[3],
+                                         double (*breaks)[6], size_t breaks_len, double (*answers)[3],
                                          size_t answers_len, uint32_t *links, size_t links_len,
                                          int16_t (*points)[3], size_t points_len);
 

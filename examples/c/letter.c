@@ -24,7 +24,7 @@ enum { LINE = 65536 + 2 };
 
 /* The scratch rows with their full rooms: most of a megabyte, so they are not on the stack. */
 static double samples[FONTCRUNCH_SAMPLES][4];
-static double breaks[FONTCRUNCH_BREAKS][5];
+static double breaks[FONTCRUNCH_BREAKS][6];
 static double answers[FONTCRUNCH_ANSWERS][3];
 static uint32_t links[FONTCRUNCH_ANSWERS];
 static int16_t points[OUT][3];
@@ -43,6 +43,7 @@ static struct {
 static struct {
     uint32_t starts[PIECES], ends[PIECES];
     double cxs[PIECES], cys[PIECES];
+    uint32_t spans[PIECES][2];
 } chain;
 
 /* A whole number from low to high at *text, which is moved past it. */
@@ -84,7 +85,7 @@ static ChainReport chain_of_run(size_t k)
 {
     return fontcrunch_chain(
         contour.xs, contour.n, contour.ys, contour.n, contour.flags, contour.n, k, PENALTY, WHOLE_UNITS, CLOSED,
-        chain.starts, PIECES, chain.ends, PIECES, chain.cxs, PIECES, chain.cys, PIECES,
+        chain.starts, PIECES, chain.ends, PIECES, chain.cxs, PIECES, chain.cys, PIECES, chain.spans, PIECES,
         samples, FONTCRUNCH_SAMPLES, breaks, FONTCRUNCH_BREAKS,
         answers, FONTCRUNCH_ANSWERS, links, FONTCRUNCH_ANSWERS);
 }
@@ -109,7 +110,8 @@ static void print_chain(size_t k, ChainReport report)
 {
     printf("run %zu: score %.17g, %zu pairs tried\n", k, fontcrunch_score(report), report.pairs);
     for (size_t i = 0; i < report.pieces; i++)
-        printf("  from break %" PRIu32 " to %" PRIu32 ", control %g %g\n", chain.starts[i], chain.ends[i], chain.cxs[i], chain.cys[i]);
+        printf("  from break %" PRIu32 " to %" PRIu32 ", control %g %g, for segments %" PRIu32 " to %" PRIu32 "\n", chain.starts[i],
+               chain.ends[i], chain.cxs[i], chain.cys[i], chain.spans[i][0], chain.spans[i][1]);
 }
 
 static const char *verdict(CheckReport report)

@@ -81,7 +81,7 @@ static void contour(Row rows[3]) {
 static void scratch(Row rows[4]) {
     size_t breaks = length(300);
     rows[0] = row(length(500), 32);
-    rows[1] = row(breaks, 40);
+    rows[1] = row(breaks, 48);
     rows[2] = row(length(600), 24);
     rows[3] = row(length(600), 4);
 }
@@ -116,13 +116,14 @@ static void crunch(Row in[3]) {
 }
 
 static void chain(Row in[3], size_t run) {
-    Row rows[4] = {row(length(20), 4), row(length(20), 4), row(length(20), 8), row(length(20), 8)}, work[4];
+    Row rows[5] = {row(length(20), 4), row(length(20), 4), row(length(20), 8), row(length(20), 8), row(length(20), 8)}, work[4];
     uint32_t cost = penalty(), whole_units = choice(), closed = choice();
     scratch(work);
-    ChainReport r = fontcrunch_chain(IN(in), run, cost, whole_units, closed, WORK(rows), WORK(work));
+    ChainReport r = fontcrunch_chain(IN(in), run, cost, whole_units, closed, WORK(rows), rows[4].at, rows[4].places, WORK(work));
     demand(r.number <= 10 || r.number == 16, "a number of the documents");
     demand(r.number == 0 || (r.pieces == 0 && r.pairs == 0 && r.score_bits == 0), "a refusal reports nothing else");
-    for (int i = 0; i < 4; i++) demand(kept(rows[i], r.pieces), "places beyond the pieces stay");
+    for (int i = 0; i < 5; i++) demand(kept(rows[i], r.pieces), "places beyond the pieces stay");
+    for (size_t i = 0; i < 2 * r.pieces; i++) demand(((uint32_t *)rows[4].at)[i] < in[2].places, "a segment of the contour");
     cleared(work);
     size_t n = r.pieces ? r.pieces : below(4);
     Row given[4];
@@ -136,7 +137,7 @@ static void chain(Row in[3], size_t run) {
     demand(r.pieces == 0 || (v.number == 0 && v.accepted == 1), "a chain is accepted");
     demand(v.number == 0 || v.accepted == 0, "a refusal accepts nothing");
     cleared(work);
-    done(rows, 4), done(work, 4), done(given, 4);
+    done(rows, 5), done(work, 4), done(given, 4);
 }
 
 int main(int count, char **words) {

@@ -83,7 +83,7 @@ static void answer_crunch(void) {
     uint8_t *bytes = row(n, 1), *out = row(o, 1), *flags = row(f, 1), *code = row(i, 1);
     uint16_t *ends = row(e, 2);
     int16_t *xs = row(x, 2), *ys = row(y, 2), (*points)[3] = row(p, sizeof *points);
-    double (*samples)[4] = row(s, sizeof *samples), (*breaks)[5] = row(b, sizeof *breaks), (*answers)[3] = row(a, sizeof *answers);
+    double (*samples)[4] = row(s, sizeof *samples), (*breaks)[6] = row(b, sizeof *breaks), (*answers)[3] = row(a, sizeof *answers);
     uint32_t *links = row(l, 4);
     take(bytes, n);
     GlyphWriteReport r = fontcrunch_crunch_glyph(bytes, n, penalty, whole_units, closed, out, o, ends, e, xs, x, ys, y, flags, f, code, i, samples, s,

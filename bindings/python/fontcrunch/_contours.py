@@ -77,6 +77,10 @@ class Chain(NamedTuple):
     """How far the pieces are from the run, with a penalty for each; 0.0 where there is no piece."""
     pairs: int
     """How many pairs of breaks were tried. The checker does not look at it."""
+    segments: tuple[tuple[int, int], ...] = ()
+    """For each piece the first and the last segment of the contour that it replaces, counted from 0: those that hold its start
+    break and its end break. In closed mode a run goes round, so that the last may be before the first. The checker does
+    not look at it."""
 
 
 class Reasons(NamedTuple):
@@ -127,11 +131,13 @@ def chain(points: Iterable[AnyPoint], run: int, settings: Settings = Settings())
     """
     starts, ends = (U32 * MOST_PIECES)(), (U32 * MOST_PIECES)()
     xs, ys = (F64 * MOST_PIECES)(), (F64 * MOST_PIECES)()
+    spans = (U32 * 2 * MOST_PIECES)()
     asked = (*point_rows(points), counted(run, _MOST_SIZE), *settings._words())
-    report = call("chain", *asked, starts, ends, xs, ys, *SCRATCH.rows)
+    report = call("chain", *asked, starts, ends, xs, ys, spans, *SCRATCH.rows)
     n = report.pieces
     pieces = [Piece(a, b, (x, y)) for a, b, x, y in zip(starts[:n], ends[:n], xs[:n], ys[:n])]
-    return Chain(pieces, struct.unpack("d", struct.pack("Q", report.score_bits))[0], report.pairs)
+    segments = tuple((first, last) for first, last in spans[:n])
+    return Chain(pieces, struct.unpack("d", struct.pack("Q", report.score_bits))[0], report.pairs, segments)
 
 
 def check(points: Iterable[AnyPoint], run: int, given: Chain, settings: Settings = Settings()) -> bool:

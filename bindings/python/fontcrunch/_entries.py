@@ -32,14 +32,15 @@ _POINTS = (_row(I16), _row(I16), _row(U8))
 _DROPS = _row(U32 * 2)
 _SETTINGS = (U32, U32, U32)
 _CHAIN = (_row(U32), _row(U32), _row(F64), _row(F64))
+_SPANS = _row(U32 * 2)
 _GLYPH = (_row(U16), *_POINTS, _row(U8))
-_RUN = (_row(F64 * 4), _row(F64 * 5), _row(F64 * 3), _row(U32))
+_RUN = (_row(F64 * 4), _row(F64 * 6), _row(F64 * 3), _row(U32))
 _ASSEMBLED = _row(I16 * 3)
 
 # Each entry of include/fontcrunch.h without `fontcrunch_`: its report, and what it takes in the header's order.
 SIGNATURES: dict[str, tuple[type, ...]] = {
     "crunch": (_report(points=SIZE, pairs=SIZE), *_POINTS, *_SETTINGS, *_POINTS, *_RUN, _ASSEMBLED),
-    "chain": (_report(pieces=SIZE, pairs=SIZE, score_bits=U64), *_POINTS, SIZE, *_SETTINGS, *_CHAIN, *_RUN),
+    "chain": (_report(pieces=SIZE, pairs=SIZE, score_bits=U64), *_POINTS, SIZE, *_SETTINGS, *_CHAIN, _SPANS, *_RUN),
     "check": (_report(accepted=U32), *_POINTS, SIZE, *_SETTINGS, *_CHAIN, F64, *_RUN),
     "why": (_report(reasons=U32), *_POINTS, SIZE),
     "clean": (_report(kept=SIZE, dropped=SIZE), *_POINTS, *_POINTS, _DROPS),

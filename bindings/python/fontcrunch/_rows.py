@@ -86,7 +86,7 @@ class _Scratch(threading.local):
     def __init__(self) -> None:
         self.rows = (
             (F64 * 4 * SAMPLE_ROOM)(),
-            (F64 * 5 * BREAK_ROOM)(),
+            (F64 * 6 * BREAK_ROOM)(),
             (F64 * 3 * ANSWER_ROOM)(),
             (U32 * ANSWER_ROOM)(),
         )

@@ -22,6 +22,7 @@ class Found(Case):
         chain = of_hill()
         self.assertEqual(chain.pieces, [Piece(0, 241, (0.0, 60.0)), Piece(241, 469, (80.0, 120.0))])
         self.assertEqual((digits(chain.score), chain.pairs), ("40081ec11db47a5f", 937))
+        self.assertEqual(chain.segments, ((0, 1), (1, 1)))
         self.assertTrue(accepts(chain))
 
     def test_those_of_a_letter(self):

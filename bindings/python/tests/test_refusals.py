@@ -122,10 +122,10 @@ class ByEntries(Case):
 
     def test_9_of_chains_and_cleaning(self):
         hill = point_rows(points(HILL))
-        for places in (1, 2):
-            chain = ((U32 * places)(), (U32 * 2)(), (F64 * 2)(), (F64 * 2)())
+        for places, spans in ((1, 2), (2, 1), (2, 2)):
+            chain = ((U32 * places)(), (U32 * 2)(), (F64 * 2)(), (F64 * 2)(), (U32 * 2 * spans)())
             report = told("chain", *hill, 0, 16, 0, 0, *chain, *SCRATCH.rows)
-            self.assertEqual((report.number, report.pieces), (9, 0) if places == 1 else (0, 2))
+            self.assertEqual((report.number, report.pieces), (0, 2) if places == spans else (9, 0))
         self.assertEqual(told("clean", *hill, *points_room(5), (U32 * 2 * 0)()).number, 9)
 
     def test_18_before_9(self):
@@ -137,7 +137,7 @@ class ByEntries(Case):
     def test_no_room_for_samples_and_breaks(self):
         hill, out = point_rows(points(HILL)), (*points_room(9),)
         samples, breaks, answers, links = SCRATCH.rows
-        short = (F64 * 4 * 9)(), (F64 * 5 * 9)()
+        short = (F64 * 4 * 9)(), (F64 * 6 * 9)()
         self.assertEqual(told("crunch", *hill, 16, 0, 0, *out, short[0], breaks, answers, links, assembly_room(9)).number, 6)
         self.assertEqual(told("crunch", *hill, 16, 0, 0, *out, samples, short[1], answers, links, assembly_room(9)).number, 7)
 

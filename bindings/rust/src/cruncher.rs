@@ -61,6 +61,11 @@ pub struct Chain {
     pub score: f64,
     /// How many pairs of breaks were tried. The checker does not look at it.
     pub pairs: usize,
+    /// For each piece, the first and the last of the contour's segments that it replaces: those that hold its
+    /// start break and its end break, counted from 0. Where a segment ends exactly at a break, the break is in it,
+    /// not in the next. In closed mode the last may be before the first, going round. The checker does not look
+    /// at them, and they may be left empty.
+    pub segments: Vec<(u32, u32)>,
 }
 
 /// Crunches contours, one after another, at its settings and in rows that it holds: about a megabyte, allocated
@@ -121,6 +126,7 @@ impl Cruncher {
             pieces: self.pieces_out(report.pieces),
             score: f64::from_bits(report.score_bits),
             pairs: report.pairs,
+            segments: self.chain.spans[..report.pieces].iter().map(|&[first, last]| (first, last)).collect(),
         })
     }
 

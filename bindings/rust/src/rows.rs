@@ -67,7 +67,7 @@ impl Contour {
 /// What the library works in; zero throughout after every call.
 pub(crate) struct Scratch {
     pub samples: Box<[[f64; 4]]>,
-    pub breaks: Box<[[f64; 5]]>,
+    pub breaks: Box<[[f64; 6]]>,
     pub answers: Box<[[f64; 3]]>,
     pub links: Box<[u32]>,
 }
@@ -76,7 +76,7 @@ impl Scratch {
     pub fn full() -> Scratch {
         Scratch {
             samples: vec![[0.0; 4]; SAMPLE_ROOM].into(),
-            breaks: vec![[0.0; 5]; BREAK_ROOM].into(),
+            breaks: vec![[0.0; 6]; BREAK_ROOM].into(),
             answers: vec![[0.0; 3]; ANSWER_ROOM].into(),
             links: vec![0; ANSWER_ROOM].into(),
         }
@@ -132,13 +132,15 @@ impl PointRows {
     }
 }
 
-/// A chain: each piece's start and end break, and its control.
+/// A chain: each piece's start and end break, its control, and the segments that hold both breaks. The checker is
+/// not lent the last row.
 #[derive(Default)]
 pub(crate) struct ChainRows {
     pub starts: Vec<u32>,
     pub ends: Vec<u32>,
     pub xs: Vec<f64>,
     pub ys: Vec<f64>,
+    pub spans: Vec<[u32; 2]>,
 }
 
 impl ChainRows {
@@ -151,5 +153,6 @@ impl ChainRows {
         self.ends.resize(pieces, 0);
         self.xs.resize(pieces, 0.0);
         self.ys.resize(pieces, 0.0);
+        self.spans.resize(pieces, [0; 2]);
     }
 }

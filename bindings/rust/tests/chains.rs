@@ -3,7 +3,7 @@
 mod common;
 
 use common::{as_recorded, hill, letter, points, still};
-use fontcrunch::{Chain, Cruncher, Piece, Point, Refusal};
+use fontcrunch::{Chain, Cruncher, Piece, Point, Refusal, Settings};
 
 fn hill_chain() -> Chain {
     as_recorded().chain(&hill(), 0).unwrap()
@@ -34,7 +34,22 @@ fn a_known_chain() {
     assert_eq!(chain.pieces, pieces);
     assert_eq!(chain.score.to_bits(), 0x4008_1ec1_1db4_7a5f);
     assert_eq!(chain.pairs, 937);
+    assert_eq!(chain.segments, [(0, 1), (1, 1)]);
     assert!(accepts(&chain));
+}
+
+#[test]
+fn a_run_that_goes_round_comes_back_to_segment_0() {
+    let square = points(&[50, 0, 1, 100, 0, 1, 100, 60, 1, 0, 60, 1, 0, 0, 1]);
+    let closed = Settings { closed: true, ..Settings::of_crate() };
+    let chain = Cruncher::new(closed).chain(&square, 3).unwrap();
+    assert_eq!(chain.segments, [(4, 0)]);
+}
+
+#[test]
+fn the_checker_does_not_look_at_segments() {
+    assert!(accepts(&changed(|chain| chain.segments.clear())));
+    assert!(accepts(&changed(|chain| chain.segments[0] = (7, u32::MAX))));
 }
 
 /// The runs of a contour that are not copied. There are fewer runs than points.
@@ -174,7 +189,7 @@ fn nans_are_equal_whatever_their_bits() {
 fn an_unchanged_run_has_no_chain() {
     let mut cruncher = as_recorded();
     let chain = cruncher.chain(&still(), 0).unwrap();
-    assert_eq!(chain, Chain { pieces: vec![], score: 0.0, pairs: 1 });
+    assert_eq!(chain, Chain { pieces: vec![], score: 0.0, pairs: 1, segments: vec![] });
     assert_eq!(chain.score.to_bits(), 0);
     assert_eq!(cruncher.check(&still(), 0, &chain), Ok(false));
 }

@@ -368,6 +368,7 @@ fn a_letter_is_drawn() {
         "letter.txt, line 3",
         "1,855 pairs tried",
         "at the penalty 1.0, 16 sixteenths",
+        "<title>replaces segments 2 to 3</title>",
     ] {
         assert!(svg.contains(words), "{words}");
     }
@@ -618,6 +619,14 @@ fn the_chain_of_a_run() {
     }
     assert_eq!(answers_to(&["chain", "7", "--penalty", "0"], HILL), ["refused 16"]);
     assert_eq!(status(&["chain", "0"], &format!("{HILL}\n")), 0);
+}
+
+#[test]
+fn the_segments_that_each_piece_replaces() {
+    let with = HILL_CHAIN.replace(" 241 469", " 0 1 241 469") + " 1 1";
+    assert_eq!(answers_to(&["chain", "--segments", "0", "--penalty", "16"], HILL), [with]);
+    assert_eq!(answers_to(&["chain", "0", "--segments"], "5 5 1 5 5 0 5 5 1"), ["unchanged 1"]);
+    assert_eq!(status(&["check", "0", "--segments"], ""), 2);
 }
 
 /// What `chain` answered as `check` reads it: the score and the pieces.

@@ -14,7 +14,8 @@ fn assert_refused(contour: &[Point], refusal: Refusal) {
 }
 
 fn some_chain() -> Chain {
-    Chain { pieces: vec![Piece { start: 0, end: 1, control: (0.0, 0.0) }], score: 1.0, pairs: 1 }
+    let pieces = vec![Piece { start: 0, end: 1, control: (0.0, 0.0) }];
+    Chain { pieces, score: 1.0, pairs: 1, segments: vec![] }
 }
 
 #[test]

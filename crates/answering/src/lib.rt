@@ -44,7 +44,7 @@ fn put_full(
     let mut oy = [0i16; 16384];
     let mut of = [0u8; 16384];
     let mut samples = [[0.0; 4]; 16384];
-    let mut breaks = [[0.0; 5]; 2048];
+    let mut breaks = [[0.0; 6]; 2048];
     let mut answers = [[0.0; 3]; 4096];
     let mut links = [0u32; 4096];
     let mut points = [[0i16; 3]; 16384];
@@ -91,7 +91,7 @@ fn put_small(
     let mut oy = [0i16; 1024];
     let mut of = [0u8; 1024];
     let mut samples = [[0.0; 4]; 256];
-    let mut breaks = [[0.0; 5]; 512];
+    let mut breaks = [[0.0; 6]; 512];
     let mut answers = [[0.0; 3]; 1024];
     let mut links = [0u32; 1024];
     let mut points = [[0i16; 3]; 1024];

@@ -1,3 +1,3 @@
 -- What the proofs share. `WholeUnits` has theorems for a reader, the chains and the optimiser: no proof of a function uses it.
-mod Laws
+pub mod Laws
 pub mod WholeUnits

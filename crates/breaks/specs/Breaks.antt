@@ -44,7 +44,7 @@ abbrev pub Row : Type 0
 Row = List (List Float)
 
 abbrev pub packedOf : Break → List Float
-packedOf b = b .s ∷ b .xy .x ∷ b .xy .y ∷ b .dir .x ∷ b .dir .y ∷ []
+packedOf b = b .s ∷ b .xy .x ∷ b .xy .y ∷ b .dir .x ∷ b .dir .y ∷ nil ∷ []
 
 abbrev pub unpackedOf : List Float → Break
 unpackedOf r = record {

@@ -85,14 +85,14 @@ impl Grid {
     }
 }
 
-fn packed(b: Break) -> [f64; 5]
+fn packed(b: Break) -> [f64; 6]
     ensures { λ r. ⌜ r ≡ packedOf b ⌝ }
 {
-    [b.s, b.xy.x, b.xy.y, b.dir.x, b.dir.y]
+    [b.s, b.xy.x, b.xy.y, b.dir.x, b.dir.y, 0.0]
 }
 
 // Break i of a row.
-pub fn read(row: &[[f64; 5]], i: usize) -> Break
+pub fn read(row: &[[f64; 6]], i: usize) -> Break
     requires { ⌜ i < length (now row) ⌝ }
     ensures { λ r. ⌜ r ≡ breakAt (now (row .entry)) i ⌝ }
 {
@@ -129,7 +129,7 @@ fn place(samples: &[[f64; 4]], g: Grid, s: f64) -> Placed
 }
 
 // Whether a place opens a break: the first does, and one that is not close to the last of n.
-fn opens(row: &[[f64; 5]], n: usize, p: Point) -> bool
+fn opens(row: &[[f64; 6]], n: usize, p: Point) -> bool
     requires { ⌜ n ≤ length (now row) ⌝ }
     ensures { λ r. ⌜ r ≡ opens (take n (now (row .entry))) p ⌝ }
 {
@@ -140,7 +140,7 @@ fn opens(row: &[[f64; 5]], n: usize, p: Point) -> bool
     if p.is_close(b.xy) { false } else { true }
 }
 
-fn push(row: &mut [[f64; 5]], n: usize, b: Break, dist: f64) -> Joined
+fn push(row: &mut [[f64; 6]], n: usize, b: Break, dist: f64) -> Joined
     requires { ⌜ n ≤ length (now row) ⌝ }
     ensures row { λ r. ⌜ opened (length (now (row .entry))) (take n (now (row .entry))) b dist ≡ joinedIn (now (row .exit)) r ⌝ }
     ensures count { λ r. ⌜ countJoined r ≤ length (now (row .entry)) ⌝ }
@@ -156,7 +156,7 @@ fn push(row: &mut [[f64; 5]], n: usize, b: Break, dist: f64) -> Joined
 }
 
 // A break that the next place would be.
-fn join(row: &mut [[f64; 5]], p: Progress, b: Break, dist: f64) -> Joined
+fn join(row: &mut [[f64; 6]], p: Progress, b: Break, dist: f64) -> Joined
     requires { ⌜ p .count ≤ length (now row) ⌝ }
     ensures row { λ r. ⌜ joinOf (length (now (row .entry))) (take (p .count) (now (row .entry))) (p .opened) b dist ≡ joinedIn (now (row .exit)) r ⌝ }
     ensures count { λ r. ⌜ countJoined r ≤ length (now (row .entry)) ⌝ }
@@ -173,7 +173,7 @@ fn join(row: &mut [[f64; 5]], p: Progress, b: Break, dist: f64) -> Joined
 }
 
 // One place more.
-fn advance(row: &mut [[f64; 5]], p: Progress, next: Placed) -> Joined
+fn advance(row: &mut [[f64; 6]], p: Progress, next: Placed) -> Joined
     requires { ⌜ p .count ≤ length (now row) ⌝ }
     ensures row { λ r. ⌜ stepped (length (now (row .entry))) (so (take (p .count) (now (row .entry))) (p .opened)) next ≡ joinedIn (now (row .exit)) r ⌝ }
     ensures count { λ r. ⌜ countJoined r ≤ length (now (row .entry)) ⌝ }
@@ -185,7 +185,7 @@ fn advance(row: &mut [[f64; 5]], p: Progress, next: Placed) -> Joined
     }
 }
 
-pub fn find_breaks(samples: &[[f64; 4]], len: f64, g: Grid, row: &mut [[f64; 5]]) -> Breaks
+pub fn find_breaks(samples: &[[f64; 4]], len: f64, g: Grid, row: &mut [[f64; 6]]) -> Breaks
     ensures row { λ r. ⌜ breaksOf (length (now (row .entry))) (now (samples .entry)) g len ≡ breaksIn (now (row .exit)) r ⌝ }
     ensures count { λ r. ⌜ countFound r ≤ length (now (row .entry)) ⌝ }
 {

@@ -39,7 +39,7 @@ pub enum Checked {
 
 pub fn check(
     samples: &[[f64; 4]],
-    breaks: &[[f64; 5]],
+    breaks: &[[f64; 6]],
     starts: &[u32],
     ends: &[u32],
     xs: &[f64],

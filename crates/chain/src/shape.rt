@@ -38,7 +38,7 @@ pub fn read(starts: &[u32], ends: &[u32], xs: &[f64], ys: &[f64], i: usize) -> P
     }
 }
 
-pub fn quad_of(breaks: &[[f64; 5]], p: Piece) -> Quad
+pub fn quad_of(breaks: &[[f64; 6]], p: Piece) -> Quad
     requires { ⌜ (p .from < length (now breaks)) × (p .to < length (now breaks)) ⌝ }
     ensures { λ r. ⌜ r ≡ quadOf (now (breaks .entry)) p ⌝ }
 {
@@ -89,7 +89,7 @@ fn stays(starts: &[u32], ends: &[u32]) -> bool
     ends[0] == 0
 }
 
-fn are_valid(breaks: &[[f64; 5]], starts: &[u32], ends: &[u32], xs: &[f64], ys: &[f64]) -> bool
+fn are_valid(breaks: &[[f64; 6]], starts: &[u32], ends: &[u32], xs: &[f64], ys: &[f64]) -> bool
     requires { ⌜ (0 < length (now breaks)) × (evenRows (now starts) (now ends) (now xs) (now ys) ≡ true) ⌝ }
     requires { ⌜ joined (length (now breaks) - 1) (chainOf (now starts) (now ends) (now xs) (now ys)) ≡ true ⌝ }
     ensures { λ r. ⌜ r ≡ validFrom (now (breaks .entry)) Start (chainOf (now (starts .entry)) (now (ends .entry)) (now (xs .entry)) (now (ys .entry))) ⌝ }
@@ -119,7 +119,7 @@ fn joins(starts: &[u32], ends: &[u32], n: usize) -> bool
     leads(starts, ends, n)
 }
 
-pub fn is_good(breaks: &[[f64; 5]], starts: &[u32], ends: &[u32], xs: &[f64], ys: &[f64]) -> bool
+pub fn is_good(breaks: &[[f64; 6]], starts: &[u32], ends: &[u32], xs: &[f64], ys: &[f64]) -> bool
     requires { ⌜ (0 < length (now breaks)) × (evenRows (now starts) (now ends) (now xs) (now ys) ≡ true) ⌝ }
     ensures { λ r. ⌜ r ≡ goodShape (now (breaks .entry)) (chainOf (now (starts .entry)) (now (ends .entry)) (now (xs .entry)) (now (ys .entry))) ⌝ }
 {

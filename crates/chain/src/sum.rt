@@ -27,7 +27,7 @@ fn joint(before: Before, q: Quad) -> f64
 
 pub fn sum(
     samples: &[[f64; 4]],
-    breaks: &[[f64; 5]],
+    breaks: &[[f64; 6]],
     starts: &[u32],
     ends: &[u32],
     xs: &[f64],

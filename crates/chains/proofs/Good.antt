@@ -23,13 +23,12 @@ use Rattle.optimize.specs.Optimize.{measureBy}
 use Rattle.optimize.specs.Trace.{lastScores, Least}
 use Rattle.optimize.proofs.Good.{how-good}
 use Rattle.pieces.specs.Pieces.{piecesOf}
-use Rattle.pieces.specs.Slots.{Chain, roomOf}
 use Rattle.refusals.specs.declared.Judged.{Judged}
 use Rattle.refusals.specs.declared.Judged.the-variants as Judged
 use Rattle.rows.specs.Lent.{inputs}
 use Rattle.rows.specs.Rows.{Work}
 use Rattle.chains.specs.Chains.{Outcome, refused, unchanged, chained, overIf, written, ofRun, afterJudging, chainOf}
-use Rattle.chains.specs.Entry.{answerOf, wholeOf}
+use Rattle.chains.specs.Entry.{Rows, roomIn, answerOf, wholeOf}
 use Rattle.chains.specs.Good.{Good, ChainGood, ReportsGood}
 use Rattle.chains.specs.declared.Chained as C
 use Rattle.chains.specs.declared.Chained.the-variants as Chained
@@ -92,13 +91,13 @@ isPieces (Chained.Refused k) = 0
 isPieces (Chained.Unchanged p) = 0
 isPieces (Chained.Pieces n s p) = 1
 
-module _ (xs ys : List ℤ) (fs : List ℕ) (settings : Settings) (k : ℕ) (c : Chain) (w : Work) (n : ℕ) (score : Float) (pairs : ℕ) where
+module _ (xs ys : List ℤ) (fs : List ℕ) (settings : Settings) (k : ℕ) (c : Rows) (w : Work) (n : ℕ) (score : Float) (pairs : ℕ) where
   answer-good : (o : Outcome) → wholeOf (inputs xs ys fs) settings k c w ≡ o → answerOf o ≡ Chained.Pieces n score pairs → Good (roomsOf w) settings xs ys fs k score
   answer-good (refused m) e h = absurd (omega (arith, ap isPieces h))
   answer-good (unchanged p) e h = absurd (omega (arith, ap isPieces h))
   answer-good (chained ps s p) e h =
       let same : s ≡ score = cc in
-      subst (Good (roomsOf w) settings xs ys fs k) same (chain-good (roomsOf w) (roomOf c) settings xs ys fs k ps s p e)
+      subst (Good (roomsOf w) settings xs ys fs k) same (chain-good (roomsOf w) (roomIn c) settings xs ys fs k ps s p e)
 
 pub reports-good : ReportsGood
 reports-good xs ys fs settings k c w n score pairs e = answer-good xs ys fs settings k c w n score pairs _ refl e

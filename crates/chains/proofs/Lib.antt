@@ -1,3 +1,5 @@
 -- What the proofs share.
+mod Spans
 mod Steps
 pub mod Good
+pub mod Own

@@ -1,20 +1,29 @@
 -- What the chain entry makes of what its steps hand on. Assumes nothing.
-use Prim.Native.Nat.{ℕ, _<_}
+use Prim.Native.Nat.{ℕ, min, _≤_, _<_}
 use native.Mathlib.Omega.{arith}
 use mathlib.Core.Bool.{Bool, true, false}
-use mathlib.Core.List.{List, []}
+use mathlib.Core.List.{List, [], map}
 use mathlib.Core.Path.{_≡_, refl, sym, ap, subst, _∙_}
+use borrow.Author.Tests.{ltb-false}
 use lib.Dec.{ltb}
 use lib.Ieee.{Float, nan}
 use lib.IntN.{ℤ}
 use lib.ListN.{length, getD, take}
+use Rattle.refusals.specs.Accepted.{accepted}
+use Rattle.refusals.specs.Refusals.{judged}
 use Rattle.refusals.specs.declared.Judged.{Judged}
+use Rattle.refusals.specs.declared.Judged.the-variants as Judged
 use Rattle.runs.specs.Runs.{numberedRun}
 use Rattle.runs.specs.declared.Run.{Run}
+use Rattle.runs.specs.declared.Run.the-variants.{Between}
 use Rattle.breaks.specs.Breaks.{Row}
 use Rattle.breaks.specs.declared.Grid.{Grid}
-use Rattle.settings.specs.Settings.{gridOf, penaltyOf, judgedFor}
+use Rattle.settings.specs.Settings.{gridOf, penaltyOf, thenSettings, judgedFor}
 use Rattle.settings.specs.declared.Settings.{Settings}
+use Rattle.contour.specs.Output.{front}
+use Rattle.segments.specs.Segments.{carried}
+use Rattle.survey.specs.Survey.{Survey, surveyOf, surveyIn}
+use Rattle.survey.specs.declared.Surveyed as Y
 use Rattle.optimize.specs.Answers.{Answer, scoreOf}
 use Rattle.optimize.specs.Stored.{Anywhere, Holds, starts, follows}
 use Rattle.chain.specs.declared.Piece.{Piece}
@@ -29,8 +38,11 @@ use Rattle.pieces.specs.declared.Put as D
 use Rattle.pieces.specs.declared.Put.the-variants as Put
 use Rattle.pieces.proofs.Within.{solved-within}
 use Rattle.chains.specs.Chains.{Outcome, overIf, written, ofRun, afterJudging, chainOf}
-use Rattle.chains.specs.Entry.{answerOf, rowsOf}
+use Rattle.chains.specs.Determine.{front-places}
+use Rattle.chains.specs.Entry.{Rows, rows, roomIn, answerOf, rowsOf}
+use Rattle.chains.specs.Spans.{spanOf, spansFrom, rowOf, breaksOf, breaksAt}
 use Rattle.chains.specs.Steps.{Handed, handed, handing, Readable}
+use Rattle.chains.proofs.Spans.{spans-of}
 use Rattle.chains.specs.declared.Chained as C
 use Rattle.chains.specs.declared.Chained.the-variants as Chained
 
@@ -48,25 +60,73 @@ module _ {breaks : Row} {answers : List (List Float)} {links : List ℕ} where
 pub in-answers : {answers : List (List Float)} {links : List ℕ} {k : ℕ} → Held answers links k → k < length answers
 in-answers h = held-in-answers (h .stored .holds)
 
--- what `put_solved` makes of the answer of `put_chain`
-abbrev pub answering : Float → ℕ → D.Put → C.Chained
-answering s p Put.Over = Chained.Refused 9
-answering s p (Put.Pieces n) = Chained.Pieces n s p
+-- what `put_chain` says: it wrote nothing, or so many pieces as there are, which have room
+record Fits (most : ℕ) (ps : List Piece) (c c' : Chain) (n : ℕ) : Type 0 where
+  room : ltb (min most (roomOf c)) (length ps) ≡ false
+  many : n ≡ length ps
+  is : c' ≡ P.chained ps c
 
-abbrev handedBy : Float → ℕ → P.Left → Handed
-handedBy s p (P.left r c) = handed (answering s p r) c
+abbrev written-in : P.Left → ℕ
+written-in (P.left Put.Over c) = 0
+written-in (P.left (Put.Pieces n) c) = n
 
-handed-if : (over : Bool) (ps : List Piece) (c : Chain) (s : Float) (p : ℕ) → handedBy s p (putIf over ps c) ≡ handing (overIf over ps s p) c
-handed-if true ps c s p = refl
-handed-if false ps c s p = refl
+abbrev fits-in : P.Left → ℕ
+fits-in (P.left Put.Over c) = 0
+fits-in (P.left (Put.Pieces n) c) = 1
 
-pub put-handed : (a : Answer) (c c' : Chain) (p : ℕ) {r q : D.Put} {s : Float} → putOf (piecesOf a) c ≡ P.left r c' → r ≡ q → s ≡ scoreOf a →
-    handed (answering s p q) c' ≡ handing (written (roomOf c) (E.solved a p)) c
-unfolding putOf
-put-handed a c c' p e is score =
-    rw (score, ← is)
-    (ap (handedBy (scoreOf a) p) (sym e)
-    ∙ handed-if (ltb (roomOf c) (length (piecesOf a))) (piecesOf a) c (scoreOf a) p)
+abbrev chain-in : P.Left → Chain
+chain-in (P.left r c) = c
+
+module _ (most : ℕ) (ps : List Piece) (c c' : Chain) {r : D.Put} (e : putOf most ps c ≡ P.left r c') where
+  said : {q : D.Put} → r ≡ q → putIf (ltb (min most (roomOf c)) (length ps)) ps c ≡ P.left q c'
+  unfolding putOf
+  said is = e ∙ ap (λ (q : D.Put). P.left q c') is
+
+  fits : {n : ℕ} → r ≡ Put.Pieces n → Fits most ps c c' n
+  fits {n} is = by (ltb (min most (roomOf c)) (length ps)) refl (said is)
+    where
+      by : (t : Bool) → ltb (min most (roomOf c)) (length ps) ≡ t → putIf t ps c ≡ P.left (Put.Pieces n) c' → Fits most ps c c' n
+      by true t f = absurd (omega (arith, ap fits-in f))
+      by false t f = record { room = t; many = sym (ap written-in f); is = sym (ap chain-in f) }
+
+  over : r ≡ Put.Over → (ltb (min most (roomOf c)) (length ps) ≡ true) × (c' ≡ c)
+  over is = by (ltb (min most (roomOf c)) (length ps)) refl (said is)
+    where
+      by : (t : Bool) → ltb (min most (roomOf c)) (length ps) ≡ t → putIf t ps c ≡ P.left Put.Over c' →
+          (ltb (min most (roomOf c)) (length ps) ≡ true) × (c' ≡ c)
+      by true t f = (t, sym (ap chain-in f))
+      by false t f = absurd (omega (arith, ap fits-in f))
+
+-- each row has a place for so many
+pub has-room : (most : ℕ) (a : Answer) (st en : List ℕ) (xs ys : List Float) (c' : Chain) {r : D.Put} {n : ℕ} → putOf most (piecesOf a) (P.chain st en xs ys) ≡ P.left r c' →
+    r ≡ Put.Pieces n → (n ≤ length st) × (n ≤ length en) × (n ≤ most)
+has-room most a st en xs ys c' e is =
+    let f = fits most (piecesOf a) (P.chain st en xs ys) c' e is in
+    let fit : length (piecesOf a) ≤ min most (roomOf (P.chain st en xs ys)) = ltb-false _ _ (f .room) in
+    let many = f .many in
+    (omega (arith, fit, many), omega (arith, fit, many), omega (arith, fit, many))
+
+module _ (a : Answer) (breaks : Row) (c : Chain) (spans : List (List ℕ)) (p : ℕ) where
+  pub put-nothing : (c' : Chain) {r : D.Put} → putOf (length spans) (piecesOf a) c ≡ P.left r c' → r ≡ Put.Over →
+      handed (Chained.Refused 9) (rows c' spans) ≡ handing (written (roomIn (rows c spans)) (E.solved a p)) breaks (rows c spans)
+  put-nothing c' e is =
+      let o = over (length spans) (piecesOf a) c c' e is in
+      rw (o .0, o .1) refl
+
+  pub put-pieces : (st en : List ℕ) (xs ys : List Float) {spans' : List (List ℕ)} {r : D.Put} {n : ℕ} {s : Float} →
+      putOf (length spans) (piecesOf a) c ≡ P.left r (P.chain st en xs ys) → r ≡ Put.Pieces n →
+      spans' ≡ front (spansFrom breaks (take n st) (take n en)) spans → s ≡ scoreOf a →
+      handed (Chained.Pieces n s p) (rows (P.chain st en xs ys) spans') ≡ handing (written (roomIn (rows c spans)) (E.solved a p)) breaks (rows c spans)
+  put-pieces st en xs ys e is put score =
+      let f = fits (length spans) (piecesOf a) c (P.chain st en xs ys) e is in
+      rw (f .room, score, put, f .many, places c st en xs ys (f .is), f .is) refl
+    where
+      places : (d : Chain) (st en : List ℕ) (xs ys : List Float) → P.chain st en xs ys ≡ P.chained (piecesOf a) d →
+          spansFrom breaks (take (length (piecesOf a)) st) (take (length (piecesOf a)) en) ≡ map (spanOf breaks) (piecesOf a)
+      places (P.chain st₀ en₀ xs₀ ys₀) st en xs ys is =
+          let s : st ≡ front (map (λ (p : Piece). p .from) (piecesOf a)) st₀ = cc in
+          let t : en ≡ front (map (λ (p : Piece). p .to) (piecesOf a)) en₀ = cc in
+          rw (s, t, front-places (λ (p : Piece). p .from) (piecesOf a) st₀, front-places (λ (p : Piece). p .to) (piecesOf a) en₀) (spans-of breaks (piecesOf a))
 
 -- ---- the work on a run
 
@@ -101,52 +161,76 @@ module _ {penalty : Float} {breaks : Row} {answers : List (List Float)} {links :
   }
 
   -- what is handed on of each answer that the rows may hold is handed on of the run's
-  pub works-handed : (room : ℕ) (c : Chain) {x : Result} {w : W.Worked} {n k p : ℕ} {h : Handed} → Works penalty breaks answers links x w → w ≡ Worked.Done n k p →
-      ((b : Row) (a : Answer) → Holds Anywhere b answers links k a → h ≡ handing (written room (E.solved a p)) c) →
-      h ≡ handing (written room x) c
-  works-handed room c (E.no e) is each = absurd (omega (arith, ap kind (sym e ∙ is)))
-  works-handed room c (E.stays e) is each = absurd (omega (arith, ap kind (sym e ∙ is)))
-  works-handed room c (E.holds {n = m} {a = a} samples e few fine by held) is each =
+  pub works-handed : (room : ℕ) (row : Row) (c : Rows) {x : Result} {w : W.Worked} {n k p : ℕ} {h : Handed} → Works penalty breaks answers links x w →
+      w ≡ Worked.Done n k p → ((b : Row) (a : Answer) → Holds Anywhere b answers links k a → h ≡ handing (written room (E.solved a p)) row c) →
+      h ≡ handing (written room x) row c
+  works-handed room row c (E.no e) is each = absurd (omega (arith, ap kind (sym e ∙ is)))
+  works-handed room row c (E.stays e) is each = absurd (omega (arith, ap kind (sym e ∙ is)))
+  works-handed room row c (E.holds {n = m} {a = a} samples e few fine by held) is each =
       each (take m breaks) a (subst (λ (j : ℕ). Holds Anywhere (take m breaks) answers links j a) (ap slotIn (sym e ∙ is)) held)
-      ∙ ap (λ (q : ℕ). handing (written room (E.solved a q)) c) (sym (ap numberIn (sym e ∙ is)))
+      ∙ ap (λ (q : ℕ). handing (written room (E.solved a q)) row c) (sym (ap numberIn (sym e ∙ is)))
 
 pub readable-held : {answers : List (List Float)} {links : List ℕ} {w : W.Worked} {n k p : ℕ} → Readable answers links w → w ≡ Worked.Done n k p → Held answers links k
 readable-held r is = works-held (r .works) is
 
 -- ---- a run, and a contour
 
-module _ (rooms : Rooms) (settings : Settings) (c : Chain) (xs ys : List ℤ) (fs : List ℕ) {h : Handed} where
-  pub chosen : (first count : ℕ) {g : Grid} {penalty : Float} → g ≡ gridOf settings → penalty ≡ penaltyOf settings →
-      h ≡ handing (written (roomOf c) (workOf rooms g penalty xs ys fs first count)) c →
-      h ≡ handing (written (roomOf c) (workOf rooms (gridOf settings) (penaltyOf settings) xs ys fs first count)) c
-  chosen first count {g} {penalty} e f is =
+pub of-breaks : (o : Outcome) (c : Rows) {h : Handed} {row row' : Row} → h ≡ handing o row c → row ≡ row' → h ≡ handing o row' c
+of-breaks o c is e = is ∙ ap (λ (b : Row). handing o b c) e
+
+module _ (rooms : Rooms) (settings : Settings) (c : Rows) (xs ys : List ℤ) (fs : List ℕ) where
+  abbrev ranOf : Float → Survey → Outcome
+  ranOf penalty s = written (roomIn c) (E.afterSurvey (rooms .answers) (rooms .links) penalty s)
+
+  abbrev runOf : Run → Outcome
+  runOf r = ofRun rooms (roomIn c) settings xs ys fs r
+
+  -- what becomes of a run, by its survey
+  pub survey-handed : (first count : ℕ) {g : Grid} {penalty : Float} (samples : List (List Float)) (breaks : Row) {r s : Y.Surveyed} {h : Handed} →
+      g ≡ gridOf settings → penalty ≡ penaltyOf settings →
+      surveyOf (rooms .samples) (rooms .breaks) xs ys fs first count g ≡ surveyIn samples breaks r → r ≡ s →
+      h ≡ handing (ranOf penalty (surveyIn samples breaks s)) (carried xs ys fs first count (rowOf (surveyIn samples breaks s))) c →
+      h ≡ handing (runOf (Between first count)) (breaksOf rooms settings xs ys fs (Between first count)) c
+  unfolding workOf
+  survey-handed first count {g} {penalty} samples breaks {r} {s} grid per-piece e as-s is =
+      let survey = ap (surveyOf (rooms .samples) (rooms .breaks) xs ys fs first count) (sym grid) ∙ e ∙ ap (surveyIn samples breaks) as-s in
       is
-      ∙ ap (λ (g : Grid). handing (written (roomOf c) (workOf rooms g penalty xs ys fs first count)) c) e
-      ∙ ap (λ (p : Float). handing (written (roomOf c) (workOf rooms (gridOf settings) p xs ys fs first count)) c) f
+      ∙ ap (λ (f : Float). handing (ranOf f (surveyIn samples breaks s)) (carried xs ys fs first count (rowOf (surveyIn samples breaks s))) c) per-piece
+      ∙ ap (λ (y : Survey). handing (ranOf (penaltyOf settings) y) (carried xs ys fs first count (rowOf y)) c) (sym survey)
 
-  pub numbered-handed : (k : ℕ) {r s : Run} → r ≡ numberedRun (settings .closed) xs ys fs k → r ≡ s → h ≡ handing (ofRun rooms (roomOf c) settings xs ys fs s) c →
-      h ≡ handing (ofRun rooms (roomOf c) settings xs ys fs (numberedRun (settings .closed) xs ys fs k)) c
-  numbered-handed k e as-s is = is ∙ ap (λ (r : Run). handing (ofRun rooms (roomOf c) settings xs ys fs r) c) (sym as-s ∙ e)
+  pub numbered-handed : (k : ℕ) {r s : Run} {h : Handed} → r ≡ numberedRun (settings .closed) xs ys fs k → r ≡ s →
+      h ≡ handing (runOf s) (breaksOf rooms settings xs ys fs s) c →
+      h ≡ handing (runOf (numberedRun (settings .closed) xs ys fs k)) (breaksAt rooms settings xs ys fs k) c
+  numbered-handed k e as-s is = is ∙ ap (λ (r : Run). handing (runOf r) (breaksOf rooms settings xs ys fs r) c) (sym as-s ∙ e)
 
-  pub judged-handed : (k : ℕ) {r s : Judged} → r ≡ judgedFor settings xs ys fs → r ≡ s →
-      h ≡ handing (afterJudging s (ofRun rooms (roomOf c) settings xs ys fs (numberedRun (settings .closed) xs ys fs k))) c →
-      h ≡ handing (chainOf rooms (roomOf c) settings xs ys fs k) c
+  pub judged-handed : (k : ℕ) {r s : Judged} {h : Handed} → r ≡ judgedFor settings xs ys fs → r ≡ s →
+      h ≡ handing (afterJudging s (runOf (numberedRun (settings .closed) xs ys fs k))) (breaksAt rooms settings xs ys fs k) c →
+      h ≡ handing (chainOf rooms (roomIn c) settings xs ys fs k) (breaksAt rooms settings xs ys fs k) c
   unfolding chainOf
   judged-handed k e as-s is =
       is
-      ∙ ap (λ (r : Judged). handing (afterJudging r (ofRun rooms (roomOf c) settings xs ys fs (numberedRun (settings .closed) xs ys fs k))) c) (sym as-s ∙ e)
+      ∙ ap (λ (r : Judged). handing (afterJudging r (runOf (numberedRun (settings .closed) xs ys fs k))) (breaksAt rooms settings xs ys fs k) c) (sym as-s ∙ e)
+
+-- what is judged fine has at most 1,024 points
+pub few-points : (settings : Settings) (xs ys : List ℤ) (fs : List ℕ) {r : Judged} → r ≡ judgedFor settings xs ys fs → r ≡ Judged.Fine → length fs ≤ 1024
+unfolding judgedFor
+few-points settings xs ys fs e is = accepted xs ys fs (by (judged xs ys fs) (sym e ∙ is)) .few
+  where
+    by : (j : Judged) → thenSettings settings j ≡ Judged.Fine → j ≡ Judged.Fine
+    by (Judged.Refused k) h = h
+    by Judged.Fine h = refl
 
 -- ---- the entry
 
 abbrev answerIn : Handed → C.Chained
 answerIn (handed r c) = r
 
-abbrev rowsIn : Handed → Chain
+abbrev rowsIn : Handed → Rows
 rowsIn (handed r c) = c
 
-module _ (o : Outcome) (c : Chain) {r : C.Chained} {c' : Chain} (e : handed r c' ≡ handing o c) where
+module _ (o : Outcome) (breaks : Row) (c : Rows) {r : C.Chained} {c' : Rows} (e : handed r c' ≡ handing o breaks c) where
   pub answer-is : r ≡ answerOf o
   answer-is = ap answerIn e
 
-  pub rows-are : c' ≡ rowsOf o c
+  pub rows-are : c' ≡ rowsOf o breaks c
   rows-are = ap rowsIn e

@@ -17,13 +17,12 @@ use Rattle.edition.specs.Scratch.{roomsOf}
 use Rattle.runs.specs.Runs.{numberedRun}
 use Rattle.optimize.specs.Optimize.{measureBy}
 use Rattle.optimize.specs.Trace.{lastScores, Least}
-use Rattle.pieces.specs.Slots.{Chain}
 use Rattle.rows.specs.Lent.{inputs}
 use Rattle.rows.specs.Rows.{Work}
 use Rattle.samples.specs.Samples.{Sample}
 use Rattle.survey.specs.Survey.{surveyOf, surveyed}
 use Rattle.chains.specs.Chains.{chained, chainOf}
-use Rattle.chains.specs.Entry.{answerOf, wholeOf}
+use Rattle.chains.specs.Entry.{Rows, answerOf, wholeOf}
 use Rattle.chains.specs.declared.Chained.the-variants as Chained
 
 -- of run k: its survey, and the score among those of the attempts
@@ -45,5 +44,5 @@ ChainGood =
 
 abbrev pub ReportsGood : Type 0
 ReportsGood =
-    (xs ys : List ℤ) (fs : List ℕ) (settings : Settings) (k : ℕ) (c : Chain) (w : Work) (n : ℕ) (score : Float) (pairs : ℕ) →
+    (xs ys : List ℤ) (fs : List ℕ) (settings : Settings) (k : ℕ) (c : Rows) (w : Work) (n : ℕ) (score : Float) (pairs : ℕ) →
     answerOf (wholeOf (inputs xs ys fs) settings k c w) ≡ Chained.Pieces n score pairs → Good (roomsOf w) settings xs ys fs k score

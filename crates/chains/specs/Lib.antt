@@ -1,4 +1,5 @@
 pub mod Chains
+pub mod Spans
 pub mod Determine
 pub mod Entry
 pub mod Steps

@@ -6,21 +6,20 @@ use lib.Ieee.{Float}
 use Rattle.breaks.specs.Breaks.{Row}
 use Rattle.edition.specs.Edition.{Result, Works}
 use Rattle.edition.specs.declared.Worked as W
-use Rattle.pieces.specs.Slots.{Chain}
 use Rattle.chains.specs.Chains.{Outcome}
-use Rattle.chains.specs.Entry.{answerOf, rowsOf, LentChain}
+use Rattle.chains.specs.Entry.{Rows, answerOf, rowsOf, LentChain}
 use Rattle.chains.specs.declared.Chained as C
 
 -- the answer, and the chain's rows
 pub data Handed : Type 0 where
-  handed : C.Chained → Chain → Handed
+  handed : C.Chained → Rows → Handed
 
-abbrev pub handing : Outcome → Chain → Handed
-handing o c = handed (answerOf o) (rowsOf o c)
+abbrev pub handing : Outcome → Row → Rows → Handed
+handing o breaks c = handed (answerOf o) (rowsOf o breaks c)
 
--- what is handed back for an outcome, with the chain's rows
-abbrev pub Hands : Outcome → LentChain → C.Chained → Type 0
-Hands o c r = handed r (c .exit) ≡ handing o (c .entry)
+-- what is handed back for an outcome and the breaks of its run, with the chain's rows
+abbrev pub Hands : Outcome → Row → LentChain → C.Chained → Type 0
+Hands o breaks c r = handed r (c .exit) ≡ handing o breaks (c .entry)
 
 -- the rows hold what the work on a run says of them
 pub record Readable (answers : List (List Float)) (links : List ℕ) (worked : W.Worked) : Type 0 where

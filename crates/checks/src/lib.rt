@@ -27,7 +27,7 @@ pub enum Verdict {
 // A surveyed run; half: half the shortest answer row, a room for breaks.
 fn check_surveyed(
     samples: &[[f64; 4]],
-    breaks: &[[f64; 5]],
+    breaks: &[[f64; 6]],
     half: usize,
     settings: Settings,
     starts: &[u32],
@@ -74,7 +74,7 @@ fn check_run(
     half: usize,
     settings: Settings,
     samples: &mut [[f64; 4]],
-    breaks: &mut [[f64; 5]],
+    breaks: &mut [[f64; 6]],
 ) -> Verdict
     ensures { λ r. ⌜ r ≡ ofSurvey half (penaltyOf settings) (given starts ends cxs cys score)
         (surveyOf (room samples) (room breaks) (before xs) (before ys) (before flags) first count (gridOf settings)) ⌝ }
@@ -121,7 +121,7 @@ fn check_fine(
     half: usize,
     settings: Settings,
     samples: &mut [[f64; 4]],
-    breaks: &mut [[f64; 5]],
+    breaks: &mut [[f64; 6]],
 ) -> Verdict
     ensures { λ r. ⌜ r ≡ ofRun half settings (given starts ends cxs cys score)
         (room samples) (room breaks) (before xs) (before ys) (before flags) (numberedRun (settings .closed) (before xs) (before ys) (before flags) k) ⌝ }
@@ -162,7 +162,7 @@ fn check_judged(
     half: usize,
     settings: Settings,
     samples: &mut [[f64; 4]],
-    breaks: &mut [[f64; 5]],
+    breaks: &mut [[f64; 6]],
 ) -> Verdict
     ensures { λ r. ⌜ r ≡ afterJudging (judgedFor settings (before xs) (before ys) (before flags)) (ofRun half settings (given starts ends cxs cys score)
         (room samples) (room breaks) (before xs) (before ys) (before flags) (numberedRun (settings .closed) (before xs) (before ys) (before flags) k)) ⌝ }
@@ -201,7 +201,7 @@ pub fn check_chain(
     cys: &[f64],
     score: f64,
     samples: &mut [[f64; 4]],
-    breaks: &mut [[f64; 5]],
+    breaks: &mut [[f64; 6]],
     answers: &mut [[f64; 3]],
     links: &mut [u32],
 ) -> Verdict

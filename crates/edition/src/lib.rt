@@ -1,12 +1,9 @@
-// The work on one run: the survey, then the edition. The survey's rows are lent to the edition to be read
-// alone; it has answers and links of its own.
-use breaks::Grid;
+// An edition of a surveyed run. The survey's rows are lent to it to be read alone; it has answers and links of
+// its own.
 use optimize::Solved;
-use survey::Surveyed;
 ghost use mathlib.Core.Path.{_≡_};
 ghost use lib.ListN.{length};
-ghost use Rattle.edition.specs.Edition.{editionOf, workOf, Found, Works};
-ghost use Rattle.edition.specs.Scratch.{roomsIn};
+ghost use Rattle.edition.specs.Edition.{editionOf, Found, Works};
 
 pub enum Worked {
     // 6, 7 or 8
@@ -20,7 +17,7 @@ pub enum Worked {
 // Two stored answers a break: half the shortest answer row is a room for breaks.
 pub fn edition(
     samples: &[[f64; 4]],
-    breaks: &[[f64; 5]],
+    breaks: &[[f64; 6]],
     answers: &mut [[f64; 3]],
     links: &mut [u32],
     penalty: f64,
@@ -37,29 +34,5 @@ pub fn edition(
         Solved::Last => Worked::Refused(8),
         Solved::Unchanged(pairs) => Worked::Unchanged(pairs),
         Solved::Done(k, pairs) => Worked::Done(n, k, pairs),
-    }
-}
-
-// The run of `count` segments from segment `first` on.
-pub fn work_run(
-    xs: &[i16],
-    ys: &[i16],
-    flags: &[u8],
-    first: usize,
-    count: usize,
-    g: Grid,
-    penalty: f64,
-    samples: &mut [[f64; 4]],
-    breaks: &mut [[f64; 5]],
-    answers: &mut [[f64; 3]],
-    links: &mut [u32],
-) -> Worked
-    ensures { λ r. ⌜ Works penalty (now (breaks .exit)) (now (answers .exit)) (now (links .exit))
-        (workOf (roomsIn samples breaks answers links) g penalty (now (xs .entry)) (now (ys .entry)) (now (flags .entry)) first count) r ⌝ }
-{
-    match survey::survey(xs, ys, flags, first, count, g, samples, breaks) {
-        Surveyed::Refused(k) => Worked::Refused(k),
-        Surveyed::Past => Worked::Unchanged(0),
-        Surveyed::Rows(n, m) => edition(&samples[..n], &breaks[..m], answers, links, penalty),
     }
 }

@@ -4,7 +4,8 @@ use mathlib.Core.Path.{_≡_}
 use lib.ListN.{length}
 use Rattle.rows.specs.Rows.{work}
 use Rattle.contour.specs.Output.{outputs}
-use Rattle.pieces.specs.Slots.{chain, roomOf}
+use Rattle.pieces.specs.Slots.{chain}
+use Rattle.chains.specs.Entry.{rows, roomIn}
 use Rattle.edition.specs.Scratch.{roomsOf}
 use Rattle.crunch.specs.Determine.{Alike}
 use Rattle.fontcrunch.specs.Determine.{CrunchEqual, crunch-equal-orders, ChainEqual, chain-equal-orders, CheckSame, check-equal-orders}
@@ -37,21 +38,21 @@ crunch-says κs κs' xs ys flags penalty whole closed ox ox' oy oy' of of' s s' 
 pub chain-asks-nothing : (κs : _) (a : _) → chains.Pre κs a
 chain-asks-nothing κs a = tt
 
-pub chain-says : (κs κs' xs ys flags k penalty whole closed st st' en en' cx cx' cy cy' s s' b b' a a' l l' r r' x x' : _) →
-    chains.Post κs (xs, (ys, (flags, (k, (penalty, (whole, (closed, (st, (en, (cx, (cy, (s, (b, (a, (l, tt))))))))))))))) r x →
-    chains.Post κs' (xs, (ys, (flags, (k, (penalty, (whole, (closed, (st', (en', (cx', (cy', (s', (b', (a', (l', tt))))))))))))))) r' x' →
-    roomOf (chain (st .now) (en .now) (cx .now) (cy .now)) ≡ roomOf (chain (st' .now) (en' .now) (cx' .now) (cy' .now)) →
+pub chain-says : (κs κs' xs ys flags k penalty whole closed st st' en en' cx cx' cy cy' sp sp' s s' b b' a a' l l' r r' x x' : _) →
+    chains.Post κs (xs, (ys, (flags, (k, (penalty, (whole, (closed, (st, (en, (cx, (cy, (sp, (s, (b, (a, (l, tt)))))))))))))))) r x →
+    chains.Post κs' (xs, (ys, (flags, (k, (penalty, (whole, (closed, (st', (en', (cx', (cy', (sp', (s', (b', (a', (l', tt)))))))))))))))) r' x' →
+    roomIn (rows (chain (st .now) (en .now) (cx .now) (cy .now)) (sp .now)) ≡ roomIn (rows (chain (st' .now) (en' .now) (cx' .now) (cy' .now)) (sp' .now)) →
     roomsOf (work (s .now) (b .now) (a .now) (l .now)) ≡ roomsOf (work (s' .now) (b' .now) (a' .now) (l' .now)) →
     let c = x .1 .1 .1 .1 .1 .1 .1 in
     let c' = x' .1 .1 .1 .1 .1 .1 .1 in
-    let w = c .1 .1 .1 .1 in
-    let w' = c' .1 .1 .1 .1 in
+    let w = c .1 .1 .1 .1 .1 in
+    let w' = c' .1 .1 .1 .1 .1 in
     ChainEqual r r'
-    (chain (c .0 .now) (c .1 .0 .now) (c .1 .1 .0 .now) (c .1 .1 .1 .0 .now))
-    (chain (c' .0 .now) (c' .1 .0 .now) (c' .1 .1 .0 .now) (c' .1 .1 .1 .0 .now))
+    (rows (chain (c .0 .now) (c .1 .0 .now) (c .1 .1 .0 .now) (c .1 .1 .1 .0 .now)) (c .1 .1 .1 .1 .0 .now))
+    (rows (chain (c' .0 .now) (c' .1 .0 .now) (c' .1 .1 .0 .now) (c' .1 .1 .1 .0 .now)) (c' .1 .1 .1 .1 .0 .now))
     (work (w .0 .now) (w .1 .0 .now) (w .1 .1 .0 .now) (w .1 .1 .1 .0 .now))
     (work (w' .0 .now) (w' .1 .0 .now) (w' .1 .1 .0 .now) (w' .1 .1 .1 .0 .now))
-chain-says κs κs' xs ys flags k penalty whole closed st st' en en' cx cx' cy cy' s s' b b' a a' l l' r r' x x' said said' room rooms = chain-equal-orders room rooms said said'
+chain-says κs κs' xs ys flags k penalty whole closed st st' en en' cx cx' cy cy' sp sp' s s' b b' a a' l l' r r' x x' said said' room rooms = chain-equal-orders room rooms said said'
 
 -- ---- the checker's entry
 

@@ -29,7 +29,7 @@ use Rattle.edition.specs.Laws.{Optimal, work-solved}
 use Rattle.rows.specs.Lent.{Inputs, inputs}
 use Rattle.edition.specs.Scratch.{roomsOf}
 use Rattle.rows.specs.Rows.{Work}
-use Rattle.pieces.specs.Slots.{Chain, chain, roomOf}
+use Rattle.pieces.specs.Slots.{chain}
 use Rattle.chains.specs.Entry as ChainEntry
 use Rattle.chains.specs.Determine.{placesOf, chained-places}
 use Rattle.checks.specs.Entry as CheckEntry
@@ -148,23 +148,28 @@ module _ (rooms : Rooms) (room : ℕ) (settings : Settings) (xs ys : List ℤ) (
 
 -- ---- the entries: what the chain entry leaves in its rows, checked in scratch rows of the same lengths
 
--- four rows with a score
-abbrev pub givenBy : Chain → Float → Given
-givenBy (chain starts ends xs ys) score = record { starts = starts; ends = ends; xs = xs; ys = ys; score = score }
+-- four rows with a score: the checker does not look at the segments
+abbrev pub givenBy : ChainEntry.Rows → Float → Given
+givenBy (ChainEntry.rows (chain starts ends xs ys) spans) score = record { starts = starts; ends = ends; xs = xs; ys = ys; score = score }
 
-pub demand-three : (i : Inputs) (settings : Settings) (k : ℕ) (c : Chain) (w w' : Work) (ps : List Piece) (score : Float) (pairs : ℕ) → roomsOf w ≡ roomsOf w' →
-    ChainEntry.wholeOf i settings k c w ≡ chained ps score pairs →
-    CheckEntry.wholeOf i settings k (givenBy (placesOf (length ps) (ChainEntry.rowsOf (ChainEntry.wholeOf i settings k c w) c)) score) w' ≡ Verdict.Yes
+-- the rows that the chain entry leaves
+abbrev pub leftBy : Inputs → Settings → ℕ → ChainEntry.Rows → Work → ChainEntry.Rows
+leftBy i settings k c w = ChainEntry.rowsOf (ChainEntry.wholeOf i settings k c w) (ChainEntry.breaksIn i settings k w) c
+
+pub demand-three : (i : Inputs) (settings : Settings) (k : ℕ) (c : ChainEntry.Rows) (w w' : Work) (ps : List Piece) (score : Float) (pairs : ℕ) →
+    roomsOf w ≡ roomsOf w' → ChainEntry.wholeOf i settings k c w ≡ chained ps score pairs →
+    CheckEntry.wholeOf i settings k (givenBy (placesOf (length ps) (leftBy i settings k c w)) score) w' ≡ Verdict.Yes
 demand-three (inputs xs ys fs) settings k c w w' ps score pairs same e =
-    rw (e, chained-places ps c, sym same) (accepted-chain (roomsOf w) (roomOf c) settings xs ys fs ps score pairs k e)
+    rw (e, chained-places ps score pairs (ChainEntry.breaksIn (inputs xs ys fs) settings k w) c, sym same)
+    (accepted-chain (roomsOf w) (ChainEntry.roomIn c) settings xs ys fs ps score pairs k e)
 
 -- ---- one proof, read for each profile and each mode
 
 abbrev pub DemandThree : Settings → Type 0
 DemandThree settings =
-    (i : Inputs) (k : ℕ) (c : Chain) (w w' : Work) (ps : List Piece) (score : Float) (pairs : ℕ) → roomsOf w ≡ roomsOf w' →
+    (i : Inputs) (k : ℕ) (c : ChainEntry.Rows) (w w' : Work) (ps : List Piece) (score : Float) (pairs : ℕ) → roomsOf w ≡ roomsOf w' →
     ChainEntry.wholeOf i settings k c w ≡ chained ps score pairs →
-    CheckEntry.wholeOf i settings k (givenBy (placesOf (length ps) (ChainEntry.rowsOf (ChainEntry.wholeOf i settings k c w) c)) score) w' ≡ Verdict.Yes
+    CheckEntry.wholeOf i settings k (givenBy (placesOf (length ps) (leftBy i settings k c w)) score) w' ≡ Verdict.Yes
 
 pub on-half-units : (penalty closed : ℕ) → DemandThree (settingsOf penalty 0 closed)
 on-half-units penalty closed i = demand-three i (settingsOf penalty 0 closed)

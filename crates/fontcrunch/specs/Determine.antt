@@ -6,7 +6,6 @@ use Rattle.rows.specs.Rows.{Work}
 use Rattle.rows.specs.Lent.{Inputs, Shown}
 use Rattle.settings.specs.declared.Settings.{Settings}
 use Rattle.edition.specs.Scratch.{Scratch, roomsOf}
-use Rattle.pieces.specs.Slots.{Chain, roomOf}
 use Rattle.crunch.specs.Entry as Crunch
 use Rattle.crunch.specs.Determine as CrunchOnce
 use Rattle.chains.specs.Entry as Chains
@@ -52,7 +51,7 @@ crunch-equal-orders a p q =
 
 -- ---- the chain entry
 
-pub record ChainSame (r r' : ChainReport) (c c' : Chain) (w w' : Work) : Type 0 where
+pub record ChainSame (r r' : ChainReport) (c c' : Chains.Rows) (w w' : Work) : Type 0 where
   pub report : r ≡ r'
   pub rows : c ≡ c'
   pub work : w ≡ w'
@@ -65,14 +64,14 @@ chain-determined e f p q =
     let same = ChainsOnce.determined e f (p .shown .promise) (q .shown .promise) in
     record { report = shown-same (p .shown) (q .shown) (same .answer); rows = same .rows; work = same .work }
 
-pub record ChainEqual (r r' : ChainReport) (c c' : Chain) (w w' : Work) : Type 0 where
+pub record ChainEqual (r r' : ChainReport) (c c' : Chains.Rows) (w w' : Work) : Type 0 where
   pub report : r ≡ r'
   -- the places written
   pub written : ChainsOnce.placesOf (r .pieces) c ≡ ChainsOnce.placesOf (r .pieces) c'
   pub work : w ≡ w'
 
 pub chain-equal-orders : {i : Inputs} {settings : Settings} {k : ℕ} {c c' : Chains.LentChain} {w w' : Scratch} {r r' : ChainReport} →
-    roomOf (c .entry) ≡ roomOf (c' .entry) → roomsOf (w .entry) ≡ roomsOf (w' .entry) →
+    Chains.roomIn (c .entry) ≡ Chains.roomIn (c' .entry) → roomsOf (w .entry) ≡ roomsOf (w' .entry) →
     ChainShown (Chains.Promise i settings k c w) r → ChainShown (Chains.Promise i settings k c' w') r' →
     ChainEqual r r' (c .exit) (c' .exit) (w .exit) (w' .exit)
 chain-equal-orders room rooms p q =

@@ -10,6 +10,7 @@ use lib.Ieee.Bits.{ofBits-toBits}
 use lib.ListN.{length}
 use Rattle.rows.specs.Lent.{Inputs, Shown}
 use Rattle.settings.specs.declared.Settings.{Settings}
+use Rattle.breaks.specs.Breaks.{Row}
 use Rattle.edition.specs.Scratch.{Scratch, roomsOf}
 use Rattle.chains.specs.Chains.{Outcome, refused, unchanged, chained}
 use Rattle.chains.specs.Entry as Chains
@@ -36,6 +37,9 @@ module _ {i : Inputs} {settings : Settings} {k : ℕ} {c : Chains.LentChain} {w 
   abbrev pub whole : Outcome
   whole = Chains.wholeOf i settings k (c .entry) (w .entry)
 
+  abbrev breaks : Row
+  breaks = Chains.breaksIn i settings k (w .entry)
+
   pieces-are : (o : Outcome) → whole ≡ o → r .pieces ≡ Chains.report (Chains.answerOf o) .pieces
   pieces-are o e =
       ap (λ (x : ChainReport). x .pieces) (said .shown .is) ∙ ap (λ (a : Chained). Chains.report a .pieces) (said .shown .promise .answer ∙ ap Chains.answerOf e)
@@ -47,7 +51,7 @@ module _ {i : Inputs} {settings : Settings} {k : ℕ} {c : Chains.LentChain} {w 
       let bits : r .«score_bits» ≡ toBits binary64 s =
       ap (λ (x : ChainReport). x .«score_bits») (said .shown .is) ∙ ap (λ (a : Chained). toBits binary64 (Chains.report a .score)) answer in
       let score : ofBits binary64 (r .«score_bits») ≡ s = ap (ofBits binary64) bits ∙ ofBits-toBits binary64 s fit in
-      let given : givenBy (placesOf (r .pieces) (c .exit)) (ofBits binary64 (r .«score_bits»)) ≡ givenBy (placesOf (length ps) (Chains.rowsOf whole (c .entry))) s =
+      let given : givenBy (placesOf (r .pieces) (c .exit)) (ofBits binary64 (r .«score_bits»)) ≡ givenBy (placesOf (length ps) (Chains.rowsOf whole breaks (c .entry))) s =
       rw (pieces-are (chained ps s p) e, said .shown .promise .rows, score) refl in
       asked .promise .verdict
       ∙ ap (λ (g : Given). Checks.wholeOf i settings k g (w' .entry)) given

@@ -113,7 +113,7 @@ pub extern "C" fn fontcrunch_crunch(
     oy: &mut [i16],
     of: &mut [u8],
     samples: &mut [[f64; 4]],
-    breaks: &mut [[f64; 5]],
+    breaks: &mut [[f64; 6]],
     answers: &mut [[f64; 3]],
     links: &mut [u32],
     points: &mut [[i16; 3]],
@@ -154,12 +154,13 @@ pub extern "C" fn fontcrunch_chain(
     ends: &mut [u32],
     cxs: &mut [f64],
     cys: &mut [f64],
+    spans: &mut [[u32; 2]],
     samples: &mut [[f64; 4]],
-    breaks: &mut [[f64; 5]],
+    breaks: &mut [[f64; 6]],
     answers: &mut [[f64; 3]],
     links: &mut [u32],
 ) -> ChainReport
-    ensures { λ r. ⌜ ChainShown (Chains.Promise (contour xs ys flags) (settingsOf penalty «whole_units» closed) k (Chains.chainIn starts ends cxs cys)
+    ensures { λ r. ⌜ ChainShown (Chains.Promise (contour xs ys flags) (settingsOf penalty «whole_units» closed) k (Chains.chainIn starts ends cxs cys spans)
         (scratch samples breaks answers links)) r ⌝ }
 {
     chain_report(chains::chain_of_run(
@@ -176,6 +177,7 @@ pub extern "C" fn fontcrunch_chain(
         ends,
         cxs,
         cys,
+        spans,
         samples,
         breaks,
         answers,
@@ -198,7 +200,7 @@ pub extern "C" fn fontcrunch_check(
     cys: &[f64],
     score: f64,
     samples: &mut [[f64; 4]],
-    breaks: &mut [[f64; 5]],
+    breaks: &mut [[f64; 6]],
     answers: &mut [[f64; 3]],
     links: &mut [u32],
 ) -> CheckReport

@@ -23,7 +23,7 @@ pub extern "C" fn fontcrunch_crunch_glyph(
     flags: &mut [u8],
     instructions: &mut [u8],
     samples: &mut [[f64; 4]],
-    breaks: &mut [[f64; 5]],
+    breaks: &mut [[f64; 6]],
     answers: &mut [[f64; 3]],
     links: &mut [u32],
     points: &mut [[i16; 3]],

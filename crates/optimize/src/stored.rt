@@ -44,7 +44,7 @@ pub fn from_break(link: u32) -> usize
 }
 
 // The quad of stored answer k.
-pub fn quad_of(breaks: &[[f64; 5]], answers: &[[f64; 3]], k: usize, link: u32) -> Quad
+pub fn quad_of(breaks: &[[f64; 6]], answers: &[[f64; 3]], k: usize, link: u32) -> Quad
     requires { ⌜ (k < length (now answers)) × (k / 2 < length (now breaks)) × (fromBreak link < length (now breaks)) ⌝ }
     ensures { λ r. ⌜ r ≡ quadIn (now (breaks .entry)) (now (answers .entry)) k link ⌝ }
 {
@@ -58,7 +58,7 @@ pub fn quad_of(breaks: &[[f64; 5]], answers: &[[f64; 3]], k: usize, link: u32) -
 }
 
 // Stored answer k.
-pub fn load(breaks: &[[f64; 5]], answers: &[[f64; 3]], links: &[u32], k: usize) -> Answer
+pub fn load(breaks: &[[f64; 6]], answers: &[[f64; 3]], links: &[u32], k: usize) -> Answer
     requires { ⌜ Inside (now breaks) (now answers) (now links) k ⌝ }
     ensures { λ r. ⌜ r ≡ loaded (now (breaks .entry)) (now (answers .entry)) (now (links .entry)) k ⌝ }
 {
@@ -74,7 +74,7 @@ pub fn load(breaks: &[[f64; 5]], answers: &[[f64; 3]], links: &[u32], k: usize) 
 }
 
 // What a piece from break b is built on. Break 0 starts the run, and is named 1.
-pub fn standing(breaks: &[[f64; 5]], answers: &[[f64; 3]], links: &[u32], b: usize) -> Answer
+pub fn standing(breaks: &[[f64; 6]], answers: &[[f64; 3]], links: &[u32], b: usize) -> Answer
     requires { ⌜ (2 * b + 1 < length (now links)) × Inside (now breaks) (now answers) (now links) (slotAt (now links) b) ⌝ }
     ensures { λ r. ⌜ r ≡ standingAt (now (breaks .entry)) (now (answers .entry)) (now (links .entry)) b ⌝ }
 {

@@ -1,5 +1,5 @@
 -- A whole chain: the numbers of its stored answers stand at the end of a row of 4096. Assumes nothing.
-use Prim.Native.Nat.{ℕ, _-_, _≤_, _<_}
+use Prim.Native.Nat.{ℕ, min, _-_, _≤_, _<_}
 use native.Mathlib.Omega.{arith}
 use mathlib.Core.Bool.{Bool}
 use mathlib.Core.List.{List, map}
@@ -29,9 +29,9 @@ module _ {breaks : Row} {answers : List (List Float)} {links : List ℕ} {k : �
       (falls (s .holds), low, low)
 
 -- the shortest row has room, so each has
-pub enough : (starts ends : List ℕ) (xs ys : List Float) {room n m : ℕ} → room ≡ roomOf (chain starts ends xs ys) → n ≤ room → m ≡ n →
+pub enough : (most : ℕ) (starts ends : List ℕ) (xs ys : List Float) {room n m : ℕ} → room ≡ min most (roomOf (chain starts ends xs ys)) → n ≤ room → m ≡ n →
     (m ≤ length starts) × (m ≤ length ends) × (m ≤ length xs) × (m ≤ length ys)
-enough starts ends xs ys e h same = (omega arith, omega arith, omega arith, omega arith)
+enough most starts ends xs ys e h same = (omega arith, omega arith, omega arith, omega arith)
 
 module _ (slots : List ℕ) (r : ℕ) {answers : List (List Float)} {links : List ℕ} {k : ℕ} where
   pub all-read : drop r slots ≡ slotsOf links k → {breaks : Row} → Stored breaks answers links k → Each (Legible (length breaks) answers links) (drop r slots)
@@ -52,16 +52,16 @@ module _ (slots : List ℕ) (r : ℕ) {answers : List (List Float)} {links : Lis
     count : length (piecesOf a) ≡ length slots - r
     count = sym (ap length pieces-there) ∙ length-map (drop r slots) (pieceOf answers links) ∙ length-drop r slots
 
-    module _ (c : Chain) {room : ℕ} (room-is : room ≡ roomOf c) (long : length slots ≡ 4096) where
-      pub put-over : room < 4096 - r → putOf (piecesOf a) c ≡ left Put.Over c
+    module _ (most : ℕ) (c : Chain) {room : ℕ} (room-is : room ≡ min most (roomOf c)) (long : length slots ≡ 4096) where
+      pub put-over : room < 4096 - r → putOf most (piecesOf a) c ≡ left Put.Over c
       unfolding putOf
       put-over less =
-          let more : roomOf c < length (piecesOf a) = omega (arith, count) in
-          ap (λ (b : Bool). putIf b (piecesOf a) c) (lt-ltb (roomOf c) (length (piecesOf a)) more)
+          let more : min most (roomOf c) < length (piecesOf a) = omega (arith, count) in
+          ap (λ (b : Bool). putIf b (piecesOf a) c) (lt-ltb (min most (roomOf c)) (length (piecesOf a)) more)
 
-      pub put-in : {d : Chain} → 4096 - r ≤ room → d ≡ chained (map (pieceOf answers links) (drop r slots)) c → putOf (piecesOf a) c ≡ left (Put.Pieces (4096 - r)) d
+      pub put-in : {d : Chain} → 4096 - r ≤ room → d ≡ chained (map (pieceOf answers links) (drop r slots)) c → putOf most (piecesOf a) c ≡ left (Put.Pieces (4096 - r)) d
       unfolding putOf
       put-in {d} fits e =
-          let enough : length (piecesOf a) ≤ roomOf c = omega (arith, count) in
+          let enough : length (piecesOf a) ≤ min most (roomOf c) = omega (arith, count) in
           let many : length (piecesOf a) ≡ 4096 - r = omega (arith, count) in
-          ap (λ (b : Bool). putIf b (piecesOf a) c) (le-ltb (roomOf c) (length (piecesOf a)) enough) ∙ rw (many, e, pieces-there) refl
+          ap (λ (b : Bool). putIf b (piecesOf a) c) (le-ltb (min most (roomOf c)) (length (piecesOf a)) enough) ∙ rw (many, e, pieces-there) refl

@@ -70,9 +70,9 @@ abbrev pub putIf : Bool → List Piece → Chain → Left
 putIf true ps c = left Put.Over c
 putIf false ps c = left (Put.Pieces (length ps)) (chained ps c)
 
--- all pieces, or none where the shortest row has no room for them
-unfoldable pub putOf : List Piece → Chain → Left
-putOf ps c = putIf (ltb (roomOf c) (length ps)) ps c
+-- all pieces, or none where they are more than `most` or the shortest row has no room for them
+unfoldable pub putOf : ℕ → List Piece → Chain → Left
+putOf most ps c = putIf (ltb (min most (roomOf c)) (length ps)) ps c
 
 -- ---- what stands in the rows
 

@@ -83,11 +83,13 @@ pub enum Put {
     Pieces(usize),
 }
 
-// The chain of stored answer k, to the first places of the chain's rows. All or none of it is written.
+// The chain of stored answer k, to the first places of the chain's rows. All or none of it is written, and
+// nothing where it has more than `most` pieces, which is the room of a row that is filled after these.
 pub fn put_chain(
     answers: &[[f64; 3]],
     links: &[u32],
     k: usize,
+    most: usize,
     starts: &mut [u32],
     ends: &mut [u32],
     xs: &mut [f64],
@@ -95,14 +97,17 @@ pub fn put_chain(
 ) -> Put
     requires { ⌜ Held (now answers) (now links) k ⌝ }
     ensures { λ r. ⌜ ((breaks : Row) (a : Answer) → Holds Anywhere breaks (now (answers .entry)) (now (links .entry)) k a →
-        putOf (piecesOf a) (chain (now (starts .entry)) (now (ends .entry)) (now (xs .entry)) (now (ys .entry)))
+        putOf most (piecesOf a) (chain (now (starts .entry)) (now (ends .entry)) (now (xs .entry)) (now (ys .entry)))
         ≡ left r (chain (now (starts .exit)) (now (ends .exit)) (now (xs .exit)) (now (ys .exit)))) ⌝ }
 {
     let mut slots = [0; 4096];
     let first = slots_to(links, k, &mut slots);
     let room = rows::least(
-        rows::least(starts.len(), ends.len()),
-        rows::least(xs.len(), ys.len()),
+        most,
+        rows::least(
+            rows::least(starts.len(), ends.len()),
+            rows::least(xs.len(), ys.len()),
+        ),
     );
     if room < 4096 - first {
         return Put::Over;
@@ -113,7 +118,7 @@ pub fn put_chain(
 
 // The points of the pieces from place `first` of the slots on.
 fn push_pieces(
-    breaks: &[[f64; 5]],
+    breaks: &[[f64; 6]],
     answers: &[[f64; 3]],
     links: &[u32],
     slots: &[u32],
@@ -141,7 +146,7 @@ fn push_pieces(
 
 // The points of stored answer k, after those that are written.
 pub fn push_chain(
-    breaks: &[[f64; 5]],
+    breaks: &[[f64; 6]],
     answers: &[[f64; 3]],
     links: &[u32],
     k: usize,

@@ -81,7 +81,7 @@ fn put_checked(
     score: f64,
 ) -> usize {
     let mut samples = [[0.0; 4]; 16384];
-    let mut breaks = [[0.0; 5]; 2048];
+    let mut breaks = [[0.0; 6]; 2048];
     let mut answers = [[0.0; 3]; 4096];
     let mut links = [0u32; 4096];
     let v = checks::check_chain(
@@ -150,8 +150,9 @@ fn put_run(text: &mut [u8], xs: &[i16], ys: &[i16], flags: &[u8], k: usize) -> u
     let mut ends = [0u32; 2047];
     let mut cxs = [0.0; 2047];
     let mut cys = [0.0; 2047];
+    let mut spans = [[0u32; 2]; 2047];
     let mut samples = [[0.0; 4]; 16384];
-    let mut breaks = [[0.0; 5]; 2048];
+    let mut breaks = [[0.0; 6]; 2048];
     let mut answers = [[0.0; 3]; 4096];
     let mut links = [0u32; 4096];
     match chains::chain_of_run(
@@ -164,6 +165,7 @@ fn put_run(text: &mut [u8], xs: &[i16], ys: &[i16], flags: &[u8], k: usize) -> u
         &mut ends,
         &mut cxs,
         &mut cys,
+        &mut spans,
         &mut samples,
         &mut breaks,
         &mut answers,

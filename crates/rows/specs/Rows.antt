@@ -9,12 +9,12 @@ use lib.ListN.{replicate}
 abbrev pub floatZero : ℕ → List Float
 floatZero n = replicate n (ofBits binary64 0)
 
--- a sample: x, y, and the direction's x, y; a break: s, x, y, and the direction's x, y; an answer: the score, and the control's x, y
+-- a sample: x, y, and the direction's x, y; a break: s, x, y, the direction's x, y, and its segment; an answer: the score, and the control's x, y
 abbrev pub sampleZero : List Float
 sampleZero = floatZero 4
 
 abbrev pub breakZero : List Float
-breakZero = floatZero 5
+breakZero = floatZero 6
 
 abbrev pub answerZero : List Float
 answerZero = floatZero 3

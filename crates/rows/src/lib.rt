@@ -20,11 +20,11 @@ fn clear_samples(samples: &mut [[f64; 4]])
     }
 }
 
-fn clear_breaks(breaks: &mut [[f64; 5]])
+fn clear_breaks(breaks: &mut [[f64; 6]])
     ensures { λ _. ⌜ now (breaks .exit) ≡ replicate (length (now (breaks .entry))) breakZero ⌝ }
 {
     for i in 0..breaks.len() {
-        breaks[i] = [0.0; 5];
+        breaks[i] = [0.0; 6];
     }
 }
 
@@ -55,7 +55,7 @@ pub fn clear_points(points: &mut [[i16; 3]])
 // The four rows that a run is worked in.
 pub fn clear_work(
     samples: &mut [[f64; 4]],
-    breaks: &mut [[f64; 5]],
+    breaks: &mut [[f64; 6]],
     answers: &mut [[f64; 3]],
     links: &mut [u32],
 )

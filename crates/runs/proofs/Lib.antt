@@ -2,3 +2,4 @@
 mod Listing
 mod Values
 mod Covered
+pub mod Few

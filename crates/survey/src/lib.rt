@@ -18,7 +18,7 @@ pub enum Surveyed {
     Rows(usize, usize),
 }
 
-fn search(samples: &[[f64; 4]], len: f64, g: Grid, breaks: &mut [[f64; 5]]) -> Surveyed
+fn search(samples: &[[f64; 4]], len: f64, g: Grid, breaks: &mut [[f64; 6]]) -> Surveyed
     ensures breaks { λ r. ⌜ searched (now (samples .entry)) (breaksOf (breakRoom (length (now (breaks .entry)))) (now (samples .entry)) g len)
         ≡ surveyIn (now (samples .entry)) (now (breaks .exit)) r ⌝ }
     ensures samples { λ r. ⌜ samplesUsed r ≤ length (now (samples .entry)) ⌝ }
@@ -41,7 +41,7 @@ pub fn survey(
     count: usize,
     g: Grid,
     samples: &mut [[f64; 4]],
-    breaks: &mut [[f64; 5]],
+    breaks: &mut [[f64; 6]],
 ) -> Surveyed
     ensures rows { λ r. ⌜ surveyOf (length (now (samples .entry))) (length (now (breaks .entry))) (now (xs .entry)) (now (ys .entry)) (now (flags .entry)) first count g
         ≡ surveyIn (now (samples .exit)) (now (breaks .exit)) r ⌝ }

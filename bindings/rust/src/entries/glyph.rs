@@ -31,7 +31,7 @@ extern "C" {
         instructions_len: usize,
         samples: *mut [f64; 4],
         samples_len: usize,
-        breaks: *mut [f64; 5],
+        breaks: *mut [f64; 6],
         breaks_len: usize,
         answers: *mut [f64; 3],
         answers_len: usize,

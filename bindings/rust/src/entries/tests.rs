@@ -25,7 +25,7 @@ fn contour(points: &[(i16, i16, u8)]) -> Contour {
 fn littered(samples: usize, breaks: usize, answers: usize, links: usize) -> Scratch {
     Scratch {
         samples: vec![[f64::NAN; 4]; samples].into(),
-        breaks: vec![[-7.5; 5]; breaks].into(),
+        breaks: vec![[-7.5; 6]; breaks].into(),
         answers: vec![[f64::INFINITY; 3]; answers].into(),
         links: vec![u32::MAX; links].into(),
     }
@@ -46,7 +46,14 @@ fn marked(xs: usize, ys: usize, flags: usize, points: usize) -> Output {
 }
 
 fn marked_chain(starts: usize, ends: usize, xs: usize, ys: usize) -> ChainRows {
-    ChainRows { starts: vec![99; starts], ends: vec![99; ends], xs: vec![99.0; xs], ys: vec![99.0; ys] }
+    let spans = vec![[99; 2]; starts.max(ends).max(xs).max(ys)];
+    ChainRows {
+        starts: vec![99; starts],
+        ends: vec![99; ends],
+        xs: vec![99.0; xs],
+        ys: vec![99.0; ys],
+        spans,
+    }
 }
 
 fn assert_zero(scratch: &Scratch) {
@@ -70,6 +77,7 @@ fn assert_untouched_chain(chain: &ChainRows, from: usize) {
     assert!(chain.ends.iter().skip(from).all(|&end| end == 99));
     assert!(chain.xs.iter().skip(from).all(|&x| x == 99.0));
     assert!(chain.ys.iter().skip(from).all(|&y| y == 99.0));
+    assert!(chain.spans.iter().skip(from).all(|&span| span == [99; 2]));
 }
 
 fn crunch_number(contour: &Contour, mut out: Output, mut scratch: Scratch) -> u32 {
@@ -270,6 +278,11 @@ fn the_shortest_chain_row_counts_for_9() {
             let rows = marked_chain(rooms[0], rooms[1], rooms[2], rooms[3]);
             assert_eq!(chain_number(&hill, 0, rows, littered_full()), 9);
         }
+    }
+    for short in [1, 0] {
+        let mut rows = marked_chain(2, 2, 2, 2);
+        rows.spans.truncate(short);
+        assert_eq!(chain_number(&hill, 0, rows, littered_full()), 9);
     }
 }
 

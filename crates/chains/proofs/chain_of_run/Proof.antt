@@ -4,7 +4,7 @@ use Rattle.rows.specs.Rows.{work}
 use Rattle.rows.specs.Lent.{inputs}
 use Rattle.pieces.specs.Slots.{chain}
 use Rattle.edition.specs.Laws.{cleared-work}
-use Rattle.chains.specs.Entry.{wholeOf}
+use Rattle.chains.specs.Entry.{rows, wholeOf, breaksIn}
 use Rattle.chains.proofs.Steps.{answer-is, rows-are}
 use Rattle.chains.proofs.chain_of_run.Statement.{statement}
 use Rattle.chains.proofs.chain_of_run.Tie as tie
@@ -16,40 +16,45 @@ clear-work-requires : tie.Need-clear-work-requires
 clear-work-requires c κs = tt
 
 same-length : tie.Need-same-length
-same-length c = c .before .before .before .before .before .before .before .before .before .before .before .before .before .before .before .before .before .before .before .before .before .before .before .chain-judged .kept .1 .1 .1 .1 .1 .0
+same-length c = c .before .before .before .before .before .before .before .before .before .before .before .before .before .before .before .before .before .before .before .before .before .before .before .before .chain-judged .kept .1 .1 .1 .1 .1 .0
 
 same-length-2 : tie.Need-same-length-2
-same-length-2 c = c .before .before .before .before .before .before .before .before .before .before .before .before .before .before .before .before .before .before .before .before .before .before .before .chain-judged .kept .1 .1 .1 .1 .1 .1 .0
+same-length-2 c = c .before .before .before .before .before .before .before .before .before .before .before .before .before .before .before .before .before .before .before .before .before .before .before .before .chain-judged .kept .1 .1 .1 .1 .1 .1 .0
 
 same-length-3 : tie.Need-same-length-3
-same-length-3 c = c .before .before .before .before .before .before .before .before .before .before .before .before .before .before .before .before .before .before .before .before .before .before .before .chain-judged .kept .1 .1 .1 .1 .1 .1 .1 .0
+same-length-3 c = c .before .before .before .before .before .before .before .before .before .before .before .before .before .before .before .before .before .before .before .before .before .before .before .before .chain-judged .kept .1 .1 .1 .1 .1 .1 .1 .0
 
 same-length-4 : tie.Need-same-length-4
-same-length-4 c = c .before .before .before .before .before .before .before .before .before .before .before .before .before .before .before .before .before .before .before .before .before .before .before .chain-judged .kept .1 .1 .1 .1 .1 .1 .1 .1 .0
+same-length-4 c = c .before .before .before .before .before .before .before .before .before .before .before .before .before .before .before .before .before .before .before .before .before .before .before .before .chain-judged .kept .1 .1 .1 .1 .1 .1 .1 .1 .0
 
 same-length-5 : tie.Need-same-length-5
-same-length-5 c = c .before .before .before .before .before .clear-work .kept .0 ∙ c .before .before .before .before .before .before .before .before .before .before .before .before .before .before .before .before .before .before .before .before .before .before .before .chain-judged .kept .1 .1 .1 .1 .1 .1 .1 .1 .1 .0
+same-length-5 c = c .before .before .before .before .before .before .before .before .before .before .before .before .before .before .before .before .before .before .before .before .before .before .before .before .chain-judged .kept .1 .1 .1 .1 .1 .1 .1 .1 .1 .0
 
 same-length-6 : tie.Need-same-length-6
-same-length-6 c = c .before .before .before .before .before .clear-work .kept .1 .0 ∙ c .before .before .before .before .before .before .before .before .before .before .before .before .before .before .before .before .before .before .before .before .before .before .before .chain-judged .kept .1 .1 .1 .1 .1 .1 .1 .1 .1 .1 .0
+same-length-6 c = c .before .before .before .before .before .clear-work .kept .0 ∙ c .before .before .before .before .before .before .before .before .before .before .before .before .before .before .before .before .before .before .before .before .before .before .before .before .chain-judged .kept .1 .1 .1 .1 .1 .1 .1 .1 .1 .1 .0
 
 same-length-7 : tie.Need-same-length-7
-same-length-7 c = c .before .before .before .before .before .clear-work .kept .1 .1 .0 ∙ c .before .before .before .before .before .before .before .before .before .before .before .before .before .before .before .before .before .before .before .before .before .before .before .chain-judged .kept .1 .1 .1 .1 .1 .1 .1 .1 .1 .1 .1 .0
+same-length-7 c = c .before .before .before .before .before .clear-work .kept .1 .0 ∙ c .before .before .before .before .before .before .before .before .before .before .before .before .before .before .before .before .before .before .before .before .before .before .before .before .chain-judged .kept .1 .1 .1 .1 .1 .1 .1 .1 .1 .1 .1 .0
 
 same-length-8 : tie.Need-same-length-8
-same-length-8 c = c .before .before .before .before .before .clear-work .kept .1 .1 .1 .0 ∙ c .before .before .before .before .before .before .before .before .before .before .before .before .before .before .before .before .before .before .before .before .before .before .before .chain-judged .kept .1 .1 .1 .1 .1 .1 .1 .1 .1 .1 .1 .1 .0
+same-length-8 c = c .before .before .before .before .before .clear-work .kept .1 .1 .0 ∙ c .before .before .before .before .before .before .before .before .before .before .before .before .before .before .before .before .before .before .before .before .before .before .before .before .chain-judged .kept .1 .1 .1 .1 .1 .1 .1 .1 .1 .1 .1 .1 .0
+
+same-length-9 : tie.Need-same-length-9
+same-length-9 c = c .before .before .before .before .before .clear-work .kept .1 .1 .1 .0 ∙ c .before .before .before .before .before .before .before .before .before .before .before .before .before .before .before .before .before .before .before .before .before .before .before .before .chain-judged .kept .1 .1 .1 .1 .1 .1 .1 .1 .1 .1 .1 .1 .1 .0
 
 returns : tie.Need-returns
 returns c =
-    let args = c .before .before .before .before .before .before .before .before .before .before .before .before .before .before .before .before .before .before .before .before .before .before .before .before .before .before .before .before .before .before .before .before .before .before .before .before .before .before .args in
-    let kept = c .before .before .before .before .before .before .before .before .before .before .before .before .before .before .before .before .before .before .before .before .before .before .before .chain-judged .kept .1 .1 .1 .1 .1 .1 .1 .1 .1 in
-    let lent = chain (args .starts .now) (args .ends .now) (args .cxs .now) (args .cys .now) in
-    let rows = work (args .samples .now) (args .breaks .now) (args .answers .now) (args .links .now) in
-    let whole = wholeOf (inputs (args .xs .now) (args .ys .now) (args .flags .now)) (args .settings) (args .k) lent rows in
-    let handed = c .before .before .before .before .before .before .before .before .before .before .before .before .before .before .before .before .before .before .before .before .before .before .before .chain-judged .ensures in
+    let args = c .before .before .before .before .before .before .before .before .before .before .before .before .before .before .before .before .before .before .before .before .before .before .before .before .before .before .before .before .before .before .before .before .before .before .before .before .before .before .before .before .args in
+    let kept = c .before .before .before .before .before .before .before .before .before .before .before .before .before .before .before .before .before .before .before .before .before .before .before .before .chain-judged .kept .1 .1 .1 .1 .1 .1 .1 .1 .1 .1 in
+    let lent = rows (chain (args .starts .now) (args .ends .now) (args .cxs .now) (args .cys .now)) (args .spans .now) in
+    let scratch = work (args .samples .now) (args .breaks .now) (args .answers .now) (args .links .now) in
+    let order = inputs (args .xs .now) (args .ys .now) (args .flags .now) in
+    let whole = wholeOf order (args .settings) (args .k) lent scratch in
+    let breaks = breaksIn order (args .settings) (args .k) scratch in
+    let handed = c .before .before .before .before .before .before .before .before .before .before .before .before .before .before .before .before .before .before .before .before .before .before .before .before .chain-judged .ensures in
     record {
-      answer = answer-is whole lent handed;
-      rows = rows-are whole lent handed;
+      answer = answer-is whole breaks lent handed;
+      rows = rows-are whole breaks lent handed;
       work = cleared-work (args .samples .now) (args .breaks .now) (args .answers .now) (args .links .now) (c .before .before .before .before .before .clear-work .ensures) (kept .0) (kept .1 .0) (kept .1 .1 .0) (kept .1 .1 .1 .0);
     }
 
@@ -67,4 +72,5 @@ chain-of-run-spec =
     same-length-6
     same-length-7
     same-length-8
+    same-length-9
     returns)

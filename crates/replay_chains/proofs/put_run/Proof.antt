@@ -37,6 +37,9 @@ slice-aggregate-chain-of-run-7 c = refl
 slice-aggregate-chain-of-run-8 : tie.Need-slice-aggregate-chain-of-run-8
 slice-aggregate-chain-of-run-8 c = refl
 
+slice-aggregate-chain-of-run-9 : tie.Need-slice-aggregate-chain-of-run-9
+slice-aggregate-chain-of-run-9 c = refl
+
 of-crate-requires : tie.Need-of-crate-requires
 of-crate-requires c κs = tt
 
@@ -74,25 +77,25 @@ array-share-prefix-starts : tie.Need-array-share-prefix-starts
 array-share-prefix-starts c = search needs
 
 slice-aggregate-put-chain : tie.Need-slice-aggregate-put-chain
-slice-aggregate-put-chain c = part _ _ (c .before .before .least .ensures) (c .before .before .before .before .before .before .before .before .before .before .before .before .before .before .before .before .before .before .chain-of-run .kept .1 .1 .1 .1 .1 .0)
+slice-aggregate-put-chain c = part _ _ (c .before .before .least .ensures) (c .before .before .before .before .before .before .before .before .before .before .before .before .before .before .before .before .before .before .before .chain-of-run .kept .1 .1 .1 .1 .1 .0)
 
 array-share-prefix-ends : tie.Need-array-share-prefix-ends
 array-share-prefix-ends c = search needs
 
 slice-aggregate-put-chain-2 : tie.Need-slice-aggregate-put-chain-2
-slice-aggregate-put-chain-2 c = part _ _ (c .before .before .before .least .ensures) (c .before .before .before .before .before .before .before .before .before .before .before .before .before .before .before .before .before .before .before .chain-of-run .kept .1 .1 .1 .1 .1 .1 .0)
+slice-aggregate-put-chain-2 c = part _ _ (c .before .before .before .least .ensures) (c .before .before .before .before .before .before .before .before .before .before .before .before .before .before .before .before .before .before .before .before .chain-of-run .kept .1 .1 .1 .1 .1 .1 .0)
 
 array-share-prefix-cxs : tie.Need-array-share-prefix-cxs
 array-share-prefix-cxs c = search needs
 
 slice-aggregate-put-chain-3 : tie.Need-slice-aggregate-put-chain-3
-slice-aggregate-put-chain-3 c = part _ _ (c .before .before .before .before .least .ensures) (c .before .before .before .before .before .before .before .before .before .before .before .before .before .before .before .before .before .before .before .before .chain-of-run .kept .1 .1 .1 .1 .1 .1 .1 .0)
+slice-aggregate-put-chain-3 c = part _ _ (c .before .before .before .before .least .ensures) (c .before .before .before .before .before .before .before .before .before .before .before .before .before .before .before .before .before .before .before .before .before .chain-of-run .kept .1 .1 .1 .1 .1 .1 .1 .0)
 
 array-share-prefix-cys : tie.Need-array-share-prefix-cys
 array-share-prefix-cys c = search needs
 
 slice-aggregate-put-chain-4 : tie.Need-slice-aggregate-put-chain-4
-slice-aggregate-put-chain-4 c = part _ _ (c .before .before .before .before .before .least .ensures) (c .before .before .before .before .before .before .before .before .before .before .before .before .before .before .before .before .before .before .before .before .before .chain-of-run .kept .1 .1 .1 .1 .1 .1 .1 .1 .0)
+slice-aggregate-put-chain-4 c = part _ _ (c .before .before .before .before .before .least .ensures) (c .before .before .before .before .before .before .before .before .before .before .before .before .before .before .before .before .before .before .before .before .before .before .chain-of-run .kept .1 .1 .1 .1 .1 .1 .1 .1 .0)
 
 put-chain-requires : tie.Need-put-chain-requires
 put-chain-requires c κs = tt
@@ -128,6 +131,7 @@ put-run-spec =
     slice-aggregate-chain-of-run-6
     slice-aggregate-chain-of-run-7
     slice-aggregate-chain-of-run-8
+    slice-aggregate-chain-of-run-9
     chain-of-run-requires
     enum-known-n
     put-refused-requires

@@ -50,6 +50,8 @@ pub enum Tool {
     },
     Chain {
         run: usize,
+        /// with the segments that each piece replaces
+        segments: bool,
     },
     Check {
         run: usize,
@@ -85,7 +87,7 @@ impl Tool {
             Some("clean") => Some(Tool::Clean { crunch: false }),
             Some("cubic") => Some(Tool::Cubic { crunch: false }),
             Some("why") => Some(Tool::Why { index: false }),
-            Some("chain") => Some(Tool::Chain { run: 0 }),
+            Some("chain") => Some(Tool::Chain { run: 0, segments: false }),
             Some("check") => Some(Tool::Check { run: 0 }),
             Some("glyph") => Some(Tool::Glyph { step: Step::Read }),
             _ => None,
@@ -178,7 +180,7 @@ impl Asked {
     /// A file; but first what the tool needs, where it needs something.
     fn take_word(&mut self, word: OsString) -> Result<(), String> {
         match &mut self.tool {
-            Tool::Chain { run } | Tool::Check { run } if !self.has_needed => {
+            Tool::Chain { run, .. } | Tool::Check { run } if !self.has_needed => {
                 *run = whole_number(&word).ok_or(NEEDS_RUN)? as usize;
             }
             Tool::Glyph { step } if !self.has_needed => *step = Step::named(&word).ok_or(NEEDS_STEP)?,
@@ -202,6 +204,7 @@ impl Asked {
             ("--jobs", value) => self.by_jobs(value.or_else(|| words.next())),
             ("--crunch", None) => self.then_crunch(),
             ("--index", None) => self.by_index(),
+            ("--segments", None) => self.with_segments(),
             _ => Err(no_option(word)),
         }
     }
@@ -218,6 +221,14 @@ impl Asked {
         match &mut self.tool {
             Tool::Why { index } => *index = true,
             _ => return Err("--index is an option of why".to_owned()),
+        }
+        Ok(())
+    }
+
+    fn with_segments(&mut self) -> Result<(), String> {
+        match &mut self.tool {
+            Tool::Chain { segments, .. } => *segments = true,
+            _ => return Err("--segments is an option of chain".to_owned()),
         }
         Ok(())
     }

@@ -10,7 +10,7 @@ use crate::contour_line::{self, shown, Malformed};
 pub const LONGEST_LINE: usize = 4 * contour_line::LONGEST_LINE;
 
 /// Reads a line, given without its line end: the contour into `points`, which is emptied first. The pairs of the
-/// chain are not on the line, and nobody looks at them.
+/// chain and its segments are not on the line, and nobody looks at them.
 pub fn parse(line: &[u8], points: &mut Vec<Point>) -> Result<Chain, Malformed> {
     points.clear();
     if line.len() > LONGEST_LINE {
@@ -24,7 +24,8 @@ pub fn parse(line: &[u8], points: &mut Vec<Point>) -> Result<Chain, Malformed> {
     }
     let score = double(words[0], 1)?;
     let pieces = words[1..].chunks_exact(4).zip(0..).map(|(four, i)| piece(four, 4 * i + 2));
-    Ok(Chain { pieces: pieces.collect::<Result<_, _>>()?, score, pairs: 0 })
+    let pieces = pieces.collect::<Result<_, _>>()?;
+    Ok(Chain { pieces, score, pairs: 0, segments: Vec::new() })
 }
 
 /// What stands before the bar and after it.

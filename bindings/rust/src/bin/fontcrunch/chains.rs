@@ -5,16 +5,24 @@ use fontcrunch::{Cruncher, Point, Refusal};
 /// All NaNs have one pattern on a line, since which of them comes is not fixed.
 const NAN_BITS: u64 = 0x7ff8_0000_0000_0000;
 
-/// The pieces of a run.
-pub fn chain(cruncher: &mut Cruncher, points: &[Point], run: usize) -> Result<String, Refusal> {
+/// The pieces of a run; with the segments that each replaces, where these are asked for.
+pub fn chain(
+    cruncher: &mut Cruncher,
+    points: &[Point],
+    run: usize,
+    segments: bool,
+) -> Result<String, Refusal> {
     let chain = cruncher.chain(points, run)?;
     if chain.pieces.is_empty() {
         return Ok(format!("unchanged {}", chain.pairs));
     }
     let mut text = format!("ok {} {} {}", chain.pairs, bits(chain.score), chain.pieces.len());
-    for piece in &chain.pieces {
+    for (piece, (first, last)) in chain.pieces.iter().zip(&chain.segments) {
         let (x, y) = piece.control;
         text.push_str(&format!(" {} {} {} {}", piece.start, piece.end, bits(x), bits(y)));
+        if segments {
+            text.push_str(&format!(" {first} {last}"));
+        }
     }
     Ok(text)
 }

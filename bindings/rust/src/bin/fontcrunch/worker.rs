@@ -84,7 +84,7 @@ impl Worker {
                 let index = contour_line::parse_indexed(line, points)?;
                 reasons::why_at(cruncher, points, index)
             }
-            Tool::Chain { run } => chains::chain(cruncher, contour(line, points)?, run),
+            Tool::Chain { run, segments } => chains::chain(cruncher, contour(line, points)?, run, segments),
             Tool::Glyph { step } => glyph::answer(step, cruncher, line)?,
             Tool::Check { run } => {
                 let chain = chain_line::parse(line, points)?;

@@ -63,7 +63,7 @@ Crunches TrueType contours: puts fewer quadratic pieces between their corners.
 
 usage: fontcrunch [crunch] [SETTINGS] [--svg PICTURE] [FILE...]
        fontcrunch why [--index] [FILE...]
-       fontcrunch chain K [SETTINGS] [FILE...]
+       fontcrunch chain K [--segments] [SETTINGS] [FILE...]
        fontcrunch check K [SETTINGS] [FILE...]
        fontcrunch glyph read|write|crunch [SETTINGS] [FILE...]
        fontcrunch clean [--crunch [SETTINGS]] [FILE...]
@@ -170,10 +170,11 @@ const CHAIN: Page = Page {
     what: "\
 Gives the chain of pieces that is found for one run of a contour.
 
-usage: fontcrunch chain K [SETTINGS] [FILE...]
+usage: fontcrunch chain K [--segments] [SETTINGS] [FILE...]
 
 K              the number of the run, counted from 0: it lies between corners K and
                K + 1
+--segments     with the segments of the contour that each piece replaces
 ",
     settings: true,
     lines: "\
@@ -183,7 +184,8 @@ A line out, for each line in:
   ok PAIRS SCORE n start end cx cy ...
                       n pieces, each from break start to break end with the control
                       (cx, cy); SCORE, cx and cy are the 16 hexadecimal digits of a
-                      double's bits
+                      double's bits. With --segments, after cy of each piece, the
+                      first and the last segment that it replaces, counted from 0
   unchanged PAIRS     the run leaves its contour unchanged
 ",
     refusals: &[2, 3, 4, 5, 6, 7, 8, 10, 16],

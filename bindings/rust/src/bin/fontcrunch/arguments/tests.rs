@@ -71,12 +71,13 @@ fn why() {
 
 #[test]
 fn chains() {
-    assert_eq!(job(&["chain", "0"]).tool, Tool::Chain { run: 0 });
+    assert_eq!(job(&["chain", "0"]).tool, Tool::Chain { run: 0, segments: false });
+    assert_eq!(job(&["chain", "--segments", "2"]).tool, Tool::Chain { run: 2, segments: true });
     let checked = job(&["check", "--penalty", "16", "12", "3", "-"]);
     assert_eq!(checked.tool, Tool::Check { run: 12 });
     assert_eq!(checked.inputs, [file("3"), Input::Standard]);
     assert_eq!(checked.settings, Settings::of_crate());
-    assert!(matches!(job(&["chain", "99999999999999"]).tool, Tool::Chain { run } if run > 1024));
+    assert!(matches!(job(&["chain", "99999999999999"]).tool, Tool::Chain { run, .. } if run > 1024));
     for words in [&["chain"][..], &["check"], &["chain", "a", "0"], &["chain", "-1"], &["check", "--", "0"]] {
         assert!(asked(words).is_err(), "{words:?}");
     }

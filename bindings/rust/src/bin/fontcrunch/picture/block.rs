@@ -160,6 +160,7 @@ fn right_panel(panel: Panel, view: View, extent: &Extent, subject: &Subject, cru
         points_drawn(&crunched.points, &view, svg::AFTER),
         start_drawn(&outline, &view, svg::AFTER),
         joins_drawn(&outline, &view, &subject.sketch.reading),
+        pieces_told(&outline, &view, &subject.sketch.reading),
     ]
     .concat()
 }
@@ -278,6 +279,15 @@ fn joins_drawn(outline: &Outline, view: &View, reading: &Reading) -> String {
         }
     }
     svg
+}
+
+/// A title on each piece, which viewers show where it is pointed at: above all marks, and not seen itself.
+fn pieces_told(outline: &Outline, view: &View, reading: &Reading) -> String {
+    let told = |(i, (first, last)): (usize, (usize, usize))| {
+        let title = format!("replaces segments {first} to {last}");
+        svg::titled(&svg::path(outline, view, i..i + 1), &title)
+    };
+    reading.replaced().into_iter().enumerate().take(outline.curves.len()).map(told).collect()
 }
 
 fn refused_run(outline: &Outline, view: &View, reading: &Reading) -> String {

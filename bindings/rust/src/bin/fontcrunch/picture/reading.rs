@@ -29,6 +29,8 @@ pub struct Run {
     /// Going round: past the last segment of the contour the first ones follow.
     pub segments: Range<usize>,
     pub came: Came,
+    /// For each piece, the first and the last segment that it replaces; a copied line replaces itself.
+    pub replaced: Vec<(usize, usize)>,
 }
 
 /// A node of the result.
@@ -106,6 +108,19 @@ impl Reading {
         joins
     }
 
+    /// The segments that each curve of the result replaces, in the order of its points. In the crate's mode the
+    /// curves are in reverse order, and the line that closes the contour stands for none.
+    pub fn replaced(&self) -> Vec<(usize, usize)> {
+        if self.unchanged().is_some() {
+            return Vec::new();
+        }
+        let mut replaced: Vec<_> = self.runs.iter().flat_map(|run| run.replaced.iter().copied()).collect();
+        if !self.closed {
+            replaced.reverse();
+        }
+        replaced
+    }
+
     /// In the crate's mode what lies before the first corner and after the last is not written. One line from the
     /// last corner to the first is no loss: the contour closes by it.
     fn lost(&self, lines: &[bool]) -> Vec<usize> {
@@ -155,10 +170,13 @@ fn worked_runs(
 ) -> Vec<Run> {
     let mut runs = Vec::new();
     for (k, of) in spans.into_iter().enumerate() {
-        let came =
-            if of.len() == 1 && lines[of.start] { Came::Pieces(1) } else { came_of(cruncher, points, k) };
+        let (came, replaced) = if of.len() == 1 && lines[of.start] {
+            (Came::Pieces(1), vec![(of.start, of.start)])
+        } else {
+            came_of(cruncher, points, k)
+        };
         let last = !matches!(came, Came::Pieces(_));
-        runs.push(Run { segments: of, came });
+        runs.push(Run { segments: of, came, replaced });
         if last {
             break;
         }
@@ -166,11 +184,14 @@ fn worked_runs(
     runs
 }
 
-fn came_of(cruncher: &mut Cruncher, points: &[Point], run: usize) -> Came {
+fn came_of(cruncher: &mut Cruncher, points: &[Point], run: usize) -> (Came, Vec<(usize, usize)>) {
     match cruncher.chain(points, run) {
-        Err(refusal) => Came::Refused(refusal),
-        Ok(chain) if chain.pieces.is_empty() => Came::Unchanged,
-        Ok(chain) => Came::Pieces(chain.pieces.len()),
+        Err(refusal) => (Came::Refused(refusal), Vec::new()),
+        Ok(chain) if chain.pieces.is_empty() => (Came::Unchanged, Vec::new()),
+        Ok(chain) => {
+            let replaced = chain.segments.iter().map(|&(first, last)| (first as usize, last as usize));
+            (Came::Pieces(chain.pieces.len()), replaced.collect())
+        }
     }
 }
 

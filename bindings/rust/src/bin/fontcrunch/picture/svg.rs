@@ -99,6 +99,14 @@ pub fn stroked(data: &str, colour: &str, more: &str) -> String {
     format!("<path d=\"{data}\" fill=\"none\" stroke=\"{colour}\" {more}/>\n")
 }
 
+/// Nothing is drawn; where the path is pointed at, the title is shown.
+pub fn titled(data: &str, title: &str) -> String {
+    format!(
+        "<path d=\"{data}\" fill=\"none\" stroke=\"none\" stroke-width=\"9\" pointer-events=\"stroke\"><title>{}</title></path>\n",
+        escaped(title)
+    )
+}
+
 pub fn filled(data: &str, ink: Ink) -> String {
     format!("<path d=\"{data}\" fill=\"{}\"/>\n", ink.fill)
 }

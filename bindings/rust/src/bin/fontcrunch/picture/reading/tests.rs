@@ -34,10 +34,14 @@ fn corners_and_breaks_are_told_apart() {
     assert_eq!(reasons, ["x,angle", "y,angle", "x,y,angle"]);
     assert_eq!(
         hill.runs,
-        [Run { segments: 0..2, came: Came::Pieces(2) }, Run { segments: 2..3, came: Came::Pieces(1) },]
+        [
+            Run { segments: 0..2, came: Came::Pieces(2), replaced: vec![(0, 1), (1, 1)] },
+            Run { segments: 2..3, came: Came::Pieces(1), replaced: vec![(2, 2)] },
+        ]
     );
     // in the order of the result: the last corner first, the implied joint third
     assert_eq!(hill.joins, [Join::Corner, Join::Corner, Join::Break, Join::Corner]);
+    assert_eq!(hill.replaced(), [(2, 2), (1, 1), (0, 1)]);
     assert_eq!(hill.lost, [0; 0]);
 }
 
@@ -135,11 +139,14 @@ fn runs_going_round() {
 
 #[test]
 fn the_start_stands_for_the_end_of_the_last_run() {
-    let runs = [(0..2, 2), (2..3, 1), (3..4, 1)]
-        .map(|(segments, pieces)| Run { segments, came: Came::Pieces(pieces) });
+    let runs = [(0..2, 2), (2..3, 1), (3..4, 1)].map(|(segments, pieces)| Run {
+        segments,
+        came: Came::Pieces(pieces),
+        replaced: vec![],
+    });
     let hill = Reading { closed: true, corners: vec![0, 2, 3], runs: runs.into(), ..Reading::default() };
     assert_eq!(hill.joins(4), [Join::Corner, Join::Break, Join::Corner, Join::Corner]);
-    let alone = Run { segments: 0..3, came: Came::Pieces(1) };
+    let alone = Run { segments: 0..3, came: Came::Pieces(1), replaced: vec![] };
     let one = Reading { closed: true, corners: vec![0], runs: vec![alone], ..Reading::default() };
     assert_eq!(one.joins(1), [Join::Corner]);
 }
@@ -148,9 +155,13 @@ fn the_start_stands_for_the_end_of_the_last_run() {
 fn nothing_is_lost_in_closed_mode() {
     let hill = reading_closed(&HILL);
     assert_eq!(hill.joins, [Join::Corner, Join::Break, Join::Corner, Join::Corner]);
+    assert_eq!(hill.replaced(), [(0, 1), (1, 1), (2, 2), (3, 3)]);
     // the start lies within a straight edge, which is the last run
     let square = reading_closed(&[50, 0, 1, 100, 0, 1, 100, 100, 1, 0, 100, 1, 0, 0, 1]);
-    assert_eq!(square.runs.last(), Some(&Run { segments: 4..6, came: Came::Pieces(1) }));
+    assert_eq!(
+        square.runs.last(),
+        Some(&Run { segments: 4..6, came: Came::Pieces(1), replaced: vec![(4, 0)] })
+    );
     assert_eq!(square.joins, [Join::Corner; 4]);
     let curve = reading_closed(&[0, 0, 1, 100, 0, 1, 50, 100, 0]);
     assert_eq!(curve.joins, [Join::Corner; 2]);

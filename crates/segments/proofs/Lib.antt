@@ -1,0 +1,3 @@
+-- What the proofs share.
+mod Going
+mod Numbers

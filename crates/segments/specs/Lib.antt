@@ -1,0 +1,3 @@
+pub mod Segments
+pub mod Laws
+pub mod Rows
