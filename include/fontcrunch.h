@@ -152,7 +152,13 @@ enum {
     /* fontcrunch_from_cubics: a rounded point is outside 16 bits */
     FONTCRUNCH_OUTSIDE_16_BITS = 17,
     /* fontcrunch_clean: there are more drops than list has places */
-    FONTCRUNCH_LIST_TOO_SHORT = 18
+    FONTCRUNCH_LIST_TOO_SHORT = 18,
+    /* GLIF: the file is malformed */
+    FONTCRUNCH_MALFORMED = 19,
+    /* GLIF: a point is cubic or not whole, or a contour is open */
+    FONTCRUNCH_CUBIC_OR_OPEN = 20,
+    /* GLIF: a contour has no on-curve point */
+    FONTCRUNCH_NO_ON_CURVE = 21
 };
 
 /* Why a point was dropped: the second number of a place of a list. */
@@ -446,6 +452,76 @@ GlyphWriteReport fontcrunch_crunch_glyph(const uint8_t *bytes, size_t bytes_len,
                                          double (*breaks)[6], size_t breaks_len, double (*answers)[3],
                                          size_t answers_len, uint32_t *links, size_t links_len,
                                          int16_t (*points)[3], size_t points_len);
+
+/*
+ * UFO GLIF
+ *
+ * docs/GLIF.md says what is read of a file: its contours, each from its first on-curve point, with the middle of
+ * two off-curve points that follow each other, halves away from zero, between them.
+ */
+
+typedef struct GlifReadReport {
+    uint32_t number; /* of the refusal, or 0 */
+    size_t contours; /* ends read; 0 where refused */
+    size_t points;   /* points read; 0 where refused */
+} GlifReadReport;
+
+/*
+ * Reads a file into the first places of the rows: the number of each contour's last point, and the points of all
+ * contours, flags 1 or 0. `points` is a scratch row, with a place for each point that stands in the file; what it
+ * holds on entry does not matter, and it is zero throughout on every return. bytes_len / 16 + 1 places in `ends`
+ * and `points`, and twice as many in the others, always suffice.
+ *
+ * Refusals, each tested over the whole file before the next: 19 malformed, 20 a cubic or fractional point or an
+ * open contour, 14 a coordinate outside 16 bits or more than 65,536 points, 21 a contour without an on-curve point,
+ * and last 9, a row too short. A refusal changes no row but the scratch row.
+ */
+GlifReadReport fontcrunch_read_glif(const uint8_t *bytes, size_t bytes_len, uint16_t *ends, size_t ends_len,
+                                    int16_t *xs, size_t xs_len, int16_t *ys, size_t ys_len, uint8_t *flags,
+                                    size_t flags_len, size_t (*points)[3], size_t points_len);
+
+typedef struct GlifWriteReport {
+    uint32_t number; /* of the refusal, or 0 */
+    size_t bytes;    /* bytes written; 0 where refused */
+} GlifWriteReport;
+
+/*
+ * Writes the file to the first places of `out`, with a contour of the rows in place of the inside of each of its
+ * own; every other byte is as it stood, and no other place of `out` is touched. An on-curve point is a line where the
+ * point before it, going round, is on-curve, else a qcurve. bytes_len + 48 * xs_len places always suffice.
+ *
+ * Refusals, in this order: those of reading the file (19, 20, 14, 21); 1, where xs, ys and flags differ in length, the
+ * last end is not that of the last point, or there are not as many ends as contours; 2, where a contour has no point
+ * (an end is not above the one before it, or there is no point at all); and last 9, `out` too short. A refusal writes
+ * nothing.
+ */
+GlifWriteReport fontcrunch_write_glif(const uint8_t *bytes, size_t bytes_len, const uint16_t *ends, size_t ends_len,
+                                      const int16_t *xs, size_t xs_len, const int16_t *ys, size_t ys_len,
+                                      const uint8_t *flags, size_t flags_len, uint8_t *out, size_t out_len);
+
+/*
+ * Crunches a file: reads it, crunches each contour in order as fontcrunch_crunch does, and writes the file to the first
+ * places of `out`, with what they became in place of the insides of its contours; every other byte is as it stood,
+ * and no other place of `out` is touched. `penalty`, `whole_units` and `closed` mean what they mean to fontcrunch_crunch,
+ * and hold for every contour.
+ *
+ * All other rows are scratch, as described above, and are zero throughout on every return. The file is read into
+ * `ends`, `xs`, `ys`, `flags` and `marks`, which has a place for each point that stands in the file. The new points are put
+ * together in `points` and pass through `xs`, `ys` and `flags`: all contours together have as many places as the shortest of
+ * these four, and a contour has those that the ones before it left.
+ *
+ * Refusals, in this order: 19, 20, 14, 21 of the file, 9 where a row is too short for what is read; then, contour by
+ * contour, whatever fontcrunch_crunch gives, so that the first contour that is refused refuses the file by its number;
+ * 16 where there is no contour and the penalty is not 1 to 256; 14 where the new points are more than 65,536; and last 9,
+ * `out` too short. A refusal writes nothing.
+ */
+GlifWriteReport fontcrunch_crunch_glif(const uint8_t *bytes, size_t bytes_len, uint32_t penalty, uint32_t whole_units,
+                                       uint32_t closed, uint8_t *out, size_t out_len, uint16_t *ends, size_t ends_len,
+                                       int16_t *xs, size_t xs_len, int16_t *ys, size_t ys_len, uint8_t *flags,
+                                       size_t flags_len, size_t (*marks)[3], size_t marks_len, double (*samples)[4],
+                                       size_t samples_len, double (*breaks)[6], size_t breaks_len, double (*answers)[3],
+                                       size_t answers_len, uint32_t *links, size_t links_len, int16_t (*points)[3],
+                                       size_t points_len);
 
 #ifdef __cplusplus
 }

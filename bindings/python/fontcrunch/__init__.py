@@ -37,7 +37,8 @@ Uploads. `clean` drops repeated points and lists each with why, and `put_back` g
 makes quads of cubics.
 
 Glyphs. `read_glyph` and `write_glyph` take OpenType's simple glyph descriptions, bytes, to a Glyph and back;
-`crunch_glyph` crunches one, bytes in and bytes out.
+`crunch_glyph` crunches one, bytes in and bytes out. `read_glif`, `write_glif` and `crunch_glif` do the same for files of UFO's
+GLIF, whose other bytes stay as they are.
 
 Threads. Every function may be called in any thread. The library works outside Python's lock, so that threads do work at
 the same time; answers do not depend on them.
@@ -45,6 +46,7 @@ the same time; answers do not depend on them.
 
 from ._contours import CRATE_PENALTY, DEFAULT_PENALTY, Chain, Crunched, Piece, Reasons, Settings
 from ._contours import chain, check, crunch, why
+from ._glif import crunch_glif, read_glif, write_glif
 from ._glyphs import Glyph, crunch_glyph, read_glyph, write_glyph
 from ._refusal import Refused
 from ._rows import ANSWER_ROOM, BREAK_ROOM, MOST_PIECES, MOST_POINTS_IN, SAMPLE_ROOM, USUAL_POINT_ROOM, Point
@@ -74,10 +76,13 @@ __all__ = [
     "check",
     "clean",
     "crunch",
+    "crunch_glif",
     "crunch_glyph",
     "from_cubics",
     "put_back",
+    "read_glif",
     "read_glyph",
     "why",
+    "write_glif",
     "write_glyph",
 ]

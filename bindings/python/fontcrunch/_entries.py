@@ -36,6 +36,7 @@ _SPANS = _row(U32 * 2)
 _GLYPH = (_row(U16), *_POINTS, _row(U8))
 _RUN = (_row(F64 * 4), _row(F64 * 6), _row(F64 * 3), _row(U32))
 _ASSEMBLED = _row(I16 * 3)
+_MARKS = _row(SIZE * 3)
 
 # Each entry of include/fontcrunch.h without `fontcrunch_`: its report, and what it takes in the header's order.
 SIGNATURES: dict[str, tuple[type, ...]] = {
@@ -49,6 +50,9 @@ SIGNATURES: dict[str, tuple[type, ...]] = {
     "read_glyph": (_report(contours=SIZE, points=SIZE, instructions=SIZE), _row(U8), *_GLYPH),
     "write_glyph": (_report(bytes=SIZE), *_GLYPH, _row(U8)),
     "crunch_glyph": (_report(bytes=SIZE), _row(U8), *_SETTINGS, _row(U8), *_GLYPH, *_RUN, _ASSEMBLED),
+    "read_glif": (_report(contours=SIZE, points=SIZE), _row(U8), _row(U16), *_POINTS, _MARKS),
+    "write_glif": (_report(bytes=SIZE), _row(U8), _row(U16), *_POINTS, _row(U8)),
+    "crunch_glif": (_report(bytes=SIZE), _row(U8), *_SETTINGS, _row(U8), _row(U16), *_POINTS, _MARKS, *_RUN, _ASSEMBLED),
 }
 
 LIBRARY = "libfontcrunch.so"

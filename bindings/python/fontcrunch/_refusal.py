@@ -22,13 +22,16 @@ _SENTENCES = {
     16: "the penalty is not from 1 to 256 sixteenths",
     17: "a point of the quads is outside -32768 and 32767",
     18: "there are more dropped points than the list has places",
+    19: "the file is no GLIF by docs/GLIF.md",
+    20: "a point is cubic or not whole, or a contour is open",
+    21: "a contour has no on-curve point",
 }
 
 _NO_WORDS = "the library gives a reason that this version has no words for"
 
 
 class Refused(Exception):
-    """A contour, a run of it or a glyph is refused.
+    """A contour, a run of it, a glyph or a file is refused.
 
     Where several reasons hold, 1 to 5 are tested first, in that order; then 16; then 10 or 11; then runs are
     worked in order, and the first 6, 7 or 8 met is given; 9 comes last.

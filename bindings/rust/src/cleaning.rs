@@ -55,7 +55,10 @@ pub fn clean(points: &[Point]) -> Result<Cleaned, Refusal> {
     let mut list = vec![[0; 2]; room];
     let report = entries::clean(&contour, &mut out, &mut list);
     unless_refused(report.number)?;
-    Ok(Cleaned { points: out.points(report.kept), dropped: list[..report.dropped].iter().map(dropped).collect() })
+    Ok(Cleaned {
+        points: out.points(report.kept),
+        dropped: list[..report.dropped].iter().map(dropped).collect(),
+    })
 }
 
 /// The upload's points, of the points kept and the list. A list that no cleaning gave is put back too, by the

@@ -6,6 +6,7 @@
 
 pub(crate) mod cleaning;
 pub(crate) mod cubics;
+pub(crate) mod glif;
 pub(crate) mod glyph;
 pub(crate) mod reasons;
 

@@ -51,6 +51,11 @@
 //! [`glyph`] reads and writes OpenType's simple glyph descriptions; [`Cruncher::crunch_glyph`] crunches one, contour
 //! by contour.
 //!
+//! # UFO
+//!
+//! [`glif`] reads the contours of files of UFO's GLIF, as `docs/GLIF.md` has them, and writes others into them;
+//! [`Cruncher::crunch_glif`] crunches a file, contour by contour.
+//!
 //! # Linking
 //!
 //! `tools/library`, run at the repository's top, writes the library where this crate looks for
@@ -63,6 +68,7 @@ mod cleaning;
 mod cruncher;
 mod cubics;
 mod entries;
+pub mod glif;
 pub mod glyph;
 mod reasons;
 mod refusal;

@@ -49,6 +49,12 @@ pub enum Refusal {
     Outside16Bits,
     /// 18: there are more drops than the list has places. This crate's functions always lend enough.
     ListTooShort,
+    /// 19: the file is malformed; GLIF only.
+    Malformed,
+    /// 20: a point is cubic or not whole, or a contour is open; GLIF only.
+    CubicOrOpen,
+    /// 21: a contour has no on-curve point; GLIF only.
+    NoOnCurve,
     /// A number that this crate has no name for: the library is newer than the crate.
     Other(u32),
 }
@@ -75,6 +81,9 @@ impl Refusal {
             Refusal::NoSuchPenalty => 16,
             Refusal::Outside16Bits => 17,
             Refusal::ListTooShort => 18,
+            Refusal::Malformed => 19,
+            Refusal::CubicOrOpen => 20,
+            Refusal::NoOnCurve => 21,
             Refusal::Other(number) => number,
         }
     }
@@ -101,6 +110,9 @@ impl Refusal {
             16 => Refusal::NoSuchPenalty,
             17 => Refusal::Outside16Bits,
             18 => Refusal::ListTooShort,
+            19 => Refusal::Malformed,
+            20 => Refusal::CubicOrOpen,
+            21 => Refusal::NoOnCurve,
             other => Refusal::Other(other),
         })
     }
@@ -135,6 +147,9 @@ impl Refusal {
             Refusal::NoSuchPenalty => "the penalty is not from 1 to 256 sixteenths",
             Refusal::Outside16Bits => "a point of the quads is outside -32768 and 32767",
             Refusal::ListTooShort => "there are more dropped points than the list has places",
+            Refusal::Malformed => "the file is no GLIF by docs/GLIF.md",
+            Refusal::CubicOrOpen => "a point is cubic or not whole, or a contour is open",
+            Refusal::NoOnCurve => "a contour has no on-curve point",
             Refusal::Other(_) => "the library gives a reason that this version has no words for",
         }
     }
@@ -154,7 +169,7 @@ mod tests {
 
     #[test]
     fn numbers_and_names_belong_together() {
-        for number in 1..=20 {
+        for number in 1..=22 {
             let refusal = Refusal::from_number(number).unwrap();
             assert_eq!(refusal.number(), number);
         }

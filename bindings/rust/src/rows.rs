@@ -114,6 +114,18 @@ impl GlyphRows {
     }
 }
 
+/// What a file of GLIF has beside its points as they enter: its contours, and its points as they stand.
+pub(crate) struct GlifRows {
+    pub ends: Box<[u16]>,
+    pub marks: Box<[[usize; 3]]>,
+}
+
+impl GlifRows {
+    pub fn of_room(contours: usize, points: usize) -> GlifRows {
+        GlifRows { ends: vec![0; contours].into(), marks: vec![[0; 3]; points].into() }
+    }
+}
+
 /// The points that come out of cleaning, and of cubics.
 pub(crate) struct PointRows {
     pub xs: Box<[i16]>,

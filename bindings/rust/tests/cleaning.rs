@@ -26,7 +26,10 @@ fn each_reason() {
 #[test]
 fn after_a_drop_all_is_looked_at_again() {
     let kept = points(&[0, 0, 1, 0, 1, 1]);
-    assert_eq!(cleaned(&[0, 0, 1, 0, 1, 1, 0, 0, 1, 0, 0, 1]), (kept.clone(), vec![(3, Why::Before), (2, Why::First)]));
+    assert_eq!(
+        cleaned(&[0, 0, 1, 0, 1, 1, 0, 0, 1, 0, 0, 1]),
+        (kept.clone(), vec![(3, Why::Before), (2, Why::First)])
+    );
     assert_eq!(cleaned(&[0, 0, 1, 0, 1, 1, 0, 0, 1, 0, 0, 0]), (kept, vec![(3, Why::Both), (2, Why::First)]));
     // the point before is the one that is before it then
     assert_eq!(
@@ -59,7 +62,8 @@ fn refusals() {
 fn a_repeated_point_makes_no_corner_once_cleaned() {
     let mut cruncher = as_recorded();
     for contour in letter() {
-        let doubled: Vec<Point> = contour.iter().flat_map(|&point| vec![point; if point.on_curve { 2 } else { 1 }]).collect();
+        let doubled: Vec<Point> =
+            contour.iter().flat_map(|&point| vec![point; if point.on_curve { 2 } else { 1 }]).collect();
         let cleaned = clean(&doubled).unwrap();
         assert_eq!(cleaned.points, clean(&contour).unwrap().points);
         assert_eq!(cruncher.crunch(&cleaned.points), cruncher.crunch(&clean(&contour).unwrap().points));

@@ -1,7 +1,7 @@
 -- What the proofs of the functions share, and what the export states.
 mod Parts
 mod Going
-mod Writing
+pub mod Writing
 mod Reading
 mod Stated
 pub mod Some

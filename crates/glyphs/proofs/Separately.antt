@@ -44,7 +44,7 @@ module _ (rooms : Edition.Rooms) (settings : Settings) where
       by (done more) is e = record { more = more; is = is; all-is = sym (done-is e) }
       by (refused k) is e = absurd (let z : _≡_ {A = ℕ} 0 1 = cc in omega arith)
 
-  each : (room : ℕ) (contours : List Inputs) {all : List Points} → crunchEach rooms settings room contours ≡ done all → Each rooms settings room contours all
+  pub each : (room : ℕ) (contours : List Inputs) {all : List Points} → crunchEach rooms settings room contours ≡ done all → Each rooms settings room contours all
   unfolding crunchEach
   each room [] {all} e = subst (Each rooms settings room []) (done-is e) none
   each room (inputs xs ys fs ∷ contours) {all} e =
@@ -58,7 +58,7 @@ module _ (rooms : Edition.Rooms) (settings : Settings) where
           let f = followed room contours ps e in
           subst (Each rooms settings room (inputs xs ys fs ∷ contours)) (sym (f .all-is)) (next is (go (room - length ps) (f .more) (f .is)))
 
-  first : (k room : ℕ) (contours : List Inputs) → FirstRefused rooms settings k room contours → crunchEach rooms settings room contours ≡ refused k
+  pub first : (k room : ℕ) (contours : List Inputs) → FirstRefused rooms settings k room contours → crunchEach rooms settings room contours ≡ refused k
   unfolding crunchEach
   first k room (inputs xs ys fs ∷ contours) (here e) = rw e refl
   first k room (inputs xs ys fs ∷ contours) (later {ps = ps} e l) = rw (e, first k (room - length ps) contours l) refl

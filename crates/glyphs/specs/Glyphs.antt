@@ -76,10 +76,24 @@ pub record Rooms : Type 0 where
   pub points : ℕ
 
 -- the new points pass through the rows that the old ones were read into: as many places as the shortest of these and the row for points
-abbrev pub pointRoom : Rooms → ℕ
-pointRoom r = min (min (r .read .xs) (r .read .ys)) (min (r .read .flags) (r .points))
+abbrev pub leastOf : (xs ys flags points : ℕ) → ℕ
+leastOf xs ys flags points = min (min xs ys) (min flags points)
 
--- 16, which a contour has met if there is one; 14, more points than an end can number; then those of writing
+abbrev pub pointRoom : Rooms → ℕ
+pointRoom r = leastOf (r .read .xs) (r .read .ys) (r .read .flags) (r .points)
+
+-- 16, which a contour has met if there is one; 14, more points than an end can number
+abbrev pub numbered : Settings → List Points → Outcome (List Points)
+numbered settings contours =
+    refuse 16 (not (settingsFine settings))
+    (refuse 14 (ltb 65536 (length (together contours)))
+    (done contours))
+
+-- the contours of rows, each crunched
+abbrev pub crunchRows : Edition.Rooms → Settings → ℕ → List Inputs → Outcome (List Points)
+crunchRows rooms settings room contours = andThen (crunchEach rooms settings room contours) (numbered settings)
+
+-- 16 and 14, then those of writing
 abbrev pub rewritten : Settings → ℕ → List ℕ → List Points → Outcome (List ℕ)
 rewritten settings out instructions contours =
     refuse 16 (not (settingsFine settings))

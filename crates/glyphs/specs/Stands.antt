@@ -4,6 +4,7 @@ use mathlib.Core.Bool.{true, not}
 use mathlib.Core.List.{List}
 use mathlib.Core.Path.{_≡_}
 use lib.Dec.{ltb}
+use lib.IntN.{ℤ}
 use lib.ListN.{length, take, drop}
 use Rattle.contour.specs.Points.{Points}
 use Rattle.contour.specs.Output.{column, flags}
@@ -13,10 +14,8 @@ use Rattle.crunch.specs.Stands.{Gives}
 use Rattle.crunch.specs.declared.Crunched.{Crunched}
 use Rattle.settings.specs.Settings.{settingsFine}
 use Rattle.settings.specs.declared.Settings.{Settings}
-use Rattle.glyf.specs.Layout.{Glyph, glyph, Outcome, done, refused, refuse, countOf, rising, writtenOf}
-use Rattle.glyfwrite.specs.Writes.{Writes}
-use Rattle.glyfwrite.specs.declared.write.Wrote.{Wrote}
-use Rattle.glyphs.specs.Glyphs.{andThen, rewritten, together, endsFrom}
+use Rattle.glyf.specs.Layout.{Glyph, glyph, Outcome, done, refused, refuse, countOf, rising}
+use Rattle.glyphs.specs.Glyphs.{andThen, numbered, together, endsFrom}
 use Rattle.glyphs.specs.declared.contours.Gathered.{Gathered}
 use Rattle.glyphs.specs.declared.contours.Gathered.the-variants as G
 
@@ -57,17 +56,47 @@ abbrev pub FitsIn : (points xs ys flags : ℕ) → Gathered → Type 0
 FitsIn points xs ys flags (G.Refused k) = Unit
 FitsIn points xs ys flags (G.Points n) = Fits points xs ys flags n
 
--- what is written of the first n points
-abbrev pub writtenBy : Settings → ℕ → Points → List ℕ → List ℕ → ℕ → Outcome (List ℕ)
-writtenBy settings out row ends instructions n =
-    refuse 16 (not (settingsFine settings))
-    (refuse 14 (ltb 65536 n)
-    (writtenOf out (glyph ends (column 0 (take n row)) (column 1 (take n row)) (flags (take n row)) instructions)))
+-- 16, 14, or so many points
+abbrev pub judgedBy : Settings → ℕ → Outcome ℕ
+judgedBy settings n = refuse 16 (not (settingsFine settings)) (refuse 14 (ltb 65536 n) (done n))
 
--- whatever the rows were gathered from is written
-abbrev pub WritesAll : Settings → Points → List ℕ → List ℕ → Gathered → List ℕ → List ℕ → Wrote → Type 0
-WritesAll settings row ends instructions g out out′ r =
-    (o : Outcome (List Points)) → Gathers row ends o g → Writes (andThen o (rewritten settings (length out) instructions)) out out′ r
+-- points stand in the first n places of three rows
+pub record Placed (ps : Points) (n : ℕ) (xs ys : List ℤ) (fs : List ℕ) : Type 0 where
+  pub in-xs : n ≤ length xs
+  pub in-ys : n ≤ length ys
+  pub in-flags : n ≤ length fs
+  pub are-xs : take n xs ≡ column 0 ps
+  pub are-ys : take n ys ≡ column 1 ps
+  pub are-flags : take n fs ≡ flags ps
+
+-- so do the first points of a row, where nothing is refused
+pub data Copied (row : Points) (xs ys : List ℤ) (fs : List ℕ) : Outcome ℕ → Gathered → Type 0 where
+  not-copied : {r : Gathered} {k : ℕ} → r ≡ G.Refused k → Copied row xs ys fs (refused k) r
+  copied : {r : Gathered} {n : ℕ} → r ≡ G.Points n → Placed (take n row) n xs ys fs → Copied row xs ys fs (done n) r
+
+abbrev pub Copies : Settings → Points → ℕ → List ℤ → List ℤ → List ℕ → Gathered → Type 0
+Copies settings row n xs ys fs r = Copied row xs ys fs (judgedBy settings n) r
+
+-- the points of all contours stand in the first places of three rows, and the ends are theirs
+pub data Renews (ends : List ℕ) (xs ys : List ℤ) (fs : List ℕ) : Outcome (List Points) → Gathered → Type 0 where
+  not-renewed : {r : Gathered} {k : ℕ} → r ≡ G.Refused k → Renews ends xs ys fs (refused k) r
+  renewed : {r : Gathered} {contours : List Points} {n : ℕ} → r ≡ G.Points n → ends ≡ endsFrom 0 contours → Placed (together contours) n xs ys fs →
+      Renews ends xs ys fs (done contours) r
+
+-- whatever the row was gathered from
+abbrev pub CopiesAll : Settings → Points → Gathered → List ℤ → List ℤ → List ℕ → Gathered → Type 0
+CopiesAll settings row g xs ys fs r =
+    (ends : List ℕ) (o : Outcome (List Points)) → Gathers row ends o g → Renews ends xs ys fs (andThen o (numbered settings)) r
+
+-- so many contours, of so many points, in the first places of rows of these lengths: the ends rise, and there are as many points as the last of them
+-- says
+pub record Held (ends : List ℕ) (xs ys flags contours count : ℕ) : Type 0 where
+  pub in-ends : contours ≤ length ends
+  pub in-xs : count ≤ xs
+  pub in-ys : count ≤ ys
+  pub in-flags : count ≤ flags
+  pub rise : rising (take contours ends) ≡ true
+  pub counted : count ≡ countOf (take contours ends)
 
 -- the first places of the rows, as a glyph of so many contours, points and instruction bytes
 abbrev pub firstOf : ℕ → ℕ → ℕ → Glyph → Glyph

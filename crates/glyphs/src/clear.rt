@@ -7,7 +7,7 @@ ghost use Rattle.rows.specs.Lent.{after, room};
 ghost use Rattle.glyfread.specs.Entry.{filled};
 ghost use Rattle.glyphs.specs.Entry.{zeroGlyph};
 
-fn clear_u8(row: &mut [u8])
+pub fn clear_u8(row: &mut [u8])
     ensures { λ _. ⌜ after row ≡ replicate (room row) 0 ⌝ }
 {
     for i in 0..row.len() {
@@ -15,7 +15,7 @@ fn clear_u8(row: &mut [u8])
     }
 }
 
-fn clear_u16(row: &mut [u16])
+pub fn clear_u16(row: &mut [u16])
     ensures { λ _. ⌜ after row ≡ replicate (room row) 0 ⌝ }
 {
     for i in 0..row.len() {
@@ -23,7 +23,7 @@ fn clear_u16(row: &mut [u16])
     }
 }
 
-fn clear_i16(row: &mut [i16])
+pub fn clear_i16(row: &mut [i16])
     ensures { λ _. ⌜ after row ≡ replicate (room row) (pos 0) ⌝ }
 {
     for i in 0..row.len() {

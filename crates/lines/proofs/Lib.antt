@@ -3,7 +3,7 @@ pub mod Texts
 mod Digits
 mod Words
 pub mod Reading
-mod Signs
+pub mod Signs
 mod Parsing
 pub mod Feeding
 mod Answers

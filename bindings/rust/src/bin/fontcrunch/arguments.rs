@@ -8,7 +8,7 @@ use std::path::PathBuf;
 
 use fontcrunch::{Settings, CRATE_PENALTY, DEFAULT_PENALTY};
 
-use crate::{chain_line, contour_line, glyph};
+use crate::{chain_line, contour_line, glif, glyph};
 
 pub use help::{help, version};
 use settings::Chosen;
@@ -19,6 +19,8 @@ pub enum Request {
     Help(Option<Tool>),
     Version,
     Crunch(Job),
+    /// One file of UFO's GLIF, crunched as it stands.
+    File(Settings, PathBuf),
 }
 
 /// What to do with contours, at which settings, by how many threads, and where to draw them.
@@ -59,9 +61,12 @@ pub enum Tool {
     Glyph {
         step: Step,
     },
+    Glif {
+        step: Step,
+    },
 }
 
-/// What is done with a glyph description.
+/// What is done with a glyph description, or with a file of UFO's GLIF.
 #[derive(Clone, Copy, Debug, PartialEq, Eq)]
 pub enum Step {
     Read,
@@ -90,6 +95,7 @@ impl Tool {
             Some("chain") => Some(Tool::Chain { run: 0, segments: false }),
             Some("check") => Some(Tool::Check { run: 0 }),
             Some("glyph") => Some(Tool::Glyph { step: Step::Read }),
+            Some("glif") => Some(Tool::Glif { step: Step::Read }),
             _ => None,
         }
     }
@@ -99,7 +105,7 @@ impl Tool {
         match self {
             Tool::Crunch | Tool::Chain { .. } | Tool::Check { .. } => true,
             Tool::Clean { crunch } | Tool::Cubic { crunch } => crunch,
-            Tool::Glyph { step } => step == Step::Crunch,
+            Tool::Glyph { step } | Tool::Glif { step } => step == Step::Crunch,
             Tool::Why { .. } => false,
         }
     }
@@ -109,6 +115,7 @@ impl Tool {
         match self {
             Tool::Chain { .. } | Tool::Check { .. } => Some(NEEDS_RUN),
             Tool::Glyph { .. } => Some(NEEDS_STEP),
+            Tool::Glif { .. } => Some(NEEDS_GLIF),
             _ => None,
         }
     }
@@ -118,6 +125,7 @@ impl Tool {
         match self {
             Tool::Check { .. } => chain_line::LONGEST_LINE,
             Tool::Glyph { .. } => glyph::LONGEST_LINE,
+            Tool::Glif { .. } => glif::LONGEST_LINE,
             _ => contour_line::LONGEST_LINE,
         }
     }
@@ -155,7 +163,7 @@ fn read_for(named: Option<Tool>, mut words: impl Iterator<Item = OsString>) -> R
             _ => asked.take_word(word)?,
         }
     }
-    asked.job().map(Request::Crunch)
+    asked.request()
 }
 
 /// Each thread has rows of a megabyte.
@@ -165,11 +173,15 @@ const NEEDS_RUN: &str = "chain and check need the number of a run before any fil
 
 const NEEDS_STEP: &str = "glyph needs read, write or crunch before any file, as in: glyph read";
 
+const NEEDS_GLIF: &str =
+    "glif needs one file of GLIF, or read, write or crunch before any file of lines, as in: glif A.glif, glif read";
+
 /// What the words so far ask for.
 #[derive(Default)]
 struct Asked {
     tool: Tool,
     has_needed: bool,
+    whole_file: bool,
     settings: Chosen,
     jobs: Option<u32>,
     inputs: Vec<Input>,
@@ -184,6 +196,14 @@ impl Asked {
                 *run = whole_number(&word).ok_or(NEEDS_RUN)? as usize;
             }
             Tool::Glyph { step } if !self.has_needed => *step = Step::named(&word).ok_or(NEEDS_STEP)?,
+            Tool::Glif { step } if !self.has_needed => match Step::named(&word) {
+                Some(named) => *step = named,
+                None => {
+                    *step = Step::Crunch;
+                    self.whole_file = true;
+                    self.inputs.push(Input::File(word.into()));
+                }
+            },
             _ => self.inputs.push(Input::File(word.into())),
         }
         self.has_needed = true;
@@ -251,9 +271,21 @@ impl Asked {
     fn no_settings(&self) -> Result<(), String> {
         match self.settings.first_given() {
             None => Ok(()),
-            Some(name) => {
-                Err(format!("{name} is for crunching: clean --crunch, cubic --crunch, glyph crunch"))
-            }
+            Some(name) => Err(format!(
+                "{name} is for crunching: clean --crunch, cubic --crunch, glyph crunch, glif crunch"
+            )),
+        }
+    }
+
+    fn request(self) -> Result<Request, String> {
+        let whole_file = self.whole_file;
+        let mut job = self.job()?;
+        if !whole_file {
+            return Ok(Request::Crunch(job));
+        }
+        match (job.inputs.pop(), job.inputs.is_empty()) {
+            (Some(Input::File(name)), true) => Ok(Request::File(job.settings, name)),
+            _ => Err(NEEDS_GLIF.to_owned()),
         }
     }
 

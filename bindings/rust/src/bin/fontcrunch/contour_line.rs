@@ -11,7 +11,7 @@ use fontcrunch::Point;
 /// A line of more bytes is malformed.
 pub const LONGEST_LINE: usize = 65_536;
 
-/// Why a line is no contour, no contour and chain, or no glyph. Words are numbered from 1.
+/// Why a line is no contour, no contour and chain, no glyph, or no file with contours. Words are numbered from 1.
 #[derive(Debug, PartialEq, Eq)]
 pub enum Malformed {
     TooLong { most: usize },
@@ -27,6 +27,7 @@ pub enum Malformed {
     NotFours { words: usize },
     NoHex,
     NoGlyph,
+    NoContours,
 }
 
 impl fmt::Display for Malformed {
@@ -65,6 +66,7 @@ impl fmt::Display for Malformed {
             }
             Malformed::NoHex => write!(f, "the line is not hexadecimal digits, two for each byte"),
             Malformed::NoGlyph => write!(f, "the line is not ends=a,b,... instr=HEX pts=x y f x y f ..."),
+            Malformed::NoContours => write!(f, "after each bar stand points, x y f x y f ..."),
         }
     }
 }

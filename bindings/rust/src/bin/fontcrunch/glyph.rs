@@ -64,21 +64,21 @@ fn of_text(text: &str) -> Option<Glyph> {
 }
 
 /// A whole number, with no sign but a minus.
-fn number<N: FromStr>(word: &str) -> Option<N> {
+pub fn number<N: FromStr>(word: &str) -> Option<N> {
     if word.starts_with('+') {
         return None;
     }
     word.parse().ok()
 }
 
-fn hex_of(bytes: &[u8]) -> String {
+pub fn hex_of(bytes: &[u8]) -> String {
     bytes.iter().fold(String::with_capacity(2 * bytes.len()), |mut text, b| {
         let _ = write!(text, "{b:02x}");
         text
     })
 }
 
-fn of_hex(text: &[u8]) -> Option<Vec<u8>> {
+pub fn of_hex(text: &[u8]) -> Option<Vec<u8>> {
     let digit = |c: u8| char::from(c).to_digit(16).map(|d| d as u8);
     let pairs = text.chunks_exact(2);
     if !pairs.remainder().is_empty() {

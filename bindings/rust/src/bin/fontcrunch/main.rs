@@ -6,6 +6,7 @@ mod chains;
 mod cleaning;
 mod contour_line;
 mod cubics;
+mod glif;
 mod glyph;
 mod inputs;
 mod jobs;
@@ -28,6 +29,7 @@ fn main() -> ExitCode {
         Ok(Request::Help(tool)) => print(&arguments::help(tool)),
         Ok(Request::Version) => print(&arguments::version()),
         Ok(Request::Crunch(job)) => service::run(&job),
+        Ok(Request::File(settings, name)) => glif::crunch_file(settings, &name),
         Err(wrong) => {
             service::complain(&wrong);
             Status::Wrong

@@ -8,6 +8,7 @@ use crate::chains;
 use crate::cleaning;
 use crate::contour_line::{self, Malformed};
 use crate::cubics;
+use crate::glif;
 use crate::glyph;
 use crate::picture::Sketch;
 use crate::reasons;
@@ -86,6 +87,7 @@ impl Worker {
             }
             Tool::Chain { run, segments } => chains::chain(cruncher, contour(line, points)?, run, segments),
             Tool::Glyph { step } => glyph::answer(step, cruncher, line)?,
+            Tool::Glif { step } => glif::answer(step, cruncher, line)?,
             Tool::Check { run } => {
                 let chain = chain_line::parse(line, points)?;
                 return Ok(cruncher.check(points, run, &chain).map(verdict));

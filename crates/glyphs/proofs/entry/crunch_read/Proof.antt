@@ -1,142 +1,141 @@
 -- `glyphs::entry::crunch_read` meets its contract. Assumes nothing.
 use mathlib.Core.Path.{refl, sym}
-use lib.ListN.{length, drop}
-use lib.Seq.{length-take-le, length-front}
 use native.Mathlib.Omega.{arith}
-use Rattle.glyf.specs.Layout.{glyph}
-use Rattle.crunch.proofs.Whole.{room-in, room-is, room-few}
-use Rattle.glyphs.proofs.Writing.{first-is, apart, gathered-in, gathered-fits, at-room}
+use lib.ListN.{take}
+use lib.Seq.{length-take-le}
+use Rattle.glyphs.proofs.Writing.{held-of, none-anew, all-anew, none-written, all-written}
 use Rattle.glyphs.proofs.entry.crunch_read.Statement.{statement}
 use Rattle.glyphs.proofs.entry.crunch_read.Tie as tie
 
-least-requires : tie.Need-least-requires
-least-requires c κs = tt
+crunch-rows-requires : tie.Need-crunch-rows-requires
+crunch-rows-requires c κs = held-of (c .before .before .before .before .before .before .before .before .before .before .before .before .before .before .pre)
 
-least-requires-2 : tie.Need-least-requires-2
-least-requires-2 c κs = tt
+enum-known-k : tie.Need-enum-known-k
+enum-known-k c = c .match .keys1
 
-least-requires-3 : tie.Need-least-requires-3
-least-requires-3 c κs = tt
+enum-known-n : tie.Need-enum-known-n
+enum-known-n c = c .match .keys2
 
-slice-relend-prefix-crunch-contours : tie.Need-slice-relend-prefix-crunch-contours
-slice-relend-prefix-crunch-contours c = c .before .before .before .before .before .before .before .before .pre .in-ends
+slice-reshare-prefix-write-glyph : tie.Need-slice-reshare-prefix-write-glyph
+slice-reshare-prefix-write-glyph c = omega (arith, c .before .before .before .before .before .before .before .before .before .before .before .before .before .before .before .crunch-rows .kept .1 .1 .1 .0, c .before .before .before .before .before .before .before .before .before .before .before .before .before .before .before .before .before .before .before .before .before .before .before .before .before .before .before .before .before .before .pre .in-ends)
 
-slice-aggregate-crunch-contours : tie.Need-slice-aggregate-crunch-contours
-slice-aggregate-crunch-contours c = sym (length-take-le _ (c .before .before .before .before .before .before .before .before .before .args .ends .now) (c .before .before .before .before .before .before .before .before .before .pre .in-ends))
+slice-aggregate-write-glyph : tie.Need-slice-aggregate-write-glyph
+slice-aggregate-write-glyph c = sym (length-take-le _ _ (omega (arith, c .before .before .before .before .before .before .before .before .before .before .before .before .before .before .before .before .crunch-rows .kept .1 .1 .1 .0, c .before .before .before .before .before .before .before .before .before .before .before .before .before .before .before .before .before .before .before .before .before .before .before .before .before .before .before .before .before .before .before .pre .in-ends)))
 
-slice-reshare-prefix-crunch-contours : tie.Need-slice-reshare-prefix-crunch-contours
-slice-reshare-prefix-crunch-contours c = c .before .before .before .before .before .before .before .before .before .pre .in-xs
+slice-reshare-prefix-write-glyph-2 : tie.Need-slice-reshare-prefix-write-glyph-2
+slice-reshare-prefix-write-glyph-2 c = all-anew (c .before .before .before .before .before .before .before .before .before .before .before .before .before .before .before .before .crunch-rows .ensures) (c .before .before .n .given .1) .placed .in-xs
 
-slice-aggregate-crunch-contours-2 : tie.Need-slice-aggregate-crunch-contours-2
-slice-aggregate-crunch-contours-2 c = sym (length-take-le _ (c .before .before .before .before .before .before .before .before .before .before .args .xs .now) (c .before .before .before .before .before .before .before .before .before .before .pre .in-xs))
+slice-aggregate-write-glyph-2 : tie.Need-slice-aggregate-write-glyph-2
+slice-aggregate-write-glyph-2 c = sym (length-take-le _ _ (all-anew (c .before .before .before .before .before .before .before .before .before .before .before .before .before .before .before .before .before .crunch-rows .ensures) (c .before .before .before .n .given .1) .placed .in-xs))
 
-slice-reshare-prefix-crunch-contours-2 : tie.Need-slice-reshare-prefix-crunch-contours-2
-slice-reshare-prefix-crunch-contours-2 c = c .before .before .before .before .before .before .before .before .before .before .pre .in-ys
+slice-reshare-prefix-write-glyph-3 : tie.Need-slice-reshare-prefix-write-glyph-3
+slice-reshare-prefix-write-glyph-3 c = all-anew (c .before .before .before .before .before .before .before .before .before .before .before .before .before .before .before .before .before .crunch-rows .ensures) (c .before .before .before .n .given .1) .placed .in-ys
 
-slice-aggregate-crunch-contours-3 : tie.Need-slice-aggregate-crunch-contours-3
-slice-aggregate-crunch-contours-3 c = sym (length-take-le _ (c .before .before .before .before .before .before .before .before .before .before .before .args .ys .now) (c .before .before .before .before .before .before .before .before .before .before .before .pre .in-ys))
+slice-aggregate-write-glyph-3 : tie.Need-slice-aggregate-write-glyph-3
+slice-aggregate-write-glyph-3 c = sym (length-take-le _ _ (all-anew (c .before .before .before .before .before .before .before .before .before .before .before .before .before .before .before .before .before .before .crunch-rows .ensures) (c .before .before .before .before .n .given .1) .placed .in-ys))
 
-slice-reshare-prefix-crunch-contours-3 : tie.Need-slice-reshare-prefix-crunch-contours-3
-slice-reshare-prefix-crunch-contours-3 c = c .before .before .before .before .before .before .before .before .before .before .before .pre .in-flags
+slice-reshare-prefix-write-glyph-4 : tie.Need-slice-reshare-prefix-write-glyph-4
+slice-reshare-prefix-write-glyph-4 c = all-anew (c .before .before .before .before .before .before .before .before .before .before .before .before .before .before .before .before .before .before .crunch-rows .ensures) (c .before .before .before .before .n .given .1) .placed .in-flags
 
-slice-aggregate-crunch-contours-4 : tie.Need-slice-aggregate-crunch-contours-4
-slice-aggregate-crunch-contours-4 c = sym (length-take-le _ (c .before .before .before .before .before .before .before .before .before .before .before .before .args .flags .now) (c .before .before .before .before .before .before .before .before .before .before .before .before .pre .in-flags))
+slice-aggregate-write-glyph-4 : tie.Need-slice-aggregate-write-glyph-4
+slice-aggregate-write-glyph-4 c = sym (length-take-le _ _ (all-anew (c .before .before .before .before .before .before .before .before .before .before .before .before .before .before .before .before .before .before .before .crunch-rows .ensures) (c .before .before .before .before .before .n .given .1) .placed .in-flags))
 
-slice-relend-prefix-crunch-contours-2 : tie.Need-slice-relend-prefix-crunch-contours-2
-slice-relend-prefix-crunch-contours-2 c = room-in _ _ _ (c .before .before .before .before .before .before .before .before .before .before .before .before .before .before .before .before .args .points .now) (c .before .before .before .before .before .before .before .before .before .before .least .ensures) (c .before .before .before .before .before .before .before .before .before .least2 .ensures) (c .before .before .before .before .before .before .before .before .least3 .ensures)
+slice-reshare-prefix-write-glyph-5 : tie.Need-slice-reshare-prefix-write-glyph-5
+slice-reshare-prefix-write-glyph-5 c = c .before .before .before .before .before .before .before .before .before .before .before .before .before .before .before .before .before .before .before .before .before .before .before .before .before .before .before .before .before .before .before .before .before .before .pre .in-instructions
 
-slice-aggregate-crunch-contours-5 : tie.Need-slice-aggregate-crunch-contours-5
-slice-aggregate-crunch-contours-5 c = sym (length-take-le _ (c .before .before .before .before .before .before .before .before .before .before .before .before .before .before .before .before .before .args .points .now) (room-in _ _ _ (c .before .before .before .before .before .before .before .before .before .before .before .before .before .before .before .before .before .args .points .now) (c .before .before .before .before .before .before .before .before .before .before .before .least .ensures) (c .before .before .before .before .before .before .before .before .before .before .least2 .ensures) (c .before .before .before .before .before .before .before .before .before .least3 .ensures)))
+slice-aggregate-write-glyph-5 : tie.Need-slice-aggregate-write-glyph-5
+slice-aggregate-write-glyph-5 c = sym (length-take-le _ (c .before .before .before .before .before .before .before .before .before .before .before .before .before .before .before .before .before .before .before .before .before .before .before .before .before .before .before .before .before .before .before .before .before .before .before .args .instructions .now) (c .before .before .before .before .before .before .before .before .before .before .before .before .before .before .before .before .before .before .before .before .before .before .before .before .before .before .before .before .before .before .before .before .before .before .before .pre .in-instructions))
 
-crunch-contours-requires : tie.Need-crunch-contours-requires
-crunch-contours-requires c κs = let a = c .before .before .before .before .before .before .before .before .before .before .before .before .before .before .before .before .before .args in apart (glyph (a .ends .now) (a .xs .now) (a .ys .now) (a .flags .now) (a .instructions .now)) (a .contours) (a .count) (a .size) (c .before .before .before .before .before .before .before .before .before .before .before .before .before .before .before .before .before .pre)
-
-slice-reshare-prefix-write-gathered : tie.Need-slice-reshare-prefix-write-gathered
-slice-reshare-prefix-write-gathered c = omega (arith, length-front (c .before .before .before .before .before .before .before .before .before .before .before .before .before .before .before .before .before .before .before .before .before .before .before .before .before .before .before .args .ends .now) (c .before .before .before .before .before .before .before .before .before .crunch-contours .last .0) (c .before .before .before .before .before .before .before .before .before .before .before .before .before .before .before .before .before .before .before .before .before .before .before .before .before .before .before .args .contours) (c .before .before .before .before .before .before .before .before .before .crunch-contours .kept .0), c .before .before .before .before .before .before .before .before .before .before .before .before .before .before .before .before .before .before .before .before .before .before .before .before .before .before .before .pre .in-ends)
-
-slice-aggregate-write-gathered : tie.Need-slice-aggregate-write-gathered
-slice-aggregate-write-gathered c = sym (length-take-le _ _ (omega (arith, length-front (c .before .before .before .before .before .before .before .before .before .before .before .before .before .before .before .before .before .before .before .before .before .before .before .before .before .before .before .before .args .ends .now) (c .before .before .before .before .before .before .before .before .before .before .crunch-contours .last .0) (c .before .before .before .before .before .before .before .before .before .before .before .before .before .before .before .before .before .before .before .before .before .before .before .before .before .before .before .before .args .contours) (c .before .before .before .before .before .before .before .before .before .before .crunch-contours .kept .0), c .before .before .before .before .before .before .before .before .before .before .before .before .before .before .before .before .before .before .before .before .before .before .before .before .before .before .before .before .pre .in-ends)))
-
-slice-reshare-prefix-write-gathered-2 : tie.Need-slice-reshare-prefix-write-gathered-2
-slice-reshare-prefix-write-gathered-2 c = c .before .before .before .before .before .before .before .before .before .before .before .before .before .before .before .before .before .before .before .before .before .before .before .before .before .before .before .before .before .before .before .pre .in-instructions
-
-slice-aggregate-write-gathered-2 : tie.Need-slice-aggregate-write-gathered-2
-slice-aggregate-write-gathered-2 c = sym (length-take-le _ (c .before .before .before .before .before .before .before .before .before .before .before .before .before .before .before .before .before .before .before .before .before .before .before .before .before .before .before .before .before .before .before .before .args .instructions .now) (c .before .before .before .before .before .before .before .before .before .before .before .before .before .before .before .before .before .before .before .before .before .before .before .before .before .before .before .before .before .before .before .before .pre .in-instructions))
-
-write-gathered-requires : tie.Need-write-gathered-requires
-write-gathered-requires c κs =
-    let a = c .before .before .before .before .before .before .before .before .before .before .before .before .before .before .before .before .before .before .before .before .before .before .before .before .before .before .before .before .before .before .before .before .before .args in
-    let crunching = c .before .before .before .before .before .before .before .before .before .before .before .before .before .before .before .crunch-contours in
-    let long = crunching .kept .1 .1 .1 .1 .1 .1 .1 .1 .1 .0 in
-    let (x, y, f) = room-few _ _ _ (a .points .now) (c .before .before .before .before .before .before .before .before .before .before .before .before .before .before .before .before .before .before .before .before .before .before .before .before .before .before .before .least .ensures) (c .before .before .before .before .before .before .before .before .before .before .before .before .before .before .before .before .before .before .before .before .before .before .before .before .before .before .least2 .ensures) (c .before .before .before .before .before .before .before .before .before .before .before .before .before .before .before .before .before .before .before .before .before .before .before .before .before .least3 .ensures) in
-    gathered-fits (drop (c .before .before .before .before .before .before .before .before .before .before .before .before .before .before .before .before .before .before .before .before .before .before .before .before .before .least3 .result) (a .points .now)) (length (a .xs .now)) (length (a .ys .now)) (length (a .flags .now)) (crunching .ensures)
-    (omega (arith, long), omega (arith, long), omega (arith, long))
+write-glyph-requires : tie.Need-write-glyph-requires
+write-glyph-requires c κs = tt
 
 same-length : tie.Need-same-length
-same-length c = c .before .before .before .before .before .before .write-gathered .kept .1 .1 .1 .1 .1 .1 .1 .1 .0
+same-length c = c .before .before .before .before .before .before .before .before .before .before .before .before .before .before .before .crunch-rows .kept .1 .1 .1 .0
 
 same-length-2 : tie.Need-same-length-2
-same-length-2 c = length-front (c .before .before .before .before .before .before .before .before .before .before .before .before .before .before .before .before .before .before .before .before .before .before .before .before .before .before .before .before .before .before .before .before .before .before .before .before .before .before .before .before .args .ends .now) (c .before .before .before .before .before .before .before .before .before .before .before .before .before .before .before .before .before .before .before .before .before .before .crunch-contours .last .0) (c .before .before .before .before .before .before .before .before .before .before .before .before .before .before .before .before .before .before .before .before .before .before .before .before .before .before .before .before .before .before .before .before .before .before .before .before .before .before .before .before .args .contours) (c .before .before .before .before .before .before .before .before .before .before .before .before .before .before .before .before .before .before .before .before .before .before .crunch-contours .kept .0)
+same-length-2 c = c .before .before .before .before .before .before .before .before .before .before .before .before .before .before .before .crunch-rows .kept .1 .1 .1 .1 .0
 
 same-length-3 : tie.Need-same-length-3
-same-length-3 c = c .before .before .before .before .before .before .write-gathered .kept .1 .1 .1 .1 .0
+same-length-3 c = c .before .before .before .before .before .before .before .before .before .before .before .before .before .before .before .crunch-rows .kept .1 .1 .1 .1 .1 .0
 
 same-length-4 : tie.Need-same-length-4
-same-length-4 c = c .before .before .before .before .before .before .write-gathered .kept .1 .1 .1 .1 .1 .0
+same-length-4 c = c .before .before .before .before .before .before .before .before .before .before .before .before .before .before .before .crunch-rows .kept .1 .1 .1 .1 .1 .1 .0
 
 same-length-5 : tie.Need-same-length-5
-same-length-5 c = c .before .before .before .before .before .before .write-gathered .kept .1 .1 .1 .1 .1 .1 .0
+same-length-5 c = c .before .before .before .before .before .before .before .before .before .before .before .before .before .before .before .crunch-rows .kept .1 .1 .1 .1 .1 .1 .1 .0
 
 same-length-6 : tie.Need-same-length-6
-same-length-6 c = refl
+same-length-6 c = c .before .before .before .before .before .before .before .before .before .before .before .before .before .before .before .crunch-rows .kept .1 .1 .1 .1 .1 .1 .1 .1 .0
 
 same-length-7 : tie.Need-same-length-7
-same-length-7 c = c .before .before .before .before .before .before .before .before .before .before .before .before .before .before .before .before .before .before .before .before .before .before .crunch-contours .kept .1 .1 .1 .1 .1 .0
+same-length-7 c = c .before .before .before .before .before .before .before .before .before .before .before .before .before .before .before .crunch-rows .kept .1 .1 .1 .1 .1 .1 .1 .1 .1 .0
 
 same-length-8 : tie.Need-same-length-8
-same-length-8 c = c .before .before .before .before .before .before .before .before .before .before .before .before .before .before .before .before .before .before .before .before .before .before .crunch-contours .kept .1 .1 .1 .1 .1 .1 .0
+same-length-8 c = c .before .before .before .before .before .before .before .before .before .before .before .before .before .before .before .crunch-rows .kept .1 .1 .1 .1 .1 .1 .1 .1 .1 .1 .0
 
 same-length-9 : tie.Need-same-length-9
-same-length-9 c = c .before .before .before .before .before .before .before .before .before .before .before .before .before .before .before .before .before .before .before .before .before .before .crunch-contours .kept .1 .1 .1 .1 .1 .1 .1 .0
-
-same-length-10 : tie.Need-same-length-10
-same-length-10 c = c .before .before .before .before .before .before .before .before .before .before .before .before .before .before .before .before .before .before .before .before .before .before .crunch-contours .kept .1 .1 .1 .1 .1 .1 .1 .1 .0
-
-same-length-11 : tie.Need-same-length-11
-same-length-11 c = length-front (c .before .before .before .before .before .before .before .before .before .before .before .before .before .before .before .before .before .before .before .before .before .before .before .before .before .before .before .before .before .before .before .before .before .before .before .before .before .before .before .before .args .points .now) (c .before .before .before .before .before .before .before .before .before .before .before .before .before .before .before .before .before .before .before .before .before .before .crunch-contours .last .1 .1 .1 .1 .1 .1 .1 .1 .1 .0) (c .before .before .before .before .before .before .before .before .before .before .before .before .before .before .before .before .before .before .before .before .before .before .before .before .before .before .before .before .before .before .before .before .least3 .result) (c .before .before .before .before .before .before .before .before .before .before .before .before .before .before .before .before .before .before .before .before .before .before .crunch-contours .kept .1 .1 .1 .1 .1 .1 .1 .1 .1 .0)
+same-length-9 c = c .before .before .before .before .before .before .before .before .before .before .before .before .before .before .before .crunch-rows .kept .1 .1 .1 .1 .1 .1 .1 .1 .1 .1 .1 .0
 
 returns : tie.Need-returns
-returns c =
-    let a = c .before .before .before .before .before .before .before .before .before .before .before .before .before .before .before .before .before .before .before .before .before .before .before .before .before .before .before .before .before .before .before .before .before .before .before .before .before .before .before .before .args in
-    let crunching = c .before .before .before .before .before .before .before .before .before .before .before .before .before .before .before .before .before .before .before .before .before .before .crunch-contours in
-    let room = room-is _ _ _ (a .points .now) (c .before .before .before .before .before .before .before .before .before .before .before .before .before .before .before .before .before .before .before .before .before .before .before .before .before .before .before .before .before .before .before .before .before .before .least .ensures) (c .before .before .before .before .before .before .before .before .before .before .before .before .before .before .before .before .before .before .before .before .before .before .before .before .before .before .before .before .before .before .before .before .before .least2 .ensures) (c .before .before .before .before .before .before .before .before .before .before .before .before .before .before .before .before .before .before .before .before .before .before .before .before .before .before .before .before .before .before .before .before .least3 .ensures) in
-    let rest = drop (c .before .before .before .before .before .before .before .before .before .before .before .before .before .before .before .before .before .before .before .before .before .before .before .before .before .before .before .before .before .before .before .before .least3 .result) (a .points .now) in
-    let ends = first-is (a .ends .now) (crunching .last .0) (a .contours) (c .before .before .before .before .before .before .before .before .before .before .before .before .before .before .before .before .before .before .before .before .before .before .before .before .before .before .before .before .before .before .before .before .before .before .before .before .before .before .before .before .pre .in-ends) (crunching .kept .0) in
-    c .before .before .before .before .before .before .write-gathered .ensures _ (gathered-in rest ends (at-room _ _ _ room (crunching .ensures)))
+returns c = let a = c .before .before .before .before .before .before .before .before .before .before .before .before .before .before .before .before .before .before .before .before .before .before .before .before .before .before .before .before .before .before .args in none-written (a .settings) (take (a .size) (a .instructions .now)) (a .out .now) _ _ _ (none-anew (c .before .before .before .before .before .before .before .before .before .before .before .before .before .before .before .crunch-rows .ensures) (c .before .k .given .1))
+
+same-length-10 : tie.Need-same-length-10
+same-length-10 c = c .before .before .write-glyph .kept .1 .1 .1 .1 .1 .0
+
+same-length-11 : tie.Need-same-length-11
+same-length-11 c = c .before .before .before .before .before .before .before .before .before .before .before .before .before .before .before .before .before .before .before .before .before .before .before .before .crunch-rows .kept .1 .1 .1 .0
+
+same-length-12 : tie.Need-same-length-12
+same-length-12 c = c .before .before .before .before .before .before .before .before .before .before .before .before .before .before .before .before .before .before .before .before .before .before .before .before .crunch-rows .kept .1 .1 .1 .1 .0
+
+same-length-13 : tie.Need-same-length-13
+same-length-13 c = c .before .before .before .before .before .before .before .before .before .before .before .before .before .before .before .before .before .before .before .before .before .before .before .before .crunch-rows .kept .1 .1 .1 .1 .1 .0
+
+same-length-14 : tie.Need-same-length-14
+same-length-14 c = c .before .before .before .before .before .before .before .before .before .before .before .before .before .before .before .before .before .before .before .before .before .before .before .before .crunch-rows .kept .1 .1 .1 .1 .1 .1 .0
+
+same-length-15 : tie.Need-same-length-15
+same-length-15 c = refl
+
+same-length-16 : tie.Need-same-length-16
+same-length-16 c = c .before .before .before .before .before .before .before .before .before .before .before .before .before .before .before .before .before .before .before .before .before .before .before .before .crunch-rows .kept .1 .1 .1 .1 .1 .1 .1 .0
+
+same-length-17 : tie.Need-same-length-17
+same-length-17 c = c .before .before .before .before .before .before .before .before .before .before .before .before .before .before .before .before .before .before .before .before .before .before .before .before .crunch-rows .kept .1 .1 .1 .1 .1 .1 .1 .1 .0
+
+same-length-18 : tie.Need-same-length-18
+same-length-18 c = c .before .before .before .before .before .before .before .before .before .before .before .before .before .before .before .before .before .before .before .before .before .before .before .before .crunch-rows .kept .1 .1 .1 .1 .1 .1 .1 .1 .1 .0
+
+same-length-19 : tie.Need-same-length-19
+same-length-19 c = c .before .before .before .before .before .before .before .before .before .before .before .before .before .before .before .before .before .before .before .before .before .before .before .before .crunch-rows .kept .1 .1 .1 .1 .1 .1 .1 .1 .1 .1 .0
+
+same-length-20 : tie.Need-same-length-20
+same-length-20 c = c .before .before .before .before .before .before .before .before .before .before .before .before .before .before .before .before .before .before .before .before .before .before .before .before .crunch-rows .kept .1 .1 .1 .1 .1 .1 .1 .1 .1 .1 .1 .0
+
+returns-2 : tie.Need-returns-2
+returns-2 c =
+    let a = c .before .before .before .before .before .before .before .before .before .before .before .before .before .before .before .before .before .before .before .before .before .before .before .before .before .before .before .before .before .before .before .before .before .before .before .before .before .before .before .args in
+    let w = c .before .before .write-glyph .ensures in
+    all-written (a .settings) (take (a .size) (a .instructions .now)) (a .out .now) _ _ _ (all-anew (c .before .before .before .before .before .before .before .before .before .before .before .before .before .before .before .before .before .before .before .before .before .before .before .before .crunch-rows .ensures) (c .before .before .before .before .before .before .before .before .before .before .n .given .1)) (record { answer = w .answer; left = w .left })
 
 pub crunch-read-spec : {M : Type 1} → statement M
 crunch-read-spec =
     tie.close
     (tie.spec
-    least-requires
-    least-requires-2
-    least-requires-3
-    slice-relend-prefix-crunch-contours
-    slice-aggregate-crunch-contours
-    slice-reshare-prefix-crunch-contours
-    slice-aggregate-crunch-contours-2
-    slice-reshare-prefix-crunch-contours-2
-    slice-aggregate-crunch-contours-3
-    slice-reshare-prefix-crunch-contours-3
-    slice-aggregate-crunch-contours-4
-    slice-relend-prefix-crunch-contours-2
-    slice-aggregate-crunch-contours-5
-    crunch-contours-requires
-    slice-reshare-prefix-write-gathered
-    slice-aggregate-write-gathered
-    slice-reshare-prefix-write-gathered-2
-    slice-aggregate-write-gathered-2
-    write-gathered-requires
+    crunch-rows-requires
+    enum-known-k
+    enum-known-n
+    slice-reshare-prefix-write-glyph
+    slice-aggregate-write-glyph
+    slice-reshare-prefix-write-glyph-2
+    slice-aggregate-write-glyph-2
+    slice-reshare-prefix-write-glyph-3
+    slice-aggregate-write-glyph-3
+    slice-reshare-prefix-write-glyph-4
+    slice-aggregate-write-glyph-4
+    slice-reshare-prefix-write-glyph-5
+    slice-aggregate-write-glyph-5
+    write-glyph-requires
     same-length
     same-length-2
     same-length-3
@@ -146,6 +145,16 @@ crunch-read-spec =
     same-length-7
     same-length-8
     same-length-9
+    returns
     same-length-10
     same-length-11
-    returns)
+    same-length-12
+    same-length-13
+    same-length-14
+    same-length-15
+    same-length-16
+    same-length-17
+    same-length-18
+    same-length-19
+    same-length-20
+    returns-2)

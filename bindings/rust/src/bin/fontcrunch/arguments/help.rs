@@ -29,7 +29,7 @@ struct Page {
     settings: bool,
     /// Lines in, and lines out where nothing is refused.
     lines: &'static str,
-    /// The refusals that can be met on its lines. 1 cannot.
+    /// The refusals that can be met on its lines. 1 cannot, but where contours are written into a file.
     refusals: &'static [u32],
     /// Commands after `  $ `, each followed by what it answers. They are run by the tests.
     example: &'static str,
@@ -55,6 +55,7 @@ fn page(tool: Tool) -> &'static Page {
         Tool::Chain { .. } => &CHAIN,
         Tool::Check { .. } => &CHECK,
         Tool::Glyph { .. } => &GLYPH,
+        Tool::Glif { .. } => &GLIF,
     }
 }
 
@@ -66,6 +67,8 @@ usage: fontcrunch [crunch] [SETTINGS] [--svg PICTURE] [FILE...]
        fontcrunch chain K [--segments] [SETTINGS] [FILE...]
        fontcrunch check K [SETTINGS] [FILE...]
        fontcrunch glyph read|write|crunch [SETTINGS] [FILE...]
+       fontcrunch glif read|write|crunch [SETTINGS] [FILE...]
+       fontcrunch glif [SETTINGS] FILE.glif
        fontcrunch clean [--crunch [SETTINGS]] [FILE...]
        fontcrunch cubic [--crunch [SETTINGS]] [FILE...]
 
@@ -75,6 +78,7 @@ why            tells why segments start at corners
 chain K        gives the chain of run K, counted from 0
 check K        checks chains of run K, whoever made them
 glyph          reads, writes and crunches simple glyph descriptions
+glif           reads, writes and crunches files of UFO's GLIF
 clean          drops repeated points
 cubic          makes quads of cubics
 
@@ -112,7 +116,7 @@ accepted; 2 some lines were malformed, a file could not be read or written, or t
 command line was wrong.
 ";
 
-const ALL_REFUSALS: [u32; 16] = [2, 3, 4, 5, 6, 7, 8, 9, 10, 11, 12, 13, 14, 15, 16, 17];
+const ALL_REFUSALS: [u32; 19] = [2, 3, 4, 5, 6, 7, 8, 9, 10, 11, 12, 13, 14, 15, 16, 17, 19, 20, 21];
 
 const CRUNCH: Page = Page {
     what: "\
@@ -251,6 +255,38 @@ A line out, for each line in:
   ok 0001000000000064006400020000313327646464
   $ echo 0001000000000064006400020000313327646464 | fontcrunch glyph crunch --closed | cut -c 4- | fontcrunch glyph read
   ok ends=2 instr= pts=0 0 1 100 0 1 0 100 1
+",
+};
+
+const GLIF: Page = Page {
+    what: "\
+Reads, writes and crunches files of UFO's GLIF. What stands outside the insides of contours
+is kept byte for byte.
+
+usage: fontcrunch glif [SETTINGS] FILE.glif
+       fontcrunch glif read [FILE...]
+       fontcrunch glif write [FILE...]
+       fontcrunch glif crunch [SETTINGS] [FILE...]
+
+FILE.glif      a file of GLIF: it comes out on standard output with each contour
+               crunched. One of the name read, write or crunch is ./read and so on
+crunch         crunches each contour as fontcrunch crunch does. The first that is
+               refused refuses the file
+",
+    settings: true,
+    lines: "\
+A line in is a file in hexadecimal digits; for write, after each file and a bar, a contour
+for each of its own: HEX | x y f ... | x y f .... A line has at most 16777216 bytes.
+
+A line out, for each line in:
+  ok C | x y f ... | x y f ...
+                      read: the C contours, each from its first on-curve point on
+  ok HEX              write and crunch: the file
+",
+    refusals: &[1, 2, 3, 4, 5, 6, 7, 8, 9, 14, 16, 19, 20, 21],
+    example: "  \
+  $ printf '<glyph><outline/></glyph>' | od -An -v -tx1 | tr -d ' \\n' | fontcrunch glif read
+  ok 0
 ",
 };
 

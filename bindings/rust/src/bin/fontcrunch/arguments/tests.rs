@@ -163,6 +163,24 @@ fn glyphs() {
 }
 
 #[test]
+fn lines_of_files_or_one_file() {
+    for (word, step) in [("read", Step::Read), ("write", Step::Write), ("crunch", Step::Crunch)] {
+        assert_eq!(job(&["glif", word, "-"]).tool, Tool::Glif { step });
+    }
+    let settings = Settings { penalty: 20, closed: true, ..Settings::default() };
+    for words in [["a.glif", "--closed", "--penalty=20"], ["--closed", "a.glif", "--penalty=20"]] {
+        let asked = read([&["glif"][..], &words].concat().into_iter().map(Into::into));
+        assert_eq!(asked, Ok(Request::File(settings, "a.glif".into())));
+    }
+    for words in
+        [&["glif"][..], &["glif", "a", "b"], &["glif", "a", "-"], &["glif", "-"], &["glif", "--closed"]]
+    {
+        assert!(fault(words).contains("glif needs"), "{words:?}");
+    }
+    assert!(fault(&["glif", "read", "--closed"]).contains("--closed is for crunching"));
+}
+
+#[test]
 fn jobs() {
     assert_eq!(job(&[]).jobs, 1);
     assert_eq!(job(&["why", "--jobs", "4"]).jobs, 4);
@@ -183,7 +201,7 @@ fn wrong_words() {
     assert!(fault(&["-x"]).contains("no option -x"));
 }
 
-const TOOLS: [&str; 7] = ["crunch", "why", "chain", "check", "glyph", "clean", "cubic"];
+const TOOLS: [&str; 8] = ["crunch", "why", "chain", "check", "glyph", "glif", "clean", "cubic"];
 
 #[test]
 fn each_tool_has_a_page() {

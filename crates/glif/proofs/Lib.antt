@@ -1,0 +1,3 @@
+-- What the proofs of the functions share.
+mod Naming
+pub mod Passing

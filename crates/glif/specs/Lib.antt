@@ -1,0 +1,4 @@
+pub mod Tree
+pub mod Names
+pub mod Outline
+pub mod Scan

@@ -1,0 +1,31 @@
+-- `glifread::place::store_i16` meets its contract. Assumes nothing.
+use borrow.Author.Needs.{needs}
+use lib.Seq.{set-out}
+use mathlib.Core.Path.{sym}
+use Rattle.glifread.proofs.place.store_i16.Statement.{statement}
+use Rattle.glifread.proofs.place.store_i16.Tie as tie
+
+mul-v : tie.Need-mul-v
+mul-v c = search needs
+
+slice-set-from-v : tie.Need-slice-set-from-v
+slice-set-from-v c = search needs
+
+same-length : tie.Need-same-length
+same-length c = search needs
+
+returns : tie.Need-returns
+returns c = search needs
+
+returns-2 : tie.Need-returns-2
+returns-2 c = sym (set-out _ _ _ (c .if1 .left))
+
+pub store-i16-spec : {M : Type 1} → statement M
+store-i16-spec =
+    tie.close
+    (tie.spec
+    mul-v
+    slice-set-from-v
+    same-length
+    returns
+    returns-2)

@@ -1,0 +1,28 @@
+-- `glifwrite::contours::coordinate` meets its contract. Assumes nothing.
+use borrow.Author.Needs.{needs}
+use mathlib.Core.Path.{sym}
+use lib.IntN.{pos}
+use lib.ListN.{List·getD-eq-default}
+use Rattle.glifwrite.proofs.contours.coordinate.Statement.{statement}
+use Rattle.glifwrite.proofs.contours.coordinate.Tie as tie
+
+mul-result : tie.Need-mul-result
+mul-result c = search needs
+
+shared-slice-copy-out-result : tie.Need-shared-slice-copy-out-result
+shared-slice-copy-out-result c = search needs
+
+returns : tie.Need-returns
+returns c = search needs
+
+returns-2 : tie.Need-returns-2
+returns-2 c = sym (List·getD-eq-default (c .before .args .row .now) (pos 0) (c .if1 .left))
+
+pub coordinate-spec : {M : Type 1} → statement M
+coordinate-spec =
+    tie.close
+    (tie.spec
+    mul-result
+    shared-slice-copy-out-result
+    returns
+    returns-2)
