@@ -523,6 +523,35 @@ GlifWriteReport fontcrunch_crunch_glif(const uint8_t *bytes, size_t bytes_len, u
                                        size_t answers_len, uint32_t *links, size_t links_len, int16_t (*points)[3],
                                        size_t points_len);
 
+/*
+ * TWO EDITIONS
+ *
+ * Crunches a contour into two editions, a and b, each with a penalty of its own; `whole_units` and `closed` hold for
+ * both. Each run is sampled once, while any edition's work goes on. `samples` and `breaks` are shared; the other rows
+ * are an edition's own, and mean what they mean to fontcrunch_crunch.
+ *
+ * Each edition's report and rows are what fontcrunch_crunch gives at its penalty, in the shared rows and its own,
+ * whichever comes first and whatever becomes of the other. So 1 to 5 go to both and a 16 to its own edition; a 6, or a
+ * 7 for want of breaks, goes to each edition whose work has not ended by then; a 7 for want of answers or links, an 8
+ * and a 9 go to the edition that met them. Scratch rows are zero throughout on every return, also those of an edition
+ * that is refused.
+ */
+typedef struct EditionsReport {
+    CrunchReport a;
+    CrunchReport b;
+} EditionsReport;
+
+EditionsReport fontcrunch_editions(
+    const int16_t *xs, size_t xs_len, const int16_t *ys, size_t ys_len, const uint8_t *flags, size_t flags_len,
+    uint32_t penalty_a, uint32_t penalty_b, uint32_t whole_units, uint32_t closed,
+    double (*samples)[4], size_t samples_len, double (*breaks)[6], size_t breaks_len,
+    double (*answers_a)[3], size_t answers_a_len, uint32_t *links_a, size_t links_a_len,
+    int16_t (*points_a)[3], size_t points_a_len, int16_t *ox_a, size_t ox_a_len, int16_t *oy_a, size_t oy_a_len,
+    uint8_t *of_a, size_t of_a_len,
+    double (*answers_b)[3], size_t answers_b_len, uint32_t *links_b, size_t links_b_len,
+    int16_t (*points_b)[3], size_t points_b_len, int16_t *ox_b, size_t ox_b_len, int16_t *oy_b, size_t oy_b_len,
+    uint8_t *of_b, size_t of_b_len);
+
 #ifdef __cplusplus
 }
 #endif

@@ -40,12 +40,14 @@ Glyphs. `read_glyph` and `write_glyph` take OpenType's simple glyph descriptions
 `crunch_glyph` crunches one, bytes in and bytes out. `read_glif`, `write_glif` and `crunch_glif` do the same for files of UFO's
 GLIF, whose other bytes stay as they are.
 
+Editions. `editions` crunches a contour at two penalties from one sampling.
+
 Threads. Every function may be called in any thread. The library works outside Python's lock, so that threads do work at
 the same time; answers do not depend on them.
 """
 
-from ._contours import CRATE_PENALTY, DEFAULT_PENALTY, Chain, Crunched, Piece, Reasons, Settings
-from ._contours import chain, check, crunch, why
+from ._contours import CRATE_PENALTY, DEFAULT_PENALTY, Chain, Crunched, Editions, Piece, Reasons, Settings
+from ._contours import chain, check, crunch, editions, why
 from ._glif import crunch_glif, read_glif, write_glif
 from ._glyphs import Glyph, crunch_glyph, read_glyph, write_glyph
 from ._refusal import Refused
@@ -61,6 +63,7 @@ __all__ = [
     "Crunched",
     "DEFAULT_PENALTY",
     "Dropped",
+    "Editions",
     "Glyph",
     "MOST_PIECES",
     "MOST_POINTS_IN",
@@ -78,6 +81,7 @@ __all__ = [
     "crunch",
     "crunch_glif",
     "crunch_glyph",
+    "editions",
     "from_cubics",
     "put_back",
     "read_glif",

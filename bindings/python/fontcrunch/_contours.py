@@ -5,9 +5,10 @@ from __future__ import annotations
 import dataclasses
 import operator
 import struct
-from typing import Iterable, NamedTuple
+from typing import Any, Iterable, NamedTuple
 
-from ._entries import F64, U32, call
+from ._entries import F64, U32, call, told
+from ._refusal import Refused
 from ._rows import MOST_PIECES, SCRATCH, USUAL_POINT_ROOM
 from ._rows import AnyPoint, Point, assembly_room, counted, point_rows, points_in, points_room, row_of
 
@@ -83,6 +84,16 @@ class Chain(NamedTuple):
     not look at it."""
 
 
+class Editions(NamedTuple):
+    """What became of each edition of an order: its points, or why it was refused. One may be refused where the other is
+    not."""
+
+    a: Crunched | Refused
+    """The first, as on paper."""
+    b: Crunched | Refused
+    """The second, as on a screen."""
+
+
 class Reasons(NamedTuple):
     """Which of the tests that make a segment's start a corner hold there. Where none holds, it is no corner."""
 
@@ -122,6 +133,27 @@ def crunch(
     assembled = assembly_room(point_room)
     report = call("crunch", *point_rows(points), *settings._words(), *out, *SCRATCH.rows, assembled)
     return Crunched(points_in(out, report.points), report.pairs)
+
+
+def editions(
+    points: Iterable[AnyPoint], a: int, b: int, settings: Settings = Settings(), *, point_room: int = USUAL_POINT_ROOM
+) -> Editions:
+    """Two editions of a contour, with a penalty each, in sixteenths; grid and mode are those of the settings, whose own
+    penalty is not looked at. Each run is sampled once for both.
+
+    Each edition gets what `crunch` gives at its penalty, whichever comes first and whatever becomes of the other.
+    """
+    samples, breaks, answers, links = SCRATCH.rows
+    out_a, out_b = points_room(point_room), points_room(point_room)
+    own_a = (answers, links, assembly_room(point_room), *out_a)
+    own_b = (type(answers)(), type(links)(), assembly_room(point_room), *out_b)
+    words = (Settings(penalty=a)._words()[0], *Settings(b, settings.whole_units, settings.closed)._words())
+    report = told("editions", *point_rows(points), *words, samples, breaks, *own_a, *own_b)
+
+    def edition(said: Any, out: Any) -> Crunched | Refused:
+        return Refused(said.number) if said.number else Crunched(points_in(out, said.points), said.pairs)
+
+    return Editions(edition(report.a, out_a), edition(report.b, out_b))
 
 
 def chain(points: Iterable[AnyPoint], run: int, settings: Settings = Settings()) -> Chain:

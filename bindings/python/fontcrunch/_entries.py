@@ -28,6 +28,11 @@ def _report(**fields: type) -> type:
     return type("Report", (ctypes.Structure,), {"_fields_": [("number", U32), *fields.items()]})
 
 
+def _both(report: type) -> type:
+    """What is said of two editions, each by a report of its own."""
+    return type("Both", (ctypes.Structure,), {"_fields_": [("a", report), ("b", report)]})
+
+
 _POINTS = (_row(I16), _row(I16), _row(U8))
 _DROPS = _row(U32 * 2)
 _SETTINGS = (U32, U32, U32)
@@ -37,10 +42,12 @@ _GLYPH = (_row(U16), *_POINTS, _row(U8))
 _RUN = (_row(F64 * 4), _row(F64 * 6), _row(F64 * 3), _row(U32))
 _ASSEMBLED = _row(I16 * 3)
 _MARKS = _row(SIZE * 3)
+_CRUNCHED = _report(points=SIZE, pairs=SIZE)
+_OWN = (_row(F64 * 3), _row(U32), _ASSEMBLED, *_POINTS)
 
 # Each entry of include/fontcrunch.h without `fontcrunch_`: its report, and what it takes in the header's order.
 SIGNATURES: dict[str, tuple[type, ...]] = {
-    "crunch": (_report(points=SIZE, pairs=SIZE), *_POINTS, *_SETTINGS, *_POINTS, *_RUN, _ASSEMBLED),
+    "crunch": (_CRUNCHED, *_POINTS, *_SETTINGS, *_POINTS, *_RUN, _ASSEMBLED),
     "chain": (_report(pieces=SIZE, pairs=SIZE, score_bits=U64), *_POINTS, SIZE, *_SETTINGS, *_CHAIN, _SPANS, *_RUN),
     "check": (_report(accepted=U32), *_POINTS, SIZE, *_SETTINGS, *_CHAIN, F64, *_RUN),
     "why": (_report(reasons=U32), *_POINTS, SIZE),
@@ -53,6 +60,7 @@ SIGNATURES: dict[str, tuple[type, ...]] = {
     "read_glif": (_report(contours=SIZE, points=SIZE), _row(U8), _row(U16), *_POINTS, _MARKS),
     "write_glif": (_report(bytes=SIZE), _row(U8), _row(U16), *_POINTS, _row(U8)),
     "crunch_glif": (_report(bytes=SIZE), _row(U8), *_SETTINGS, _row(U8), _row(U16), *_POINTS, _MARKS, *_RUN, _ASSEMBLED),
+    "editions": (_both(_CRUNCHED), *_POINTS, U32, U32, U32, U32, *_RUN[:2], *_OWN, *_OWN),
 }
 
 LIBRARY = "libfontcrunch.so"

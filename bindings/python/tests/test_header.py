@@ -48,9 +48,18 @@ class Header(Case):
         for report, name, parameters in declared:
             entry = _entries._ENTRIES[name]
             self.assertEqual(entry.argtypes, [in_c(word) for word in parameters.split(",")], name)
-            fields = re.search(rf"typedef struct {report} \{{(.*?)\}} {report};", HEADER, re.S)[1]
-            pairs = [line.split() for line in fields.replace(";", "").strip().splitlines()]
-            self.assertEqual(entry.restype._fields_, [(field, IN_C[kind]) for kind, field in pairs], name)
+            self.assert_fields(report, entry.restype)
+
+    def assert_fields(self, report, kind):
+        """A report's fields, each a number or a report."""
+        fields = re.search(rf"typedef struct {report} \{{(.*?)\}} {report};", HEADER, re.S)[1]
+        pairs = [line.split() for line in fields.replace(";", "").strip().splitlines()]
+        self.assertEqual([field for field, _ in kind._fields_], [field for _, field in pairs], report)
+        for (_, mine), (declared, _) in zip(kind._fields_, pairs):
+            if declared in IN_C:
+                self.assertEqual(mine, IN_C[declared], report)
+            else:
+                self.assert_fields(declared, mine)
 
     def test_rooms_and_penalties(self):
         for name, value in {

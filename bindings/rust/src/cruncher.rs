@@ -2,6 +2,7 @@
 
 use std::fmt;
 
+use crate::editions::Second;
 use crate::entries;
 use crate::reasons::Reasons;
 use crate::refusal::Refusal;
@@ -71,11 +72,13 @@ pub struct Chain {
 /// Crunches contours, one after another, at its settings and in rows that it holds: about a megabyte, allocated
 /// once.
 pub struct Cruncher {
-    settings: Settings,
-    contour: Contour,
+    pub(crate) settings: Settings,
+    pub(crate) contour: Contour,
     chain: ChainRows,
     pub(crate) output: Output,
     pub(crate) scratch: Scratch,
+    /// The rows of a second edition, from the first order of two on.
+    pub(crate) second: Option<Box<Second>>,
 }
 
 impl Cruncher {
@@ -94,6 +97,7 @@ impl Cruncher {
             chain: ChainRows::default(),
             output: Output::of_room(room),
             scratch: Scratch::full(),
+            second: None,
         }
     }
 
@@ -111,7 +115,7 @@ impl Cruncher {
         self.take_contour(points);
         let report = entries::crunch(&self.contour, self.settings, &mut self.output, &mut self.scratch);
         unless_refused(report.number)?;
-        Ok(Crunched { points: self.points_out(report.points), pairs: report.pairs })
+        Ok(Crunched { points: self.output.first(report.points), pairs: report.pairs })
     }
 
     /// The chain that is found for one run of a contour, the only run that is worked.
@@ -156,7 +160,7 @@ impl Cruncher {
         Ok(Reasons::of_bits(report.reasons))
     }
 
-    fn take_contour(&mut self, points: &[Point]) {
+    pub(crate) fn take_contour(&mut self, points: &[Point]) {
         self.contour.take(points);
     }
 
@@ -169,11 +173,6 @@ impl Cruncher {
             rows.xs.push(piece.control.0);
             rows.ys.push(piece.control.1);
         }
-    }
-
-    fn points_out(&self, count: usize) -> Vec<Point> {
-        let rows = &self.output;
-        (0..count).map(|i| Point { x: rows.xs[i], y: rows.ys[i], on_curve: rows.flags[i] & 1 == 1 }).collect()
     }
 
     fn pieces_out(&self, count: usize) -> Vec<Piece> {

@@ -37,6 +37,10 @@
 //!
 //! [`Cruncher::why`] tells which tests make the start of a segment a corner.
 //!
+//! # Two editions
+//!
+//! [`Cruncher::editions`] crunches a contour at two penalties, sampling each run once.
+//!
 //! # Cleaning
 //!
 //! Old uploads hold repeated points, which make needless corners. [`clean`] drops them and lists each with why;
@@ -67,6 +71,7 @@
 mod cleaning;
 mod cruncher;
 mod cubics;
+mod editions;
 mod entries;
 pub mod glif;
 pub mod glyph;
@@ -78,6 +83,7 @@ mod settings;
 pub use cleaning::{clean, put_back, Cleaned, Dropped, Why};
 pub use cruncher::{Chain, Crunched, Cruncher, Piece, Point};
 pub use cubics::from_cubics;
+pub use editions::Editions;
 pub use reasons::Reasons;
 pub use refusal::Refusal;
 pub use rows::{ANSWER_ROOM, BREAK_ROOM, MOST_PIECES, MOST_POINTS_IN, SAMPLE_ROOM, USUAL_POINT_ROOM};

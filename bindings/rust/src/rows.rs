@@ -83,6 +83,18 @@ impl Scratch {
     }
 }
 
+/// What a second edition is worked in, beside the samples and breaks that it shares with the first.
+pub(crate) struct OwnRows {
+    pub answers: Box<[[f64; 3]]>,
+    pub links: Box<[u32]>,
+}
+
+impl OwnRows {
+    pub fn full() -> OwnRows {
+        OwnRows { answers: vec![[0.0; 3]; ANSWER_ROOM].into(), links: vec![0; ANSWER_ROOM].into() }
+    }
+}
+
 /// The points that come out, and the row that the library puts them together in.
 pub(crate) struct Output {
     pub xs: Box<[i16]>,
@@ -99,6 +111,11 @@ impl Output {
             flags: vec![0; room].into(),
             points: vec![[0; 3]; room].into(),
         }
+    }
+
+    /// The first of the points that came out.
+    pub fn first(&self, count: usize) -> Vec<Point> {
+        (0..count).map(|i| Point { x: self.xs[i], y: self.ys[i], on_curve: self.flags[i] & 1 == 1 }).collect()
     }
 }
 

@@ -203,7 +203,7 @@ fn shell(command: &str) -> String {
 
 #[test]
 fn the_examples_of_each_page_are_so() {
-    for tool in ["crunch", "why", "chain", "check", "glyph", "glif", "clean", "cubic"] {
+    for tool in ["crunch", "editions", "why", "chain", "check", "glyph", "glif", "clean", "cubic"] {
         let page = run(&[tool, "--help"], b"");
         assert!(page.status.success());
         let page = text(&page.stdout);

@@ -32,13 +32,13 @@ use Rattle.assembly.specs.declared.Progress.{Progress}
 
 -- ---- what an answer says of the state that it stands for
 
-refused-for : {room : ℕ} {row : Points} {s : State} {r : C.Crunching} {n : ℕ} → Stands room row s r → r ≡ Crunching.Refused n → s ≡ refused n
+pub refused-for : {room : ℕ} {row : Points} {s : State} {r : C.Crunching} {n : ℕ} → Stands room row s r → r ≡ Crunching.Refused n → s ≡ refused n
 refused-for (stops e) h = cc
 refused-for (ends e wrote pairs) h = let z : _≡_ {A = ℕ} 0 1 = cc in absurd (omega arith)
 refused-for (goes e wrote pairs) h = let z : _≡_ {A = ℕ} 0 1 = cc in absurd (omega arith)
 
 -- the points written, where the work goes on or has ended
-record Standing (room : ℕ) (row : Points) (s : State) (state : Points → ℕ → State) (p : Progress) : Type 0 where
+pub record Standing (room : ℕ) (row : Points) (s : State) (state : Points → ℕ → State) (p : Progress) : Type 0 where
   pub points : Points
   pub is : s ≡ state points (p .pairs)
   pub wrote : Wrote row (p .w) (written room points)
@@ -52,12 +52,12 @@ standing {room} {row} state ps wrote pairs same =
       wrote = subst (λ (x : Progress). Wrote row (x .w) (written room ps)) same wrote;
     }
 
-ended-for : {room : ℕ} {row : Points} {s : State} {r : C.Crunching} {p : Progress} → Stands room row s r → r ≡ Crunching.Ended p → Standing room row s ended p
+pub ended-for : {room : ℕ} {row : Points} {s : State} {r : C.Crunching} {p : Progress} → Stands room row s r → r ≡ Crunching.Ended p → Standing room row s ended p
 ended-for (stops e) h = let z : _≡_ {A = ℕ} 0 1 = cc in absurd (omega arith)
 ended-for (ends {ps = ps} e wrote pairs) h = standing ended ps wrote pairs cc
 ended-for (goes e wrote pairs) h = let z : _≡_ {A = ℕ} 0 1 = cc in absurd (omega arith)
 
-going-for : {room : ℕ} {row : Points} {s : State} {r : C.Crunching} {p : Progress} → Stands room row s r → r ≡ Crunching.Going p → Standing room row s going p
+pub going-for : {room : ℕ} {row : Points} {s : State} {r : C.Crunching} {p : Progress} → Stands room row s r → r ≡ Crunching.Going p → Standing room row s going p
 going-for (stops e) h = let z : _≡_ {A = ℕ} 0 1 = cc in absurd (omega arith)
 going-for (ends e wrote pairs) h = let z : _≡_ {A = ℕ} 0 1 = cc in absurd (omega arith)
 going-for (goes {ps = ps} e wrote pairs) h = standing going ps wrote pairs cc

@@ -1,3 +1,3 @@
 -- What the proofs share: one run; the runs in order.
-mod Run
-mod Going
+pub mod Run
+pub mod Going

@@ -16,12 +16,13 @@ use Rattle.samples.specs.Samples.{Sample}
 use Rattle.optimize.specs.Answers.{Answer}
 use Rattle.optimize.specs.Laws.{mostPairs}
 use Rattle.optimize.specs.Stored.{Anywhere, Holds}
-use Rattle.survey.specs.Survey.{surveyOf, surveyIn}
+use Rattle.survey.specs.Survey.{surveyOf, surveyIn, samplesUsed, breaksUsed}
 use Rattle.survey.specs.declared.Surveyed as Y
+use Rattle.survey.specs.declared.Surveyed.the-variants as Surveyed
 use Rattle.settings.specs.declared.Settings.{Settings}
 use Rattle.edition.specs.Edition.{Result, Rooms, editionOf, afterSurvey, workOf, Works}
 use Rattle.edition.specs.Edition as E
-use Rattle.edition.specs.Laws.{pairsOf, pairsIn, works-pairs, works-refused, works-unchanged}
+use Rattle.edition.specs.Laws.{surveyed-found, pairsOf, pairsIn, works-pairs, works-refused, works-unchanged}
 use Rattle.edition.specs.declared.Worked as W
 use Rattle.edition.specs.declared.Worked.the-variants as Worked
 use Rattle.pieces.specs.Slots.{quadsOf, Stored}
@@ -31,7 +32,7 @@ use Rattle.contour.specs.Writing.{Wrote, Appended, written}
 use Rattle.contour.specs.Laws.{wrote-after}
 use Rattle.contour.specs.declared.Written.{Written}
 use Rattle.assembly.specs.Assembly.{State, added, resultOf, runIf, afterRun}
-use Rattle.assembly.specs.Stands.{Stands, stops, ends, goes, Onward}
+use Rattle.assembly.specs.Stands.{Stands, stops, ends, goes, FoundIn, Sighted}
 use Rattle.assembly.specs.declared.Crunching as C
 use Rattle.assembly.specs.declared.Crunching.the-variants as Crunching
 use Rattle.assembly.specs.declared.Progress.{Progress}
@@ -93,17 +94,35 @@ module _ {penalty : Float} {breaks : Row} {answers : List (List Float)} {links :
 
 -- ---- a run that is worked, of its survey
 
-module _ (rooms : Rooms) (penalty : Float) (xs ys : List ℤ) (fs : List ℕ) (first count : ℕ) {g h : Grid} (grid : g ≡ h) (samples : List Sample) (breaks : Row) {r s : Y.Surveyed}
-    (survey : surveyOf (rooms .samples) (rooms .breaks) xs ys fs first count g ≡ surveyIn samples breaks r) (is : r ≡ s) where
-  pub worked : workOf rooms h penalty xs ys fs first count ≡ afterSurvey (rooms .answers) (rooms .links) penalty (surveyIn samples breaks s)
+module _ (xs ys : List ℤ) (fs : List ℕ) (first count : ℕ) (g : Grid) (samples : List Sample) (breaks : Row) (r : Y.Surveyed) where
+  pub worked : (rooms : Rooms) → surveyOf (rooms .samples) (rooms .breaks) xs ys fs first count g ≡ surveyIn samples breaks r → (penalty : Float) {h : Grid} → g ≡ h →
+      workOf rooms h penalty xs ys fs first count ≡ afterSurvey (rooms .answers) (rooms .links) penalty (surveyIn samples breaks r)
   unfolding workOf
-  worked =
-      ap (afterSurvey (rooms .answers) (rooms .links) penalty)
-      (ap (surveyOf (rooms .samples) (rooms .breaks) xs ys fs first count) (sym grid) ∙ survey ∙ ap (surveyIn samples breaks) is)
+  worked rooms survey penalty grid =
+      ap (afterSurvey (rooms .answers) (rooms .links) penalty) (ap (surveyOf (rooms .samples) (rooms .breaks) xs ys fs first count) (sym grid) ∙ survey)
+
+  module _ (sampleRow breakRow : ℕ) where
+    found-in : (s : Y.Surveyed) → surveyOf sampleRow breakRow xs ys fs first count g ≡ surveyIn samples breaks s → FoundIn breaks s
+    found-in (Surveyed.Refused k) e = tt
+    found-in Surveyed.Past e = tt
+    found-in (Surveyed.Rows n m) e = surveyed-found sampleRow breakRow xs ys fs first count g (take n samples) (take m breaks) e
+
+    -- what a step asks of the rows that it is lent, which are as long as the survey was lent them
+    pub sighted : surveyOf sampleRow breakRow xs ys fs first count g ≡ surveyIn samples breaks r → samplesUsed r ≤ sampleRow → breaksUsed r ≤ breakRow →
+        length samples ≡ sampleRow → length breaks ≡ breakRow → Sighted samples breaks r
+    sighted survey s b ks kb = record { samples-in = omega arith; breaks-in = omega arith; found = found-in r survey }
 
 pub worked-so : (itself ps : Points) (n : ℕ) {x y : Result} {room : ℕ} {row : Points} {c : C.Crunching} → x ≡ y →
     Stands room row (added itself y ps n) c → Stands room row (added itself x ps n) c
 worked-so itself ps n {room = room} {row = row} {c = c} e stands = subst (λ (z : Result). Stands room row (added itself z ps n) c) (sym e) stands
+
+-- ---- a step after a survey, by what the survey is
+
+module _ (answers links : ℕ) (penalty : Float) (itself : Points) (samples : List Sample) (breaks : Row) {s t : Y.Surveyed} (is : s ≡ t) where
+  pub surveyed-so : (ps : Points) (n : ℕ) {room : ℕ} {row : Points} {c : C.Crunching} →
+      Stands room row (added itself (afterSurvey answers links penalty (surveyIn samples breaks t)) ps n) c →
+      Stands room row (added itself (afterSurvey answers links penalty (surveyIn samples breaks s)) ps n) c
+  surveyed-so ps n stands = worked-so itself ps n (ap (λ (y : Y.Surveyed). afterSurvey answers links penalty (surveyIn samples breaks y)) is) stands
 
 -- ---- a run, copied or worked
 

@@ -3,11 +3,16 @@ use Prim.Native.Nat.{ℕ, _+_, _≤_}
 use mathlib.Core.Path.{_≡_}
 use lib.IntN.{ℤ}
 use mathlib.Core.List.{List}
-use lib.ListN.{length}
+use lib.Ieee.{Float}
+use lib.ListN.{length, take}
 use Rattle.rows.specs.Lent.{Lent, before, after, room}
 use Rattle.contour.specs.Points.{Points}
 use Rattle.contour.specs.Writing.{Wrote, written}
 use Rattle.optimize.specs.Laws.{mostPairs}
+use Rattle.survey.specs.Survey.{samplesUsed, breaksUsed}
+use Rattle.survey.specs.declared.Surveyed as Y
+use Rattle.survey.specs.declared.Surveyed.the-variants as Surveyed
+use Rattle.edition.specs.Edition.{Found}
 use Rattle.assembly.specs.Assembly.{State, refused, ended, going, closedUp}
 use Rattle.assembly.specs.declared.Crunching as C
 use Rattle.assembly.specs.declared.Crunching.the-variants as Crunching
@@ -28,6 +33,17 @@ pairsIn (Crunching.Going p) = p .pairs
 -- after whatever points stood in the row, with the pairs so far, a state
 abbrev pub Onward : (Points → ℕ → State) → Points → Points → Progress → ℕ → C.Crunching → Type 0
 Onward state old new p long r = (ps : Points) → Wrote old (p .w) (written long ps) → Stands long new (state ps (p .pairs)) r
+
+-- a survey and its rows, as an edition is lent them: so many samples and breaks stand there, and the breaks were found
+abbrev pub FoundIn : List (List Float) → Y.Surveyed → Type 0
+FoundIn breaks (Surveyed.Refused k) = Unit
+FoundIn breaks Surveyed.Past = Unit
+FoundIn breaks (Surveyed.Rows n m) = Found (take m breaks)
+
+pub record Sighted (samples breaks : List (List Float)) (s : Y.Surveyed) : Type 0 where
+  pub samples-in : samplesUsed s ≤ length samples
+  pub breaks-in : breaksUsed s ≤ length breaks
+  pub found : FoundIn breaks s
 
 -- what a function that adds one run's points to the row leaves
 pub record Adds (state : Points → ℕ → State) (row : Lent (List ℤ)) (p : Progress) (r : C.Crunching) : Type 0 where

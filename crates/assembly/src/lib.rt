@@ -11,10 +11,11 @@ ghost use Rattle.rows.specs.Lent.{before, after, room};
 ghost use Rattle.runs.specs.Runs.{between};
 ghost use Rattle.settings.specs.Settings.{penaltyOf};
 ghost use Rattle.contour.specs.Points.{unchangedIn};
-ghost use Rattle.edition.specs.Edition.{editionOf, Found};
+ghost use Rattle.survey.specs.Survey.{surveyIn};
+ghost use Rattle.edition.specs.Edition.{editionOf, afterSurvey, Found};
 ghost use Rattle.edition.specs.Scratch.{roomsIn};
 ghost use Rattle.assembly.specs.Assembly.{going, added, resultOf, afterRun, crunchAll, crunchRound, crunchRuns};
-ghost use Rattle.assembly.specs.Stands.{Stands, Onward, Adds, ClosesUp};
+ghost use Rattle.assembly.specs.Stands.{Stands, Sighted, Onward, Adds, ClosesUp};
 
 // The points written, and the pairs tried.
 pub struct Progress {
@@ -66,35 +67,25 @@ pub fn step(
     }
 }
 
-// A run that is worked: the survey, then the step on it.
-fn work_run(
+// One edition's step after the survey of a run, whose rows it is lent to be read alone.
+pub fn after_survey(
     xs: &[i16],
     ys: &[i16],
     flags: &[u8],
-    first: usize,
-    count: usize,
     settings: Settings,
     p: Progress,
-    samples: &mut [[f64; 4]],
-    breaks: &mut [[f64; 6]],
+    s: Surveyed,
+    samples: &[[f64; 4]],
+    breaks: &[[f64; 6]],
     answers: &mut [[f64; 3]],
     links: &mut [u32],
     points: &mut [[i16; 3]],
 ) -> Crunching
-    requires { ⌜ p .pairs ≤ 4294967296 ⌝ }
-    ensures { λ r. ⌜ Adds (added (unchangedIn (before xs) (before ys) (before flags) (settings .closed)) (resultOf (roomsIn samples breaks answers links) settings
-        (before xs) (before ys) (before flags) (record { first = first; count = count }))) points p r ⌝ }
+    requires { ⌜ Sighted (now samples) (now breaks) s × (p .pairs ≤ 4294967296) ⌝ }
+    ensures { λ r. ⌜ Adds (added (unchangedIn (before xs) (before ys) (before flags) (settings .closed))
+        (afterSurvey (room answers) (room links) (penaltyOf settings) (surveyIn (before samples) (before breaks) s))) points p r ⌝ }
 {
-    match survey::survey(
-        xs,
-        ys,
-        flags,
-        first,
-        count,
-        settings.grid(),
-        samples,
-        breaks,
-    ) {
+    match s {
         Surveyed::Refused(k) => Crunching::Refused(k),
         Surveyed::Past => {
             let w = contour::unchanged_in(xs, ys, flags, settings.closed, points);
@@ -115,6 +106,50 @@ fn work_run(
             )
         }
     }
+}
+
+// A run that is worked: the survey, then the step on it.
+fn work_run(
+    xs: &[i16],
+    ys: &[i16],
+    flags: &[u8],
+    first: usize,
+    count: usize,
+    settings: Settings,
+    p: Progress,
+    samples: &mut [[f64; 4]],
+    breaks: &mut [[f64; 6]],
+    answers: &mut [[f64; 3]],
+    links: &mut [u32],
+    points: &mut [[i16; 3]],
+) -> Crunching
+    requires { ⌜ p .pairs ≤ 4294967296 ⌝ }
+    ensures { λ r. ⌜ Adds (added (unchangedIn (before xs) (before ys) (before flags) (settings .closed)) (resultOf (roomsIn samples breaks answers links) settings
+        (before xs) (before ys) (before flags) (record { first = first; count = count }))) points p r ⌝ }
+{
+    let s = survey::survey(
+        xs,
+        ys,
+        flags,
+        first,
+        count,
+        settings.grid(),
+        samples,
+        breaks,
+    );
+    after_survey(
+        xs,
+        ys,
+        flags,
+        settings,
+        p,
+        s,
+        samples,
+        breaks,
+        answers,
+        links,
+        points,
+    )
 }
 
 // The run of `count` segments from segment `first` on: a line is copied.
@@ -211,7 +246,7 @@ fn crunch_runs(
 }
 
 // Closed: round from the start s.
-fn close_up(c: Crunching, points: &mut [[i16; 3]], s: [i16; 3]) -> Crunching
+pub fn close_up(c: Crunching, points: &mut [[i16; 3]], s: [i16; 3]) -> Crunching
     ensures { λ r. ⌜ ClosesUp (before points) (after points) c s r ⌝ }
 {
     match c {

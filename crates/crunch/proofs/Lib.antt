@@ -1,4 +1,4 @@
 -- What the proofs share: the end of a contour, and the entry.
-mod End
+pub mod End
 pub mod Whole
 pub mod Cause

@@ -36,7 +36,8 @@ fn finish_points(p: Progress, closed: bool, points: &mut [[i16; 3]]) -> Crunched
     Crunched::Points(n, p.pairs)
 }
 
-fn finish(c: Crunching, closed: bool, points: &mut [[i16; 3]]) -> Crunched
+// What the work comes to.
+pub fn finish(c: Crunching, closed: bool, points: &mut [[i16; 3]]) -> Crunched
     requires { ⌜ Counted (now points) c ⌝ }
     ensures { λ r. ⌜ Gives (after points) (outcomeIn closed (before points) c) r ⌝ }
 {
@@ -83,7 +84,7 @@ pub fn crunch_into(
 }
 
 // The first points of the row, to the output rows.
-fn put_out(c: Crunched, points: &[[i16; 3]], ox: &mut [i16], oy: &mut [i16], of: &mut [u8])
+pub fn put_out(c: Crunched, points: &[[i16; 3]], ox: &mut [i16], oy: &mut [i16], of: &mut [u8])
     requires { ⌜ Fits (now points) (outputs (now ox) (now oy) (now of)) c ⌝ }
     ensures { λ _. ⌜ outputs (after ox) (after oy) (after of) ≡ copied c (before points) (outputs (before ox) (before oy) (before of)) ⌝ }
 {

@@ -64,6 +64,10 @@ pub enum Tool {
     Glif {
         step: Step,
     },
+    Editions {
+        /// of the second edition; the first has that of the settings
+        penalty: u32,
+    },
 }
 
 /// What is done with a glyph description, or with a file of UFO's GLIF.
@@ -96,6 +100,7 @@ impl Tool {
             Some("check") => Some(Tool::Check { run: 0 }),
             Some("glyph") => Some(Tool::Glyph { step: Step::Read }),
             Some("glif") => Some(Tool::Glif { step: Step::Read }),
+            Some("editions") => Some(Tool::Editions { penalty: 0 }),
             _ => None,
         }
     }
@@ -103,7 +108,7 @@ impl Tool {
     /// Whether runs are worked, so that settings mean something.
     fn works_runs(self) -> bool {
         match self {
-            Tool::Crunch | Tool::Chain { .. } | Tool::Check { .. } => true,
+            Tool::Crunch | Tool::Chain { .. } | Tool::Check { .. } | Tool::Editions { .. } => true,
             Tool::Clean { crunch } | Tool::Cubic { crunch } => crunch,
             Tool::Glyph { step } | Tool::Glif { step } => step == Step::Crunch,
             Tool::Why { .. } => false,
@@ -116,6 +121,7 @@ impl Tool {
             Tool::Chain { .. } | Tool::Check { .. } => Some(NEEDS_RUN),
             Tool::Glyph { .. } => Some(NEEDS_STEP),
             Tool::Glif { .. } => Some(NEEDS_GLIF),
+            Tool::Editions { .. } => Some(NEEDS_PENALTIES),
             _ => None,
         }
     }
@@ -176,6 +182,8 @@ const NEEDS_STEP: &str = "glyph needs read, write or crunch before any file, as 
 const NEEDS_GLIF: &str =
     "glif needs one file of GLIF, or read, write or crunch before any file of lines, as in: glif A.glif, glif read";
 
+const NEEDS_PENALTIES: &str = "editions needs two penalties: --penalty A --penalty B";
+
 /// What the words so far ask for.
 #[derive(Default)]
 struct Asked {
@@ -204,10 +212,32 @@ impl Asked {
                     self.inputs.push(Input::File(word.into()));
                 }
             },
+            Tool::Editions { .. } => {
+                self.inputs.push(Input::File(word.into()));
+                return Ok(());
+            }
             _ => self.inputs.push(Input::File(word.into())),
         }
         self.has_needed = true;
         Ok(())
+    }
+
+    /// The penalty of a second edition; whether it is one.
+    fn take_second(
+        &mut self,
+        word: &OsStr,
+        words: &mut impl Iterator<Item = OsString>,
+    ) -> Result<bool, String> {
+        let Tool::Editions { penalty } = &mut self.tool else {
+            return Ok(false);
+        };
+        let (name, value) = parted(word);
+        if name != "--penalty" || self.has_needed || !self.settings.has_penalty() {
+            return Ok(false);
+        }
+        *penalty = settings::penalty(value.or_else(|| words.next()))?;
+        self.has_needed = true;
+        Ok(true)
     }
 
     /// An option whose value, where it has one, follows it as a word of its own or after a `=`.
@@ -216,7 +246,7 @@ impl Asked {
         word: &OsStr,
         words: &mut impl Iterator<Item = OsString>,
     ) -> Result<(), String> {
-        if self.settings.take(word, words)? {
+        if self.take_second(word, words)? || self.settings.take(word, words)? {
             return Ok(());
         }
         match parted(word) {
@@ -308,7 +338,7 @@ impl Asked {
 }
 
 /// An option's name, and its value where that follows it after a `=`. No name is other than Unicode.
-fn parted(word: &OsStr) -> (&str, Option<OsString>) {
+pub fn parted(word: &OsStr) -> (&str, Option<OsString>) {
     let text = word.to_str().unwrap_or_default();
     match text.split_once('=') {
         Some((name, value)) => (name, Some(value.into())),
@@ -316,7 +346,7 @@ fn parted(word: &OsStr) -> (&str, Option<OsString>) {
     }
 }
 
-fn no_option(word: &OsStr) -> String {
+pub fn no_option(word: &OsStr) -> String {
     format!("there is no option {}", word.to_string_lossy())
 }
 
@@ -328,7 +358,7 @@ fn once<T>(name: &str, place: &mut Option<T>, value: T) -> Result<(), String> {
 }
 
 /// Digits alone. A number too large to be held is out of every range, as the largest is that can be.
-fn whole_number(word: &OsStr) -> Option<u32> {
+pub fn whole_number(word: &OsStr) -> Option<u32> {
     let digits = word.as_encoded_bytes();
     if digits.is_empty() || !digits.iter().all(u8::is_ascii_digit) {
         return None;

@@ -6,6 +6,7 @@ mod chains;
 mod cleaning;
 mod contour_line;
 mod cubics;
+mod editions;
 mod glif;
 mod glyph;
 mod inputs;

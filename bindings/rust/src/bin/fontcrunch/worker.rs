@@ -8,6 +8,7 @@ use crate::chains;
 use crate::cleaning;
 use crate::contour_line::{self, Malformed};
 use crate::cubics;
+use crate::editions;
 use crate::glif;
 use crate::glyph;
 use crate::picture::Sketch;
@@ -24,9 +25,9 @@ pub struct Answer {
 }
 
 /// What a tool says of a contour that is not refused.
-struct Reply {
-    text: String,
-    status: Status,
+pub struct Reply {
+    pub text: String,
+    pub status: Status,
 }
 
 impl From<String> for Reply {
@@ -88,6 +89,9 @@ impl Worker {
             Tool::Chain { run, segments } => chains::chain(cruncher, contour(line, points)?, run, segments),
             Tool::Glyph { step } => glyph::answer(step, cruncher, line)?,
             Tool::Glif { step } => glif::answer(step, cruncher, line)?,
+            Tool::Editions { penalty } => {
+                return Ok(Ok(editions::answer(cruncher, contour(line, points)?, penalty)))
+            }
             Tool::Check { run } => {
                 let chain = chain_line::parse(line, points)?;
                 return Ok(cruncher.check(points, run, &chain).map(verdict));

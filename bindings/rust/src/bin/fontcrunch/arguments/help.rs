@@ -56,6 +56,7 @@ fn page(tool: Tool) -> &'static Page {
         Tool::Check { .. } => &CHECK,
         Tool::Glyph { .. } => &GLYPH,
         Tool::Glif { .. } => &GLIF,
+        Tool::Editions { .. } => &EDITIONS,
     }
 }
 
@@ -63,6 +64,7 @@ const OVERVIEW: &str = "\
 Crunches TrueType contours: puts fewer quadratic pieces between their corners.
 
 usage: fontcrunch [crunch] [SETTINGS] [--svg PICTURE] [FILE...]
+       fontcrunch editions --penalty A --penalty B [--whole-units] [--closed] [FILE...]
        fontcrunch why [--index] [FILE...]
        fontcrunch chain K [--segments] [SETTINGS] [FILE...]
        fontcrunch check K [SETTINGS] [FILE...]
@@ -74,6 +76,7 @@ usage: fontcrunch [crunch] [SETTINGS] [--svg PICTURE] [FILE...]
 
 crunch         crunches contours, which a first word that names no tool does too; a file
                of a tool's name is ./crunch, ./clean and so on
+editions       crunches each contour twice, at two penalties, from one sampling
 why            tells why segments start at corners
 chain K        gives the chain of run K, counted from 0
 check K        checks chains of run K, whoever made them
@@ -142,6 +145,36 @@ A line out, for each line in:
     example: "  \
   $ echo '0 0 1 0 60 0 40 90 1 80 120 0 130 120 1 200 -40 1' | fontcrunch --penalty 16
   ok 937 200 -40 1 130 120 1 80 120 0 0 60 0 0 0 1
+",
+};
+
+const EDITIONS: Page = Page {
+    what: "\
+Crunches each contour into two editions, a and b, with a penalty each. Each run is sampled
+once for both, and an edition gets what fontcrunch crunch gives at its penalty, whatever
+becomes of the other.
+
+usage: fontcrunch editions --penalty A --penalty B [--whole-units] [--closed] [FILE...]
+
+--penalty A --penalty B
+               what each piece adds to a score, in sixteenths, 1 to 256: of a, then of b
+--whole-units  of both: rounds breaks to whole units, not to half ones
+--closed       of both: as for fontcrunch crunch
+",
+    settings: false,
+    lines: "\
+A line in is a contour, x y f x y f ..., as for fontcrunch crunch.
+
+Two lines out, for each line in, of a and of b; one where it is malformed:
+  a ok PAIRS x y f ...
+                      the points that came out
+  a refused K         nothing came out of this edition
+",
+    refusals: &[2, 3, 4, 5, 6, 7, 8, 9, 16],
+    example: "  \
+  $ echo '0 0 1 100 0 1 0 100 1' | fontcrunch editions --penalty 16 --penalty 300
+  a ok 0 0 100 1 100 0 1 0 0 1
+  b refused 16
 ",
 };
 

@@ -6,6 +6,12 @@ use fontcrunch::Settings;
 
 use super::{once, parted, whole_number};
 
+/// A number outside the range is no fault of the words: the library refuses by it, after 1 to 5.
+pub fn penalty(number: Option<OsString>) -> Result<u32, String> {
+    let number = number.as_deref().and_then(whole_number);
+    number.ok_or_else(|| "--penalty needs a whole number of sixteenths, 1 to 256".to_owned())
+}
+
 /// The settings that the words so far ask for.
 #[derive(Default)]
 pub struct Chosen {
@@ -27,11 +33,12 @@ impl Chosen {
         Ok(true)
     }
 
-    /// A number outside the range is no fault of the words: the library refuses by it, after 1 to 5.
     fn at_penalty(&mut self, number: Option<OsString>) -> Result<(), String> {
-        let number = number.as_deref().and_then(whole_number);
-        let penalty = number.ok_or("--penalty needs a whole number of sixteenths, 1 to 256")?;
-        once("--penalty", &mut self.penalty, penalty)
+        once("--penalty", &mut self.penalty, penalty(number)?)
+    }
+
+    pub fn has_penalty(&self) -> bool {
+        self.penalty.is_some()
     }
 
     /// The name of a setting that is given.

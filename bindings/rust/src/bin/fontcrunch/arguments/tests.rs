@@ -163,6 +163,22 @@ fn glyphs() {
 }
 
 #[test]
+fn two_penalties() {
+    for words in
+        [["--penalty=16", "--closed", "--penalty", "32"], ["--closed", "--penalty", "16", "--penalty=32"]]
+    {
+        let job = job(&[&["editions"][..], &words, &["a"]].concat());
+        assert_eq!((job.tool, job.inputs), (Tool::Editions { penalty: 32 }, vec![file("a")]));
+        assert_eq!(job.settings, Settings { penalty: 16, closed: true, ..Settings::default() });
+    }
+    for words in [&["editions"][..], &["editions", "--penalty", "16"], &["editions", "a", "b"]] {
+        assert!(fault(words).contains("two penalties"), "{words:?}");
+    }
+    assert!(fault(&["editions", "--penalty=1", "--penalty=2", "--penalty=3"]).contains("twice"));
+    assert!(fault(&["editions", "--penalty=1", "--penalty", "x"]).contains("--penalty needs"));
+}
+
+#[test]
 fn lines_of_files_or_one_file() {
     for (word, step) in [("read", Step::Read), ("write", Step::Write), ("crunch", Step::Crunch)] {
         assert_eq!(job(&["glif", word, "-"]).tool, Tool::Glif { step });
@@ -201,7 +217,7 @@ fn wrong_words() {
     assert!(fault(&["-x"]).contains("no option -x"));
 }
 
-const TOOLS: [&str; 8] = ["crunch", "why", "chain", "check", "glyph", "glif", "clean", "cubic"];
+const TOOLS: [&str; 9] = ["crunch", "editions", "why", "chain", "check", "glyph", "glif", "clean", "cubic"];
 
 #[test]
 fn each_tool_has_a_page() {
@@ -217,8 +233,9 @@ fn each_tool_has_a_page() {
         assert!(help(None).contains(&format!("\n{tool} ")), "{tool}");
         assert!(page.contains("\nExample:\n  $ ") && page.ends_with("was wrong.\n"), "{tool}");
         assert!(page.lines().all(|line| line.len() <= 132), "{tool}");
-        // settings by the same names and words wherever runs are worked
-        assert_eq!(page.contains("--penalty N    what each piece adds"), tool != "why", "{tool}");
+        // settings by the same names and words wherever runs are worked; editions has two penalties
+        let has_settings = page.contains("--penalty N    what each piece adds");
+        assert_eq!(has_settings, !["why", "editions"].contains(&tool), "{tool}");
     }
 }
 

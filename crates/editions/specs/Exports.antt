@@ -1,0 +1,13 @@
+-- What the export reports of both answers. Definitions only.
+use Rattle.crunch.specs.declared.Crunched as C
+use Rattle.crunch.specs.declared.Crunched.the-variants as Crunched
+use Rattle.editions.specs.declared.entry.Editions.{Editions}
+use Rattle.editions.specs.declared.export.EditionReport.{EditionReport}
+use Rattle.editions.specs.declared.export.EditionsReport.{EditionsReport}
+
+abbrev pub reportOne : C.Crunched → EditionReport
+reportOne (Crunched.Refused k) = record { number = k; points = 0; pairs = 0 }
+reportOne (Crunched.Points n p) = record { number = 0; points = n; pairs = p }
+
+abbrev pub report : Editions → EditionsReport
+report r = record { a = reportOne (r .a); b = reportOne (r .b) }
