@@ -4,4 +4,4 @@ pub mod Rounds
 mod Values
 pub mod Reasons
 pub mod Whole
-mod Outline
+pub mod Outline

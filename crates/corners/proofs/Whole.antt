@@ -1,13 +1,17 @@
 -- `hypot` in the bend test, the `normOf` of `angleCorner`, is the root, rounded once, of the exact whole sum of squares: the steps of a
--- contour are exact whole numbers below 2 ^ 17, so that their squares and the sum of these are exact. A theorem on the definitions, for
--- a reader: no proof of a function uses it. Assumes nothing.
+-- contour are exact whole numbers below 2 ^ 17, so that their squares and the sum of these are exact. `bend-test-exact` says so of every tangent
+-- of a contour: a theorem on the definitions, for a reader, which no proof of a function uses. Assumes nothing.
 use Prim.Native.Nat.{ℕ, _+_, _-_, _*_, _^_, _≤_, _<_}
 use mathlib.Core.Bool.{Bool, true, false, not, true≢false}
+use mathlib.Core.List.{List}
 use mathlib.Core.Path.{_≡_, refl, sym, ap, _∙_}
 use native.Mathlib.Nat.{le-refl, mul-one, mul-mul-mul-comm, mul-pos, add-mul, mul-le-mul}
+use native.Mathlib.Decide.{decLt}
 use native.Mathlib.Omega.{arith}
 use lib.Dec.{lit≤}
-use lib.IntN.{ℤ, pos, natAbs, _-ℤ_, +ℤ-idr}
+use lib.IntN.{ℤ, pos, negsuc, natAbs, _+ℤ_, _-ℤ_, _*ℤ_, +ℤ-idr}
+use lib.Signed.{mag}
+use lib.ListN.{length, getD, List·getD-eq-default}
 use lib.Ieee.{Float, fin, binary64, up, down, unlike, round, sum, add, sub, mul, ofInt, ofBits}
 use lib.Ieee.Exact.{HasValue}
 use lib.Ieee.Fits.{down-pos, round-fits, add-fits}
@@ -18,7 +22,10 @@ use Rattle.float.specs.Dyadic.{Exact, signed}
 use Rattle.float.proofs.Dyadic.{round-unit, left, right, size-signed, size-of, sub-exact, whole-exact}
 use Rattle.geometry.specs.declared.Point.{Point}
 use Rattle.geometry.specs.Geometry.{squares, normOf}
-use Rattle.corners.specs.Segments.{step}
+use Rattle.corners.specs.declared.Seg.{Seg}
+use Rattle.corners.specs.Segments.{onAt, nextOf, endIf, endOf, startOf, coordinate, step, segIf, segFrom, segAt, leavingOf, arrivingOf}
+use Rattle.corners.specs.Corners.{previous}
+use Rattle.corners.specs.Statements.{SixteenBits, exactHypot, leavingHypot, arrivingHypot, ByExactHypot, BendTestIsExact}
 
 -- x is the whole number ±size
 pub record Whole (x : Float) (size : ℕ) : Type 0 where
@@ -93,9 +100,56 @@ squares-exact x y a b v w ha hb =
 pub length-exact : (d : Point) (a b : ℕ) → Whole (d .x) a → Whole (d .y) b → a < 2 ^ 17 → b < 2 ^ 17 → normOf d ≡ rootOf (ofInt binary64 (pos (a * a + b * b)))
 length-exact d a b v w ha hb = ap rootOf (squares-exact (d .x) (d .y) a b v w ha hb)
 
+square-is : (z : ℤ) → z *ℤ z ≡ pos (natAbs z * natAbs z)
+square-is (pos n) = refl
+square-is (negsuc n) = refl
+
 -- a tangent between two points of 16 bits: `hypot` of it is the root, rounded once, of the exact whole sum of squares
-pub hypot-exact : (x0 y0 x1 y1 : ℤ) → natAbs x0 ≤ 2 ^ 15 → natAbs y0 ≤ 2 ^ 15 → natAbs x1 ≤ 2 ^ 15 → natAbs y1 ≤ 2 ^ 15 →
+hypot-exact : (x0 y0 x1 y1 : ℤ) → natAbs x0 ≤ 2 ^ 15 → natAbs y0 ≤ 2 ^ 15 → natAbs x1 ≤ 2 ^ 15 → natAbs y1 ≤ 2 ^ 15 →
     normOf (step (ofInt binary64 x0) (ofInt binary64 y0) (ofInt binary64 x1) (ofInt binary64 y1))
-    ≡ rootOf (ofInt binary64 (pos (natAbs (x1 -ℤ x0) * natAbs (x1 -ℤ x0) + natAbs (y1 -ℤ y0) * natAbs (y1 -ℤ y0))))
+    ≡ rootOf (ofInt binary64 ((x1 -ℤ x0) *ℤ (x1 -ℤ x0) +ℤ (y1 -ℤ y0) *ℤ (y1 -ℤ y0)))
 hypot-exact x0 y0 x1 y1 hx0 hy0 hx1 hy1 =
-    length-exact _ _ _ (step-whole x1 x0 hx1 hx0) (step-whole y1 y0 hy1 hy0) (step-small x1 x0 hx1 hx0) (step-small y1 y0 hy1 hy0)
+    rw (square-is (x1 -ℤ x0), square-is (y1 -ℤ y0))
+    (length-exact _ _ _ (step-whole x1 x0 hx1 hx0) (step-whole y1 y0 hy1 hy0) (step-small x1 x0 hx1 hx0) (step-small y1 y0 hy1 hy0))
+
+-- ---- the tangents of a contour
+
+size-most : (z : ℤ) → mag z < 2 ^ 15 → natAbs z ≤ 2 ^ 15
+size-most (pos n) h = omega arith
+size-most (negsuc n) h = h
+
+-- at every place, past the end too
+sixteen-at : (row : List ℤ) → SixteenBits row → (i : ℕ) → natAbs (getD row i (pos 0)) ≤ 2 ^ 15
+sixteen-at row s i = by (decLt i (length row))
+  where
+    by : Dec (i < length row) → natAbs (getD row i (pos 0)) ≤ 2 ^ 15
+    by (yes h) = size-most (getD row i (pos 0)) (s i h)
+    by (no h) = rw (List·getD-eq-default row (pos 0) {n = i} (omega arith)) (lit≤ tt)
+
+module _ (xs ys : List ℤ) (sx : SixteenBits xs) (sy : SixteenBits ys) where
+  places : (i j : ℕ) → normOf (step (coordinate xs i) (coordinate ys i) (coordinate xs j) (coordinate ys j)) ≡ exactHypot xs ys i j
+  places i j = hypot-exact _ _ _ _ (sixteen-at xs sx i) (sixteen-at ys sy i) (sixteen-at xs sx j) (sixteen-at ys sy j)
+
+  -- of a line from a to b, and of a quad from a to c with its control at b
+  leaves : (t : Bool) (a b c : ℕ) → normOf (leavingOf (segIf xs ys t a b c)) ≡ exactHypot xs ys a b
+  leaves true a b c = places a b
+  leaves false a b c = places a b
+
+  arrives : (t : Bool) (a b c : ℕ) → normOf (arrivingOf (segIf xs ys t a b c)) ≡ exactHypot xs ys (endIf t a b) (endIf t b c)
+  arrives true a b c = places a b
+  arrives false a b c = places b c
+
+  leaves-at : (fs : List ℕ) (a : ℕ) → normOf (leavingOf (segFrom xs ys fs a)) ≡ leavingHypot xs ys fs a
+  unfolding segFrom
+  leaves-at fs a = let b = nextOf a (length fs) in leaves (onAt fs b) a b (nextOf b (length fs))
+
+  arrives-at : (fs : List ℕ) (a : ℕ) → normOf (arrivingOf (segFrom xs ys fs a)) ≡ arrivingHypot xs ys fs a
+  unfolding segFrom endOf
+  arrives-at fs a = let b = nextOf a (length fs) in arrives (onAt fs b) a b (nextOf b (length fs))
+
+pub bend-test-exact : BendTestIsExact
+bend-test-exact xs ys fs sx sy = record {
+  leaving = λ k. leaves-at xs ys sx sy fs (startOf fs k);
+  arriving = λ k. arrives-at xs ys sx sy fs (startOf fs k);
+  test = λ m k. rw (arrives-at xs ys sx sy fs (startOf fs (previous m k)), leaves-at xs ys sx sy fs (startOf fs k));
+}
