@@ -18,7 +18,7 @@ use Rattle.refusals.specs.Accepted.{Accepted, accepted, next-on}
 use Rattle.corners.specs.declared.Seg.{Seg}
 use Rattle.corners.specs.Segments.{onAt, countOf, endOf, placeAfter, segFrom}
 use Rattle.corners.specs.OpenType.{spot, points, outlineFrom, outline}
-use Rattle.corners.specs.Statements.{SixteenBits}
+use Rattle.rows.specs.Sixteen.{SixteenBits}
 use Rattle.corners.proofs.Outline.{segments, outline-is}
 use Rattle.contour.specs.Points.{Points, flagIf, pointAs, startPoint, pointsOf, pointsTo, cameTo, unchangedIn}
 use Rattle.contour.specs.Implied.{same, finished}

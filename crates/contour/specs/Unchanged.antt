@@ -8,7 +8,7 @@ use lib.IntN.{ℤ}
 use lib.ListN.{length}
 use Rattle.refusals.specs.Refusals.{isOn, judged}
 use Rattle.refusals.specs.declared.Judged.the-variants.{Fine}
-use Rattle.corners.specs.Statements.{SixteenBits}
+use Rattle.rows.specs.Sixteen.{SixteenBits}
 use Rattle.contour.specs.Points.{Points, flagIf, startPoint, unchangedIn}
 use Rattle.contour.specs.Implied.{isImplied, dropImplied, finished}
 use Rattle.contour.specs.Output.{column, flags}

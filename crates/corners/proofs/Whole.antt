@@ -6,16 +6,17 @@ use mathlib.Core.Bool.{Bool, true, false, not, true≢false}
 use mathlib.Core.List.{List}
 use mathlib.Core.Path.{_≡_, refl, sym, ap, _∙_}
 use native.Mathlib.Nat.{le-refl, mul-one, mul-mul-mul-comm, mul-pos, add-mul, mul-le-mul}
-use native.Mathlib.Decide.{decLt}
 use native.Mathlib.Omega.{arith}
 use lib.Dec.{lit≤}
 use lib.IntN.{ℤ, pos, negsuc, natAbs, _+ℤ_, _-ℤ_, _*ℤ_, +ℤ-idr}
 use lib.Signed.{mag}
-use lib.ListN.{length, getD, List·getD-eq-default}
+use lib.ListN.{length, getD}
 use lib.Ieee.{Float, fin, binary64, up, down, unlike, round, sum, add, sub, mul, ofInt, ofBits}
 use lib.Ieee.Exact.{HasValue}
 use lib.Ieee.Fits.{down-pos, round-fits, add-fits}
 use lib.Ieee.Back.{round-whole, whole-unique}
+use Rattle.rows.specs.Sixteen.{SixteenBits}
+use Rattle.rows.proofs.Sixteen.{sixteen-at}
 use Rattle.float.specs.Numbers.{nil}
 use Rattle.float.specs.Float.{rootOf}
 use Rattle.float.specs.Dyadic.{Exact, signed}
@@ -25,7 +26,7 @@ use Rattle.geometry.specs.Geometry.{squares, normOf}
 use Rattle.corners.specs.declared.Seg.{Seg}
 use Rattle.corners.specs.Segments.{onAt, nextOf, endIf, endOf, startOf, coordinate, step, segIf, segFrom, segAt, leavingOf, arrivingOf}
 use Rattle.corners.specs.Corners.{previous}
-use Rattle.corners.specs.Statements.{SixteenBits, exactHypot, leavingHypot, arrivingHypot, ByExactHypot, BendTestIsExact}
+use Rattle.corners.specs.Statements.{exactHypot, leavingHypot, arrivingHypot, ByExactHypot, BendTestIsExact}
 
 -- x is the whole number ±size
 pub record Whole (x : Float) (size : ℕ) : Type 0 where
@@ -118,17 +119,12 @@ size-most : (z : ℤ) → mag z < 2 ^ 15 → natAbs z ≤ 2 ^ 15
 size-most (pos n) h = omega arith
 size-most (negsuc n) h = h
 
--- at every place, past the end too
-sixteen-at : (row : List ℤ) → SixteenBits row → (i : ℕ) → natAbs (getD row i (pos 0)) ≤ 2 ^ 15
-sixteen-at row s i = by (decLt i (length row))
-  where
-    by : Dec (i < length row) → natAbs (getD row i (pos 0)) ≤ 2 ^ 15
-    by (yes h) = size-most (getD row i (pos 0)) (s i h)
-    by (no h) = rw (List·getD-eq-default row (pos 0) {n = i} (omega arith)) (lit≤ tt)
+size-at : (row : List ℤ) → SixteenBits row → (i : ℕ) → natAbs (getD row i (pos 0)) ≤ 2 ^ 15
+size-at row s i = size-most (getD row i (pos 0)) (sixteen-at row s i)
 
 module _ (xs ys : List ℤ) (sx : SixteenBits xs) (sy : SixteenBits ys) where
   places : (i j : ℕ) → normOf (step (coordinate xs i) (coordinate ys i) (coordinate xs j) (coordinate ys j)) ≡ exactHypot xs ys i j
-  places i j = hypot-exact _ _ _ _ (sixteen-at xs sx i) (sixteen-at ys sy i) (sixteen-at xs sx j) (sixteen-at ys sy j)
+  places i j = hypot-exact _ _ _ _ (size-at xs sx i) (size-at ys sy i) (size-at xs sx j) (size-at ys sy j)
 
   -- of a line from a to b, and of a quad from a to c with its control at b
   leaves : (t : Bool) (a b c : ℕ) → normOf (leavingOf (segIf xs ys t a b c)) ≡ exactHypot xs ys a b

@@ -1,26 +1,22 @@
 -- What a reader should know of segments and corners, as types; a theorem of proofs/ is of each: `read-by-opentype` of Outline, `corner-when` and
 -- `no-corner-past` of Reasons, `bend-test-exact` of Whole. Statements only.
-use Prim.Native.Nat.{ℕ, _+_, _^_, _≤_, _<_}
+use Prim.Native.Nat.{ℕ, _+_, _≤_, _<_}
 use mathlib.Core.Bool.{Bool, false, _||_}
 use mathlib.Core.List.{List}
 use mathlib.Core.Path.{_≡_}
 use lib.IntN.{ℤ, pos, _+ℤ_, _-ℤ_, _*ℤ_}
-use lib.Signed.{mag}
 use lib.ListN.{length, getD}
 use lib.Ieee.{Float, binary64, mul, div, lt, ofInt}
 use Rattle.float.specs.Float.{absOf, rootOf}
 use Rattle.geometry.specs.declared.Point.{Point}
 use Rattle.geometry.specs.Geometry.{normOf}
+use Rattle.rows.specs.Sixteen.{SixteenBits}
 use Rattle.refusals.specs.Refusals.{judged}
 use Rattle.refusals.specs.declared.Judged.the-variants.{Fine}
 use Rattle.corners.specs.declared.Seg.{Seg}
 use Rattle.corners.specs.Segments.{onAt, countOf, nextOf, endIf, endOf, startOf, segAt, leavingOf, arrivingOf}
 use Rattle.corners.specs.OpenType.{points, outline}
 use Rattle.corners.specs.Corners.{origin, bend, fiftieth, zeroBefore, zeroAfter, previous, turnAt, tangentAt, afterFirst, cornersOf}
-
--- a row of 16-bit numbers, -2 ^ 15 to 2 ^ 15 - 1
-abbrev pub SixteenBits : List ℤ → Type 0
-SixteenBits row = (i : ℕ) → i < length row → mag (getD row i (pos 0)) < 2 ^ 15
 
 -- ---- segments
 
