@@ -21,9 +21,10 @@ use Rattle.contour.specs.Writing.{over, unlessOver, written, extended, writingI
 use Rattle.contour.specs.declared.Written.{Written}
 use Rattle.contour.specs.Laws.{wrote-more}
 use Rattle.halving.specs.Cubic.{Curve, firstPart, secondPart, bent, outside, point, controlPoint, startPoint, between}
-use Rattle.halving.specs.Exact.{Roomy, cutTo}
+use Rattle.halving.specs.Exact.{Roomy, Reach, cutTo}
+use Rattle.halving.proofs.Halving.{reach-less}
 use Rattle.cubics.specs.Replacing.{afterPair, onAt, itselfAt, pairAt, pointsAt, pointsTo, outsidePoint, anyOutside}
-use Rattle.cubics.specs.Making.{stored, writtenOf, nothing, Makes, MadeOf, Reach}
+use Rattle.cubics.specs.Making.{stored, writtenOf, nothing, Makes, MadeOf}
 use Rattle.cubics.specs.Refusing.{unpaired, offAfter, unpairedFrom}
 use Rattle.cubics.specs.declared.Made.{Made}
 
@@ -78,22 +79,6 @@ makes-none row m h = record { wrote = record { within = h; is = none-more row (m
 -- from nothing
 pub made-from : {row₀ row : Points} {r : Made} {ps : Points} → Makes row₀ nothing row r ps → MadeOf (length row₀) row r ps
 made-from v = record { wrote = v .wrote; far = v .far }
-
--- ---- in reach
-
-pub reach-roomy : {left e b : ℕ} → Reach left e b → Roomy (e + 2) (8 * b)
-reach-roomy {left} {e} {b} h =
-    let more : b * 1 ≤ b * 8 ^ left = mul-le-mul-left b (one-le-pow left 8 (lit≤ tt)) in
-    record { low = omega (arith, h .low); few = omega (arith, h .few) }
-
-pub roomy-less : {e b : ℕ} → Roomy (e + 2) (8 * b) → Roomy e b
-roomy-less {e} {b} h = record { low = omega (arith, h .low); few = omega (arith, h .few) }
-
-pub reach-less : {left e b : ℕ} → Reach (suc left) e b → Reach left (e + 3) (8 * b)
-reach-less {left} {e} {b} h = record {
-  low = omega (arith, h .low);
-  few = rw (mul-comm 8 b, mul-assoc b 8 (8 ^ left), ← pow-succ' 8 left) (h .few);
-}
 
 -- ---- the place after a pair
 
@@ -223,10 +208,6 @@ module _ (xs ys : List ℤ) (fs : List ℕ) (i : ℕ) where
 pub points-none : (xs ys : List ℤ) (fs : List ℕ) → pointsTo xs ys fs 0 ≡ []
 unfolding pointsTo
 points-none xs ys fs = refl
-
--- five halvings from points of 16 bits
-pub reach-five : Reach 5 0 (2 ^ 15)
-reach-five = record { low = lit≤ tt; few = lit≤ tt }
 
 pub one-less : (left : ℕ) → (left ≡ 0 → ⊥) → left - 1 < left
 one-less zero some = absurd (some refl)
