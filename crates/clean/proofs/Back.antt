@@ -1,11 +1,10 @@
 -- The list of a cleaning, put back last drop first, gives the upload's points, and so does the entry that puts it back into the rows of what is left:
 -- the statement of specs/Statements. Assumes nothing.
-use Prim.Native.Nat.{ℕ, zero, suc, _+_, _-_, _%_, _≤_, _<_}
-use mathlib.Core.Bool.{Bool, true, false, not, _&&_, true≢false, false≢true}
+use Prim.Native.Nat.{ℕ, zero, suc, _+_, _-_, _%_, _<_}
+use mathlib.Core.Bool.{Bool, true, false, not, _&&_}
 use mathlib.Core.List.{List, [], _∷_, _++_, map, map-append, append-nil}
 use mathlib.Core.Path.{_≡_, refl, sym, ap, _∙_}
 use native.Mathlib.Nat.{le-refl}
-use native.Mathlib.Numerals.{add-one}
 use native.Mathlib.Omega.{arith}
 use borrow.Author.Tests.{eqb-true, eqb-false, not-true, ltb-true}
 use lib.Dec.{eqb, ltb}
@@ -15,9 +14,9 @@ use lib.Seq.{append-snoc, take-at, getD-at}
 use Rattle.refusals.specs.Refusals.{isOn}
 use Rattle.refusals.specs.Accepted.{Accepted, accepted}
 use Rattle.clean.specs.Clean.{onPlace, samePlace, orElse, nextIn, isBefore, isBoth, Cleaning, cleaned, upFrom, cleanOf}
-use Rattle.clean.specs.Pass.{Going, going, stepOf, repeats, passing, closeIf, closing, startOf}
+use Rattle.clean.specs.Pass.{going, stepOf, repeats, passing, closeIf, closing}
 use Rattle.clean.specs.PutBack.{numberOf, whyOf, insertAt, putIn, restored, putBack, markFor, copiedSpot, keptSpot, bitBy, spotsOf, Point, point, bitFor, copiedFor, pastEnd, pointAt}
-use Rattle.clean.specs.Entry.{bitIn, spotX, spotBit}
+use Rattle.clean.specs.Entry.{bitIn, spotX}
 use Rattle.clean.specs.Statements.{coordinatesLeft, flagsLeft, spotPoint, writtenBack, ListPutBack}
 use Rattle.clean.proofs.Shortcut.{both-hold}
 use Rattle.clean.proofs.Inserting.{insert-seam}

@@ -1,14 +1,13 @@
 -- What dropping the lowest place first comes to, by the definition alone: none remains; no two neighbours are off-curve; every point not listed
 -- is kept in order. Assumes nothing.
-use Prim.Native.Nat.{ℕ, zero, suc, _+_, _-_, _≤_, _<_}
-use mathlib.Core.Bool.{Bool, true, false, _&&_}
+use Prim.Native.Nat.{ℕ, zero, suc, _+_, _≤_, _<_}
+use mathlib.Core.Bool.{Bool, true, false}
 use mathlib.Core.List.{List, [], _∷_}
-use mathlib.Core.Path.{_≡_, refl, sym, ap, _∙_}
+use mathlib.Core.Path.{_≡_, refl, sym, ap}
 use native.Mathlib.Omega.{arith}
 use borrow.Author.Tests.{eq-eqb, ne-eqb}
-use lib.Dec.{eqb}
 use lib.ListN.{length}
-use Rattle.clean.specs.Clean.{nextIn, Look, none, gone, behind, atPlace, Cleaning, cleaned, listing, unlessNone, reason, lowest, dropping}
+use Rattle.clean.specs.Clean.{Look, none, gone, behind, atPlace, Cleaning, cleaned, listing, unlessNone, reason, lowest, dropping}
 use Rattle.clean.specs.Statements.{without, unlisted}
 use Rattle.clean.proofs.Shortcut.{before-on, Apart, end, on-next, skip-one, next-on, later}
 

@@ -1,23 +1,22 @@
 -- Of every upload that none of 1 to 5 is given for: one pass cleans it; every point not listed is kept in order; what is left is refused by none of
 -- 1 to 5; and cleaning it again drops nothing more. The statements are those of specs/Statements. Assumes nothing.
-use Prim.Native.Nat.{ℕ, zero, suc, _+_, _-_, _%_, _≤_, _<_}
-use mathlib.Core.Bool.{Bool, true, false, not, _&&_, _||_}
+use Prim.Native.Nat.{ℕ, zero, suc, _+_, _-_, _%_, _≤_}
+use mathlib.Core.Bool.{Bool, true, false, not, _&&_}
 use mathlib.Core.List.{List, [], _∷_, _++_, map}
 use mathlib.Core.Path.{_≡_, refl, sym, ap, _∙_}
 use native.Mathlib.Nat.{le-refl}
 use native.Mathlib.Omega.{arith}
-use lib.Dec.{eqb}
 use lib.IntN.{ℤ, pos}
 use lib.ListN.{length, getD, length-append, length-map, List·getD-map, List·getD-eq-default}
 use lib.Seq.{getD-at, append-snoc}
-use Rattle.refusals.specs.Refusals.{isOn, bothOff, offNeighbours, judged}
+use Rattle.refusals.specs.Refusals.{isOn, offNeighbours, judged}
 use Rattle.refusals.specs.Accepted.{Accepted, accepted, judged-fine}
 use Rattle.refusals.specs.declared.Judged.the-variants.{Fine}
 use Rattle.contour.specs.Implied.{same}
-use Rattle.clean.specs.Clean.{samePlace, onPlace, nextIn, Look, none, gone, behind, atPlace, Cleaning, cleaned, unlessNone, reason, lowest, dropping, upFrom, cleanOf}
+use Rattle.clean.specs.Clean.{samePlace, onPlace, Look, none, gone, behind, atPlace, cleaned, reason, lowest, dropping, upFrom, cleanOf}
 use Rattle.clean.specs.Entry.{coordinateIn, bitIn}
 use Rattle.clean.specs.Statements.{OnePassCleans, KeptInOrder, TwiceDropsNothing, coordinatesLeft, flagsLeft}
-use Rattle.clean.proofs.Shortcut.{Apart, end, on-next}
+use Rattle.clean.proofs.Shortcut.{Apart, on-next}
 use Rattle.clean.proofs.Ended.{Rising, no-more, above, Ended, Ends, ends}
 use Rattle.clean.specs.Determine.{length-up}
 use Rattle.clean.proofs.Sweeping.{all-apart, sweeps}

@@ -1,14 +1,13 @@
 -- A contour that stays unchanged is written as its own points: to a float and back to 16 bits changes no coordinate, and the segments that are read
 -- are those of its points, one after the other. Theorems on the definitions, for a reader: no proof of a function uses them. Assumes nothing.
 use Prim.Native.Nat.{ℕ, zero, suc, _+_, _^_, _≤_, _<_}
-use mathlib.Core.Bool.{Bool, true, false, true≢false}
-use mathlib.Core.List.{List, [], _∷_, _++_, map, append-assoc, append-nil, reverse, reverse-append}
+use mathlib.Core.Bool.{Bool, true, false}
+use mathlib.Core.List.{List, [], _∷_, _++_, append-assoc, append-nil, reverse-append}
 use mathlib.Core.Path.{_≡_, refl, sym, ap, _∙_}
-use native.Mathlib.Numerals.{unary-clauses}
 use native.Mathlib.Omega.{arith}
 use lib.Dec.{T, le→leb}
 use lib.IntN.{ℤ, pos, negsuc}
-use lib.ListN.{length, getD, drop, drop-of-length-le}
+use lib.ListN.{length, drop, drop-of-length-le}
 use lib.Seq.{drop-cons}
 use lib.Signed.{mag}
 use lib.Ieee.{binary64, ofInt, toSigned, inFloat}
@@ -17,12 +16,11 @@ use Rattle.refusals.specs.Refusals.{isOn, offNeighbours}
 use Rattle.refusals.specs.Accepted.{Accepted, accepted, next-on}
 use Rattle.corners.specs.declared.Seg.{Seg}
 use Rattle.corners.specs.Segments.{onAt, countOf, endOf, placeAfter, segFrom}
-use Rattle.corners.specs.OpenType.{spot, points, outlineFrom, outline}
+use Rattle.corners.specs.OpenType.{points, outlineFrom, outline}
 use Rattle.rows.specs.Sixteen.{SixteenBits}
 use Rattle.corners.proofs.Outline.{segments, outline-is}
 use Rattle.contour.specs.Points.{Points, flagIf, pointAs, startPoint, pointsOf, pointsTo, cameTo, unchangedIn}
 use Rattle.contour.specs.Implied.{same, finished}
-use Rattle.contour.specs.Output.{column, flags}
 use Rattle.contour.specs.Unchanged.{asUploaded, withoutImplied, UnchangedInCratesMode, UnchangedInClosedMode, oneOrZero, UploadedHasItsRows}
 
 -- ---- a coordinate of 16 bits comes back from a float

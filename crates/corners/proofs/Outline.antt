@@ -1,25 +1,21 @@
 -- The segments that are read are those that OpenType says a contour has: of a contour that is let through as many as are counted, segment k
 -- is the k-th, and after the last comes the first. A theorem on the definitions, for a reader: no proof of a function uses it. Assumes nothing.
-use Prim.Native.Nat.{ℕ, zero, suc, _+_, _-_, _≤_, _<_}
-use mathlib.Core.Bool.{Bool, true, false, not, true≢false}
+use Prim.Native.Nat.{ℕ, zero, suc, _+_, _≤_, _<_}
+use mathlib.Core.Bool.{Bool, true, false}
 use mathlib.Core.List.{List, [], _∷_}
-use mathlib.Core.Logic.{_⊎_, inl, inr}
 use mathlib.Core.Path.{_≡_, refl, sym, ap, _∙_}
-use native.Mathlib.Nat.{eq-or-lt-of-le, le-of-suc-le-suc}
+use native.Mathlib.Nat.{le-of-suc-le-suc}
 use native.Mathlib.Numerals.{add-one}
 use native.Mathlib.Omega.{arith}
-use borrow.Author.Tests.{lt-ltb, le-ltb}
 use lib.IntN.{ℤ, pos}
 use lib.ListN.{length, getD, drop, drop-of-length-le}
 use lib.Seq.{drop-cons}
-use Rattle.refusals.specs.Refusals.{isOn, judged}
 use Rattle.refusals.specs.Accepted.{Accepted, accepted, next-on}
-use Rattle.refusals.specs.declared.Judged.the-variants.{Fine}
 use Rattle.corners.specs.declared.Seg.{Seg}
 use Rattle.corners.specs.Segments.{onAt, countOf, nextOf, endOf, placeAfter, lineFrom, quadFrom, segFrom, segAt}
 use Rattle.corners.specs.OpenType.{Spot, spot, points, outlineFrom, outline}
 use Rattle.corners.specs.Laws.{place-after}
-use Rattle.corners.specs.Statements.{ReadByOpenType, SegmentsAreOpenTypes}
+use Rattle.corners.specs.Statements.{SegmentsAreOpenTypes}
 use Rattle.corners.proofs.Laws.{count-on, count-off, count-end, next-more, next-first}
 
 -- m + 1 segments on from place a is m segments on from where its segment ends

@@ -1,13 +1,12 @@
 -- Laws of the row of points that is filled: one point more, lists one after the other, nothing more, and how the halvings left keep the
 -- numbers in reach. Assumes nothing.
-use Prim.Native.Nat.{ℕ, zero, suc, _+_, _-_, _*_, _^_, _≤_, _<_}
-use mathlib.Core.Bool.{Bool, true, false, _&&_, _||_, true≢false}
-use mathlib.Core.List.{List, [], _∷_, _++_, map, append-nil}
+use Prim.Native.Nat.{ℕ, zero, suc, _+_, _-_, _*_, _≤_, _<_}
+use mathlib.Core.Bool.{Bool, true, false, _&&_, _||_, true≢false, or-false}
+use mathlib.Core.List.{List, [], _∷_, _++_, map, map-append, append-nil}
 use mathlib.Core.Path.{_≡_, refl, sym, ap, _∙_}
-use native.Mathlib.Nat.{mul-assoc, mul-comm, mul-le-mul-left, min-le-right, min-eq-left, one-le-pow, pow-succ'}
+use native.Mathlib.Nat.{min-le-right, min-eq-left}
 use native.Mathlib.Omega.{arith}
 use borrow.Author.Tests.{lt-ltb, le-ltb, ltb-false}
-use lib.Dec.{lit≤}
 use lib.IntN.{ℤ, pos, negsuc}
 use mir.Syntax.{w16}
 use mir.Val.{SFits, toZ, ofZ}
@@ -21,24 +20,16 @@ use Rattle.contour.specs.Writing.{over, unlessOver, written, extended, writingI
 use Rattle.contour.specs.declared.Written.{Written}
 use Rattle.contour.specs.Laws.{wrote-more}
 use Rattle.halving.specs.Cubic.{Curve, firstPart, secondPart, bent, outside, point, controlPoint, startPoint, between}
-use Rattle.halving.specs.Exact.{Roomy, Reach, cutTo}
+use Rattle.halving.specs.Exact.{Reach, cutTo}
 use Rattle.halving.proofs.Halving.{reach-less}
 use Rattle.cubics.specs.Replacing.{afterPair, onAt, itselfAt, pairAt, pointsAt, pointsTo, outsidePoint, anyOutside}
 use Rattle.cubics.specs.Making.{stored, writtenOf, nothing, Makes, MadeOf}
 use Rattle.cubics.specs.Refusing.{unpaired, offAfter, unpairedFrom}
 use Rattle.cubics.specs.declared.Made.{Made}
 
-map-append : (f : List ℤ → List ℤ) (ps qs : Points) → map f (ps ++ qs) ≡ map f ps ++ map f qs
-map-append f [] qs = refl
-map-append f (p ∷ ps) qs = ap (λ (l : Points). f p ∷ l) (map-append f ps qs)
-
 or-assoc : (a b c : Bool) → ((a || b) || c) ≡ (a || (b || c))
 or-assoc true b c = refl
 or-assoc false b c = refl
-
-or-false : (a : Bool) → (a || false) ≡ a
-or-false true = refl
-or-false false = refl
 
 pub any-append : (ps qs : Points) → anyOutside (ps ++ qs) ≡ (anyOutside ps || anyOutside qs)
 unfolding anyOutside

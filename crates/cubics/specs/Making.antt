@@ -1,5 +1,5 @@
 -- What the functions leave in the row of points that they fill, and when numbers are within reach of the halvings left. Definitions only.
-use Prim.Native.Nat.{ℕ, _+_, _*_, _^_, _≤_}
+use Prim.Native.Nat.{ℕ}
 use mathlib.Core.Bool.{false, _||_}
 use mathlib.Core.List.{List, map}
 use mathlib.Core.Path.{_≡_}

@@ -14,7 +14,6 @@ use lib.Ieee.Fits.{down-pos, round-fits}
 use lib.Ieee.Exact.{HasValue, round-exact}
 use lib.Ieee.Nearest.{div-same}
 use lib.Ieee.Scale.{round-same}
-use Rattle.float.specs.Numbers.{one}
 use Rattle.float.specs.Unrounded.{RoundsToItself, OneTimesIsItself}
 use Rattle.float.proofs.Fitting.{fits-says, down-in, place}
 

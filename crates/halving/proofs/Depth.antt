@@ -1,6 +1,6 @@
 -- One halving divides the third difference by exactly 8; points of 16 bits need at most five; so the halvings left never run out, and the
 -- depth of a cubic's parts is one number. And how far a quad is from its part. The statements are those of specs/Statements. Assumes nothing.
-use Prim.Native.Nat.{ℕ, zero, suc, _+_, _-_, _*_, _^_, _≤_, _<_}
+use Prim.Native.Nat.{ℕ, zero, suc, _+_, _*_, _^_, _≤_, _<_}
 use mathlib.Core.Bool.{Bool, true, false}
 use mathlib.Core.List.{_∷_}
 use mathlib.Core.Path.{_≡_, refl, _∙_}
@@ -9,9 +9,9 @@ use native.Mathlib.Nat.{le-of-suc-le-suc, pow-succ'}
 use borrow.Author.Tests.{le-ltb, ltb-true, ltb-false}
 use lib.Dec.{ltb}
 use lib.IntN.{ℤ, natAbs, _+ℤ_, _-ℤ_}
-use lib.ListN.{length, length-append}
+use lib.ListN.{length-append}
 use Rattle.halving.specs.Cubic.{Four, Curve, times, firstHalf, secondHalf, firstPart, secondPart, thirdDifference, bent, control, startPoint, between}
-use Rattle.halving.specs.Depth.{allHalved, Depth}
+use Rattle.halving.specs.Depth.{allHalved}
 use Rattle.halving.specs.Statements.{DividesByEight, SixteenBits, OneDepth, PointsBetween, QuadsAreNear}
 use Rattle.halving.proofs.Linear.{Gap, plus, minus, fold, gap-of, same, size-gap, gap-from, sixteen}
 

@@ -5,7 +5,7 @@ use mathlib.Core.Path.{_≡_, refl, sym, ap, _∙_}
 use native.Mathlib.Omega.{arith}
 use borrow.Author.Tests.{ltb-true, ltb-false, lt-ltb, le-ltb}
 use lib.Dec.{ltb}
-use lib.IntN.{ℤ, pos, negsuc, negℤ, natAbs, subℕ, _+ℤ_, _-ℤ_, _*ℤ_, negℤ-negℤ, negℤ-+ℤ, +ℤ-assoc, +ℤ-comm, +ℤ-idl, +ℤ-idr, zero-*ℤ, sucℤ-*ℤ}
+use lib.IntN.{ℤ, pos, negsuc, negℤ, natAbs, subℕ, _+ℤ_, _-ℤ_, negℤ-negℤ, negℤ-+ℤ, +ℤ-assoc, +ℤ-comm, +ℤ-idl, +ℤ-idr, zero-*ℤ, sucℤ-*ℤ}
 use lib.Signed.{mag}
 use Rattle.halving.specs.Cubic.{times}
 

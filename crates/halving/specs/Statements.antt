@@ -4,7 +4,7 @@ use Prim.Native.Nat.{ℕ, _+_, _*_, _^_, _≤_, _<_}
 use mathlib.Core.Bool.{Bool, true, false}
 use mathlib.Core.List.{List, [], _∷_}
 use mathlib.Core.Path.{_≡_}
-use lib.IntN.{ℤ, _+ℤ_, _-ℤ_}
+use lib.IntN.{_+ℤ_, _-ℤ_}
 use lib.Signed.{mag}
 use lib.ListN.{length}
 use Rattle.float.specs.Dyadic.{Exact}

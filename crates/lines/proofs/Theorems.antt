@@ -1,14 +1,14 @@
 -- Theorems on the definitions, of the types of specs/Statements: numbers are read back from their text, a line cut past its bound stays malformed, the
 -- lines of a stream do not depend on where its chunks end, what the rows hold after a line, and what a buffer holds after a text. Assumes nothing.
-use Prim.Native.Nat.{ℕ, zero, suc, _+_, _-_, _*_, _/_, _%_, _≤_, _<_, min}
-use mathlib.Core.Bool.{Bool, true, false, false≢true}
+use Prim.Native.Nat.{ℕ, zero, suc, _+_, _-_, _*_, _/_, _%_, _<_, min}
+use mathlib.Core.Bool.{Bool, true, false}
 use mathlib.Core.List.{List, [], _∷_, _++_}
 use mathlib.Core.Option.{Option, none, some, Option·map}
-use mathlib.Core.Path.{_≡_, refl, sym, ap, _∙_}
+use mathlib.Core.Path.{_≡_, refl, ap, _∙_}
 use native.Mathlib.Omega.{arith}
 use borrow.Author.Tests.{eqb-true, le-leb, lt-leb, leb-true, leb-false, ltb-true, ltb-false}
 use lib.Dec.{eqb, leb, ltb}
-use lib.IntN.{ℤ, pos, negsuc}
+use lib.IntN.{pos, negsuc}
 use lib.ListN.{length, take, drop, set, length-take, length-append}
 use lib.Seq.{sets, sets-eq, take-all, take-nil}
 use Rattle.lines.specs.Line.{before, split, until, upTo, given, isDigit, digitsOn, wholeOf, negative, signed, numberOf, contourOf, parsedOf}

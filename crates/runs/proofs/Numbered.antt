@@ -1,11 +1,10 @@
 -- Corner k is the k-th marked index, and run k lies between stops k and k + 1. Theorems on the definitions, for a reader: no proof of a function uses
 -- them. Assumes nothing.
-use Prim.Native.Nat.{ℕ, zero, suc, _+_, _-_, _≤_, _<_}
+use Prim.Native.Nat.{ℕ, zero, suc, _+_, _<_}
 use native.Mathlib.Omega.{arith}
 use mathlib.Core.Bool.{Bool, true, false}
 use mathlib.Core.List.{List, [], _∷_}
 use mathlib.Core.Path.{_≡_, refl, ap, subst}
-use lib.IntN.{ℤ}
 use lib.ListN.{length, getD}
 use Rattle.corners.specs.Corners.{cornersOf}
 use Rattle.runs.specs.Runs.{marksFrom, cornerList, stopsOf, runsOf}

@@ -1,6 +1,6 @@
 -- What a reader should know of the words of a command line, as types; a theorem of proofs/Theorems is of each. Statements only.
 use Prim.Native.Nat.{ℕ, _^_, _<_}
-use mathlib.Core.List.{List, [], _∷_}
+use mathlib.Core.List.{[], _∷_}
 use mathlib.Core.Path.{_≡_}
 use Rattle.lines.specs.Text.{decimalOf}
 use Rattle.settings.specs.Settings.{defaultSettings}
