@@ -3,7 +3,7 @@ use Prim.Native.Nat.{ℕ, zero, suc, _*_, _/_, _^_, _<_}
 use mathlib.Core.Bool.{Bool, true, false, _&&_, false≢true}
 use mathlib.Core.Path.{_≡_, refl, sym, ap, _∙_}
 use native.Mathlib.Omega.{arith}
-use native.Mathlib.Nat.{mul-div-mul-right, mul-comm, mul-assoc, mul-pos, zero-mul}
+use native.Mathlib.Nat.{mul-div-mul-right, mul-comm, mul-right-comm, mul-pos, zero-mul}
 use borrow.Author.Tests.{eqb-true, ltb-true}
 use lib.Dec.{eqb}
 use lib.IntN.{ℤ}
@@ -28,11 +28,8 @@ right : (p q : Bool) → p && q ≡ true → q ≡ true
 right true q h = h
 right false q h = absurd (false≢true h)
 
-swap : (x k q : ℕ) → x * k * q ≡ x * q * k
-swap x k q = mul-assoc x k q ∙ rw (mul-comm k q) (sym (mul-assoc x q k))
-
 scaled : (x y p q k : ℕ) → 0 < p → 0 < q → x * q ≡ y * p → x * k / p ≡ y * k / q
-scaled x y p q k h g e = cross (x * k) (y * k) p q h g (swap x k q ∙ rw e (sym (swap y k p)))
+scaled x y p q k h g e = cross (x * k) (y * k) p q h g (mul-right-comm x k q ∙ rw e (mul-right-comm y p k))
 
 above : (m : ℕ) (e d : ℤ) → suc m * up e * down d ≡ 0 → ⊥
 above m e d z =

@@ -1,10 +1,10 @@
--- The list of a cleaning, put back last drop first, gives the upload's points. Assumes nothing.
-use Prim.Native.Nat.{ℕ, zero, suc, _+_, _-_, _%_, _≤_, _<_}
-use mathlib.Core.Bool.{Bool, true, false, not, _&&_, true≢false, false≢true}
+-- The list of a cleaning, put back last drop first, gives the upload's points, and so does the entry that puts it back into the rows of what is left:
+-- the statement of specs/Statements. Assumes nothing.
+use Prim.Native.Nat.{ℕ, zero, suc, _+_, _-_, _%_, _<_}
+use mathlib.Core.Bool.{Bool, true, false, not, _&&_}
 use mathlib.Core.List.{List, [], _∷_, _++_, map, map-append, append-nil}
 use mathlib.Core.Path.{_≡_, refl, sym, ap, _∙_}
 use native.Mathlib.Nat.{le-refl}
-use native.Mathlib.Numerals.{add-one}
 use native.Mathlib.Omega.{arith}
 use borrow.Author.Tests.{eqb-true, eqb-false, not-true, ltb-true}
 use lib.Dec.{eqb, ltb}
@@ -12,14 +12,16 @@ use lib.IntN.{ℤ, pos}
 use lib.ListN.{length, getD, take, length-append, length-map, List·getD-map, List·getD-eq-default}
 use lib.Seq.{append-snoc, take-at, getD-at}
 use Rattle.refusals.specs.Refusals.{isOn}
-use Rattle.refusals.specs.Accepted.{Accepted}
+use Rattle.refusals.specs.Accepted.{Accepted, accepted}
 use Rattle.clean.specs.Clean.{onPlace, samePlace, orElse, nextIn, isBefore, isBoth, Cleaning, cleaned, upFrom, cleanOf}
-use Rattle.clean.specs.Pass.{Going, going, stepOf, repeats, passing, closeIf, closing, startOf}
+use Rattle.clean.specs.Pass.{going, stepOf, repeats, passing, closeIf, closing}
 use Rattle.clean.specs.PutBack.{numberOf, whyOf, insertAt, putIn, restored, putBack, markFor, copiedSpot, keptSpot, bitBy, spotsOf, Point, point, bitFor, copiedFor, pastEnd, pointAt}
-use Rattle.clean.specs.Entry.{bitIn, spotX, spotBit}
+use Rattle.clean.specs.Entry.{bitIn, spotX}
+use Rattle.clean.specs.Statements.{coordinatesLeft, flagsLeft, spotPoint, writtenBack, ListPutBack}
 use Rattle.clean.proofs.Shortcut.{both-hold}
 use Rattle.clean.proofs.Inserting.{insert-seam}
 use Rattle.clean.proofs.Sweeping.{place-is, sweeps}
+use Rattle.clean.proofs.Theorems.{up-of, bit-twice, past, number, coordinate-as, flag-as}
 
 -- ---- bit 0
 
@@ -164,8 +166,8 @@ module _ (xs ys : List ℤ) (fs : List ℕ) where
   backs zero i pre last ds number z = closed-gives last pre ds z
   backs (suc m) i pre last ds number z = turn m (backs m) i pre last ds number z (repeats on equal 0 last i (nextIn 0 (upFrom (i + 1) m))) refl
 
-  -- the theorem
-  pub all-put-back : Accepted xs ys fs → {kept : List ℕ} {drops : List (List ℕ)} → cleanOf xs ys fs (length fs - 1) ≡ cleaned kept drops →
+  -- by the rule
+  all-put-back : Accepted xs ys fs → {kept : List ℕ} {drops : List (List ℕ)} → cleanOf xs ys fs (length fs - 1) ≡ cleaned kept drops →
       back 0 drops (map P kept) ≡ map P (upFrom 0 (length fs))
   unfolding upFrom
   all-put-back a {kept} {drops} e =
@@ -201,25 +203,62 @@ module _ {A B : Type 0} (copied : ℕ → A → A) (past : A) (copied' : ℕ →
       ∙ ap (restored copied' past' (numberOf d - j) (whyOf d)) (map-back (j + 1) list row)
 
 module _ (xs ys : List ℤ) (fs : List ℕ) (even-x : length xs ≡ length fs) (even-y : length ys ≡ length fs) where
-  -- the point that a spot stands for
-  abbrev spotPoint : List ℕ → Point
-  spotPoint s = point (spotX xs s) (spotX ys s) (spotBit fs s)
-
   by-mark : (b : Bool) (own : ℕ) → bitBy (markFor b) own ≡ bitFor b
   by-mark true own = refl
   by-mark false own = refl
 
-  past-spot : spotPoint (keptSpot (length fs)) ≡ pastEnd
+  past-spot : spotPoint xs ys fs (keptSpot (length fs)) ≡ pastEnd
   past-spot =
       rw (List·getD-eq-default xs (pos 0) {n = length fs} (omega arith), List·getD-eq-default ys (pos 0) {n = length fs} (omega arith), List·getD-eq-default fs 0 {n = length fs} (le-refl (length fs)))
 
-  map-twice : (ks : List ℕ) → map spotPoint (map keptSpot ks) ≡ map (pointAt xs ys fs) ks
+  map-twice : (ks : List ℕ) → map (spotPoint xs ys fs) (map keptSpot ks) ≡ map (pointAt xs ys fs) ks
   map-twice [] = refl
   map-twice (k ∷ ks) = ap (_∷_ (pointAt xs ys fs k)) (map-twice ks)
 
-  pub entry-puts-back : (list : List (List ℕ)) → map spotPoint (spotsOf (length fs) list) ≡ putBack copiedFor pastEnd 0 list (map (pointAt xs ys fs) (upFrom 0 (length fs)))
+  entry-puts-back : (list : List (List ℕ)) → writtenBack xs ys fs list ≡ putBack copiedFor pastEnd 0 list (map (pointAt xs ys fs) (upFrom 0 (length fs)))
   unfolding spotsOf
   entry-puts-back list =
-      map-back copiedSpot (keptSpot (length fs)) copiedFor pastEnd spotPoint
+      map-back copiedSpot (keptSpot (length fs)) copiedFor pastEnd (spotPoint xs ys fs)
       (λ why s. ap (point (spotX xs s) (spotX ys s)) (by-mark (eqb why 2) (bitIn fs (numberOf s)))) past-spot 0 list (map keptSpot (upFrom 0 (length fs)))
       ∙ ap (putBack copiedFor pastEnd 0 list) (map-twice (upFrom 0 (length fs)))
+
+-- ---- the rows of what is left hold the points kept
+
+map-as : {A : Type 0} (f : ℕ → A) (g : ℕ → A) (n : ℕ → ℕ) → ((i : ℕ) → f i ≡ g (n i)) → (l : List ℕ) → map f l ≡ map g (map n l)
+map-as f g n h [] = refl
+map-as f g n h (i ∷ l) = rw (h i, map-as f g n h l)
+
+module _ (xs ys : List ℤ) (fs kept : List ℕ) where
+  abbrev anew : ℕ → Point
+  anew = pointAt (coordinatesLeft xs kept) (coordinatesLeft ys kept) (flagsLeft fs kept)
+
+  as-kept : (i : ℕ) → anew i ≡ pointAt xs ys fs (number xs ys fs kept i)
+  as-kept i =
+      rw (
+        coordinate-as xs ys fs kept xs (omega arith) i,
+        coordinate-as xs ys fs kept ys (omega arith) i,
+        flag-as xs ys fs kept i,
+        bit-twice (getD fs (number xs ys fs kept i) 0),
+      )
+
+  points-left : map anew (upFrom 0 (length kept)) ≡ map (pointAt xs ys fs) kept
+  points-left =
+      map-as anew (pointAt xs ys fs) (number xs ys fs kept) as-kept (upFrom 0 (length kept))
+      ∙ ap (map (pointAt xs ys fs)) (up-of (past xs ys fs kept) 0 [] kept refl)
+
+pub put-back : ListPutBack
+put-back xs ys fs kept drops c =
+    let by-rule = all-put-back xs ys fs (accepted xs ys fs (c .fine)) (c .is) in
+    let xs′ = coordinatesLeft xs kept in
+    let ys′ = coordinatesLeft ys kept in
+    let fs′ = flagsLeft fs kept in
+    let n : length fs′ ≡ length kept = simp length-map in
+    let ex : length xs′ ≡ length fs′ = simp length-map in
+    let ey : length ys′ ≡ length fs′ = simp length-map in
+    record {
+      by-rule = by-rule;
+      by-entry =
+          entry-puts-back xs′ ys′ fs′ ex ey drops
+          ∙ ap (putBack copiedFor pastEnd 0 drops) (ap (λ (m : ℕ). map (anew xs ys fs kept) (upFrom 0 m)) n ∙ points-left xs ys fs kept)
+          ∙ by-rule;
+    }

@@ -1,32 +1,15 @@
 -- What dropping the lowest place first comes to, by the definition alone: none remains; no two neighbours are off-curve; every point not listed
 -- is kept in order. Assumes nothing.
-use Prim.Native.Nat.{ℕ, zero, suc, _+_, _-_, _≤_, _<_}
-use mathlib.Core.Bool.{Bool, true, false, _&&_}
+use Prim.Native.Nat.{ℕ, zero, suc, _+_, _≤_, _<_}
+use mathlib.Core.Bool.{Bool, true, false}
 use mathlib.Core.List.{List, [], _∷_}
-use mathlib.Core.Path.{_≡_, refl, sym, ap, _∙_}
+use mathlib.Core.Path.{_≡_, refl, sym, ap}
 use native.Mathlib.Omega.{arith}
 use borrow.Author.Tests.{eq-eqb, ne-eqb}
-use lib.Dec.{eqb}
 use lib.ListN.{length}
-use Rattle.clean.specs.Clean.{nextIn, Look, none, gone, behind, atPlace, Cleaning, cleaned, listing, unlessNone, reason, lowest, dropping}
-use Rattle.clean.specs.PutBack.{numberOf}
+use Rattle.clean.specs.Clean.{Look, none, gone, behind, atPlace, Cleaning, cleaned, listing, unlessNone, reason, lowest, dropping}
+use Rattle.clean.specs.Statements.{without, unlisted}
 use Rattle.clean.proofs.Shortcut.{before-on, Apart, end, on-next, skip-one, next-on, later}
-
--- ---- the row without some numbers
-
-takenIf : Bool → ℕ → List ℕ → List ℕ
-takenIf true p rest = rest
-takenIf false p rest = p ∷ rest
-
--- without the number k
-pub without : ℕ → List ℕ → List ℕ
-without k [] = []
-without k (p ∷ rest) = takenIf (eqb p k) p (without k rest)
-
--- without those that are listed
-pub unlisted : List (List ℕ) → List ℕ → List ℕ
-unlisted [] row = row
-unlisted (d ∷ drops) row = unlisted drops (without (numberOf d) row)
 
 -- rising numbers, all above the one before
 pub data Rising : ℕ → List ℕ → Type 0 where
@@ -38,7 +21,7 @@ lower h no-more = no-more
 lower {b} {c} h (above {p = p} g r) = above {b = c} {p = p} (omega arith) r
 
 not-in : {b k : ℕ} {rest : List ℕ} → k ≤ b → Rising b rest → without k rest ≡ rest
-unfolding without takenIf
+unfolding without
 not-in h no-more = refl
 not-in {b} {k} h (above {p = p} g r) = rw (ne-eqb p k (λ e. omega arith), not-in {k = k} (omega arith) r)
 
@@ -63,7 +46,7 @@ module _ (on : ℕ → Bool) (equal : ℕ → ℕ → Bool) (zeroth : ℕ) where
   -- p itself
   here : {b p : ℕ} {rest row : List ℕ} {k w w' : ℕ} → reason on equal zeroth b p rest ≡ suc w' → Rising b (p ∷ rest) → Apart on b (p ∷ rest) →
       gone rest p (suc w') ≡ gone row k w → Found b (p ∷ rest) row k
-  unfolding without takenIf
+  unfolding without
   here {b} {p} {rest} {row} {k} {w} {w'} h (above g r) a e =
       let left : rest ≡ row = cc in
       let at : p ≡ k = cc in
@@ -79,7 +62,7 @@ module _ (on : ℕ → Bool) (equal : ℕ → ℕ → Bool) (zeroth : ℕ) where
   -- a later one
   there : {b p : ℕ} {rest row row' : List ℕ} {k k' w w' : ℕ} → b < p → (on b ≡ false → on p ≡ true) → Found p rest row' k' →
       gone (p ∷ row') k' w' ≡ gone row k w → Found b (p ∷ rest) row k
-  unfolding without takenIf
+  unfolding without
   there {b} {p} {rest} {row} {row'} {k} {k'} g a f e =
       let left : p ∷ row' ≡ row = cc in
       let at : k' ≡ k = cc in

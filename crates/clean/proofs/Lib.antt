@@ -1,4 +1,4 @@
--- What the proofs share.
+-- What the proofs share. `Theorems` and `Back` have the theorems for a reader, whose statements are types of specs/Statements; `Stated` ties the exports.
 mod Shortcut
 mod Ended
 mod Inserting

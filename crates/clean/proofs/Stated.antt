@@ -1,9 +1,9 @@
--- The contracts of the exports, as the check reads them off src/lib.rt: nothing is asked of a caller; and what is promised fixes the report and
--- what is written, of the contour and of the lengths of the rows alone. Assumes nothing.
+-- The contracts of the exports, as the check reads them off src/lib.rt: nothing is asked of a caller; what is promised fixes the report and what is
+-- written, of the contour and of the lengths of the rows alone; and of equal rows it fixes every place that is left. Assumes nothing.
 use mathlib.Core.Path.{_≡_}
 use Rattle.contour.specs.Output.{outputs}
 use Rattle.clean.specs.Entry.{rows}
-use Rattle.clean.specs.Determine.{Same, placesOf, firstOf, shown-equal-orders, pointPlaces, firstPoints, put-shown-orders}
+use Rattle.clean.specs.Determine.{Same, placesOf, firstOf, shown-equal-orders, shown-determined, pointPlaces, firstPoints, put-shown-orders, put-shown-determined}
 use Rattle.clean.proofs.fontcrunch_clean.Reads as clean
 use Rattle.clean.proofs.fontcrunch_put_back.Reads as put
 
@@ -20,6 +20,16 @@ pub clean-says : (κs κs' xs ys flags ox ox' oy oy' of of' list list' r r' x x'
     (firstOf (s' .answer) (rows (outputs (w' .0 .now) (w' .1 .0 .now) (w' .1 .1 .0 .now)) (w' .1 .1 .1 .0 .now)))
 clean-says κs κs' xs ys flags ox ox' oy oy' of of' list list' r r' x x' s s' places = shown-equal-orders places s s'
 
+pub clean-leaves : (κs κs' xs ys flags ox ox' oy oy' of of' list list' r r' x x' : _) →
+    clean.Post κs (xs, (ys, (flags, (ox, (oy, (of, (list, tt))))))) r x →
+    clean.Post κs' (xs, (ys, (flags, (ox', (oy', (of', (list', tt))))))) r' x' →
+    rows (outputs (ox .now) (oy .now) (of .now)) (list .now) ≡ rows (outputs (ox' .now) (oy' .now) (of' .now)) (list' .now) →
+    let w = x .1 .1 .1 in
+    let w' = x' .1 .1 .1 in
+    Same r r' (rows (outputs (w .0 .now) (w .1 .0 .now) (w .1 .1 .0 .now)) (w .1 .1 .1 .0 .now))
+    (rows (outputs (w' .0 .now) (w' .1 .0 .now) (w' .1 .1 .0 .now)) (w' .1 .1 .1 .0 .now))
+clean-leaves κs κs' xs ys flags ox ox' oy oy' of of' list list' r r' x x' s s' equal = shown-determined equal s s'
+
 pub put-asks-nothing : (κs : _) (a : _) → put.Pre κs a
 put-asks-nothing κs a = tt
 
@@ -32,3 +42,12 @@ pub put-says : (κs κs' xs ys flags list ox ox' oy oy' of of' r r' x x' : _) �
     Same r r' (firstPoints (s .answer) (outputs (w .0 .now) (w .1 .0 .now) (w .1 .1 .0 .now)))
     (firstPoints (s' .answer) (outputs (w' .0 .now) (w' .1 .0 .now) (w' .1 .1 .0 .now)))
 put-says κs κs' xs ys flags list ox ox' oy oy' of of' r r' x x' s s' places = put-shown-orders places s s'
+
+pub put-leaves : (κs κs' xs ys flags list ox ox' oy oy' of of' r r' x x' : _) →
+    put.Post κs (xs, (ys, (flags, (list, (ox, (oy, (of, tt))))))) r x →
+    put.Post κs' (xs, (ys, (flags, (list, (ox', (oy', (of', tt))))))) r' x' →
+    outputs (ox .now) (oy .now) (of .now) ≡ outputs (ox' .now) (oy' .now) (of' .now) →
+    let w = x .1 .1 .1 .1 in
+    let w' = x' .1 .1 .1 .1 in
+    Same r r' (outputs (w .0 .now) (w .1 .0 .now) (w .1 .1 .0 .now)) (outputs (w' .0 .now) (w' .1 .0 .now) (w' .1 .1 .0 .now))
+put-leaves κs κs' xs ys flags list ox ox' oy oy' of of' r r' x x' s s' equal = put-shown-determined equal s s'

@@ -1,37 +1,26 @@
 -- From the pass to the definition: what is left when the last point has been looked at, and that an accepted contour is one that the shortcut
 -- holds for. Assumes nothing.
 use Prim.Native.Nat.{ℕ, zero, suc, _+_, _-_, _≤_, _<_}
-use mathlib.Core.Bool.{Bool, true, false, _&&_}
-use mathlib.Core.List.{List, [], _∷_, _++_}
+use mathlib.Core.Bool.{Bool, true, false}
+use mathlib.Core.List.{List, [], _∷_}
 use mathlib.Core.Path.{_≡_, refl, sym, ap, _∙_}
 use native.Mathlib.Nat.{le-refl}
 use native.Mathlib.Numerals.{add-one}
 use native.Mathlib.Omega.{arith}
-use borrow.Author.Tests.{eqb-true, eq-eqb}
-use lib.Dec.{ltb, eqb}
-use lib.IntN.{ℤ, pos, negsuc}
-use lib.ListN.{length, getD, take, set, length-set}
+use lib.IntN.{ℤ, pos}
+use lib.ListN.{length, getD, take, length-set}
 use lib.Seq.{length-take-le, take-take, take-suc-set}
-use Rattle.refusals.specs.Refusals.{isOn, offNeighbours}
+use Rattle.refusals.specs.Refusals.{offNeighbours}
 use Rattle.refusals.specs.Accepted.{Accepted, next-on}
 use Rattle.contour.specs.Implied.{same}
-use Rattle.clean.specs.Clean.{samePlace, onPlace, Cleaning, cleaned, dropping, upFrom, cleanOf}
-use Rattle.clean.specs.Pass.{Going, going, passing, closeIf, closing, swept, startOf, Roomy, heldIn, Stands, endsFirst, closedRow, closedAt, Closed, Holds}
+use Rattle.contour.proofs.Sixteen.{is-same, same-so}
+use Rattle.clean.specs.Clean.{samePlace, onPlace, Cleaning, cleaned, upFrom, cleanOf}
+use Rattle.clean.specs.Pass.{passing, closeIf, closing, swept, startOf, Roomy, heldIn, Stands, endsFirst, closedRow, closedAt, Closed, Holds}
 use Rattle.clean.specs.Determine.{length-up}
 use Rattle.clean.specs.declared.Passed.{Passed}
 use Rattle.clean.proofs.Shortcut.{both-hold, Apart, end, on-next, shortcut}
 
 -- ---- equal places
-
-same-is : (a b : ℤ) → same a b ≡ true → a ≡ b
-same-is (pos a) (pos b) h = ap pos (eqb-true a b h)
-same-is (pos a) (negsuc b) h = let z : _≡_ {A = ℕ} 0 1 = cc in absurd (omega arith)
-same-is (negsuc a) (pos b) h = let z : _≡_ {A = ℕ} 0 1 = cc in absurd (omega arith)
-same-is (negsuc a) (negsuc b) h = ap negsuc (eqb-true a b h)
-
-same-self : (a : ℤ) → same a a ≡ true
-same-self (pos a) = eq-eqb a a refl
-same-self (negsuc a) = eq-eqb a a refl
 
 module _ (xs ys : List ℤ) where
   abbrev x : ℕ → ℤ
@@ -43,10 +32,10 @@ module _ (xs ys : List ℤ) where
   pub place-is : (a b : ℕ) → samePlace xs ys a b ≡ true → (x a ≡ x b) × (y a ≡ y b)
   place-is a b h =
       let both = both-hold (same (x a) (x b)) (same (y a) (y b)) h in
-      (same-is (x a) (x b) (both .0), same-is (y a) (y b) (both .1))
+      (same-so (x a) (x b) (both .0), same-so (y a) (y b) (both .1))
 
   pub is-place : (a b : ℕ) → x a ≡ x b → y a ≡ y b → samePlace xs ys a b ≡ true
-  is-place a b e f = rw (e, f, same-self (x b), same-self (y b))
+  is-place a b e f = rw (is-same (x a) (x b) e, is-same (y a) (y b) f)
 
   pub back : (a b : ℕ) → samePlace xs ys a b ≡ true → samePlace xs ys b a ≡ true
   back a b h = let e = place-is a b h in is-place b a (sym (e .0)) (sym (e .1))

@@ -1,25 +1,28 @@
--- Of every contour that none of 1 to 5 is given for: every point not listed is kept in order; what is left is refused by none of 1 to 5; and
--- cleaning it again drops nothing more. Assumes nothing.
-use Prim.Native.Nat.{ℕ, zero, suc, _+_, _-_, _%_, _≤_, _<_}
-use mathlib.Core.Bool.{Bool, true, false, not, _&&_, _||_}
+-- Of every upload that none of 1 to 5 is given for: one pass cleans it; every point not listed is kept in order; what is left is refused by none of
+-- 1 to 5; and cleaning it again drops nothing more. The statements are those of specs/Statements. Assumes nothing.
+use Prim.Native.Nat.{ℕ, zero, suc, _+_, _-_, _%_, _≤_}
+use mathlib.Core.Bool.{Bool, true, false, not, _&&_}
 use mathlib.Core.List.{List, [], _∷_, _++_, map}
 use mathlib.Core.Path.{_≡_, refl, sym, ap, _∙_}
 use native.Mathlib.Nat.{le-refl}
 use native.Mathlib.Omega.{arith}
-use lib.Dec.{eqb}
 use lib.IntN.{ℤ, pos}
 use lib.ListN.{length, getD, length-append, length-map, List·getD-map, List·getD-eq-default}
 use lib.Seq.{getD-at, append-snoc}
-use Rattle.refusals.specs.Refusals.{isOn, bothOff, offNeighbours, judged}
-use Rattle.refusals.specs.Accepted.{Accepted, judged-fine}
+use Rattle.refusals.specs.Refusals.{isOn, offNeighbours, judged}
+use Rattle.refusals.specs.Accepted.{Accepted, accepted, judged-fine}
 use Rattle.refusals.specs.declared.Judged.the-variants.{Fine}
 use Rattle.contour.specs.Implied.{same}
-use Rattle.clean.specs.Clean.{samePlace, onPlace, nextIn, Look, none, gone, behind, atPlace, Cleaning, cleaned, unlessNone, reason, lowest, dropping, upFrom, cleanOf}
+use Rattle.clean.specs.Clean.{samePlace, onPlace, Look, none, gone, behind, atPlace, cleaned, reason, lowest, dropping, upFrom, cleanOf}
 use Rattle.clean.specs.Entry.{coordinateIn, bitIn}
-use Rattle.clean.proofs.Shortcut.{Apart, end, on-next}
-use Rattle.clean.proofs.Ended.{unlisted, Rising, no-more, above, Ended, Ends, ends}
+use Rattle.clean.specs.Statements.{OnePassCleans, KeptInOrder, TwiceDropsNothing, coordinatesLeft, flagsLeft}
+use Rattle.clean.proofs.Shortcut.{Apart, on-next}
+use Rattle.clean.proofs.Ended.{Rising, no-more, above, Ended, Ends, ends}
 use Rattle.clean.specs.Determine.{length-up}
-use Rattle.clean.proofs.Sweeping.{all-apart}
+use Rattle.clean.proofs.Sweeping.{all-apart, sweeps}
+
+pub one-pass : OnePassCleans
+one-pass xs ys fs h = sweeps (accepted xs ys fs h)
 
 -- ---- every point not listed is kept in order
 
@@ -38,20 +41,17 @@ module _ {xs ys : List ℤ} {fs : List ℕ} (a : Accepted xs ys fs) where
   ending =
       ends (onPlace fs) (samePlace xs ys) 0 (length fs - 1) rest (rw length-up (le-refl (length fs - 1))) (rising-up 0 (length fs - 1)) (all-apart fs (a .apart) (a .some))
 
-  pub kept-in-order : {kept : List ℕ} {drops : List (List ℕ)} → cleanOf xs ys fs (length fs - 1) ≡ cleaned kept drops → kept ≡ 0 ∷ unlisted drops rest
-  kept-in-order e =
-      let k = ending in
-      let is : _ = k .is in
-      let inside = k .ended .is in
-      cc
-
-  -- so many points: each is kept or listed
-  pub all-accounted : {kept : List ℕ} {drops : List (List ℕ)} → cleanOf xs ys fs (length fs - 1) ≡ cleaned kept drops → length kept + length drops ≡ length fs
-  all-accounted {kept} {drops} e =
-      let k = ending in
-      let same-kept : kept ≡ 0 ∷ k .kept = cc (k .is) in
-      let same-drops : drops ≡ k .drops = cc (k .is) in
-      rw (same-kept, same-drops) (omega (arith, k .ended .shorter, length-up 1 (length fs - 1), a .some))
+pub kept-in-order : KeptInOrder
+kept-in-order xs ys fs kept drops c =
+    let a = accepted xs ys fs (c .fine) in
+    let k = ending a in
+    let same-kept : kept ≡ 0 ∷ k .kept = cc (k .is, c .is) in
+    let same-drops : drops ≡ k .drops = cc (k .is, c .is) in
+    rw (same-kept, same-drops)
+    (record {
+      unlisted-stay = ap (_∷_ 0) (k .ended .is);
+      each = omega (arith, k .ended .shorter, length-up 1 (length fs - 1), a .some);
+    })
 
 -- ---- rows of points by number, numbered anew
 
@@ -91,7 +91,7 @@ module _ (on on' : ℕ → Bool) (equal equal' : ℕ → ℕ → Bool) (f : ℕ 
   quiet-too b rest h = none-only f (lowest on' equal' z b rest) (same-look b rest ∙ h)
 
 -- the numbers of a row, by their places: past the end, a number past the end of the upload
-up-of : (past k : ℕ) (pre row : List ℕ) → length pre ≡ k → map (λ (i : ℕ). getD (pre ++ row) i past) (upFrom k (length row)) ≡ row
+pub up-of : (past k : ℕ) (pre row : List ℕ) → length pre ≡ k → map (λ (i : ℕ). getD (pre ++ row) i past) (upFrom k (length row)) ≡ row
 unfolding upFrom
 up-of past k pre [] e = refl
 up-of past k pre (p ∷ row) e =
@@ -104,33 +104,39 @@ not-both : (b p : Bool) → (b ≡ false → p ≡ true) → (not b && not p) �
 not-both true p h = refl
 not-both false p h = rw (h refl)
 
+pub bit-twice : (f : ℕ) → f % 2 % 2 ≡ f % 2
+bit-twice f = omega arith
+
 mod-twice : (f : ℕ) → isOn (f % 2) ≡ isOn f
-mod-twice f = let e : f % 2 % 2 ≡ f % 2 = omega arith in rw e
+mod-twice f = rw (bit-twice f)
 
 module _ (xs ys : List ℤ) (fs kept : List ℕ) where
   abbrev xs' : List ℤ
-  xs' = map (coordinateIn xs) kept
+  xs' = coordinatesLeft xs kept
 
   abbrev ys' : List ℤ
-  ys' = map (coordinateIn ys) kept
+  ys' = coordinatesLeft ys kept
 
   abbrev fs' : List ℕ
-  fs' = map (bitIn fs) kept
+  fs' = flagsLeft fs kept
 
-  abbrev past : ℕ
+  abbrev pub past : ℕ
   past = length xs + length ys + length fs
 
-  abbrev number : ℕ → ℕ
+  abbrev pub number : ℕ → ℕ
   number i = getD kept i past
 
-  coordinate-as : (row : List ℤ) → length row ≤ past → (i : ℕ) → getD (map (coordinateIn row) kept) i (pos 0) ≡ getD row (number i) (pos 0)
+  pub coordinate-as : (row : List ℤ) → length row ≤ past → (i : ℕ) → getD (map (coordinateIn row) kept) i (pos 0) ≡ getD row (number i) (pos 0)
   coordinate-as row h i =
       ap (getD (map (coordinateIn row) kept) i) (sym (List·getD-eq-default row (pos 0) h)) ∙ List·getD-map (coordinateIn row) kept i past
 
-  on-as : (i : ℕ) → onPlace fs' i ≡ onPlace fs (number i)
-  on-as i =
+  pub flag-as : (i : ℕ) → getD fs' i 0 ≡ bitIn fs (number i)
+  flag-as i =
       let none : bitIn fs past ≡ 0 = ap (λ (f : ℕ). f % 2) (List·getD-eq-default fs 0 {n = past} (omega arith)) in
-      ap isOn (ap (getD fs' i) (sym none) ∙ List·getD-map (bitIn fs) kept i past) ∙ mod-twice (getD fs (number i) 0)
+      ap (getD fs' i) (sym none) ∙ List·getD-map (bitIn fs) kept i past
+
+  on-as : (i : ℕ) → onPlace fs' i ≡ onPlace fs (number i)
+  on-as i = ap isOn (flag-as i) ∙ mod-twice (getD fs (number i) 0)
 
   equal-as : (i j : ℕ) → samePlace xs' ys' i j ≡ samePlace xs ys (number i) (number j)
   equal-as i j =
@@ -178,12 +184,17 @@ module _ {xs ys : List ℤ} {fs : List ℕ} (a : Accepted xs ys fs) {kept : List
   found-left : Ended (onPlace fs) (samePlace xs ys) 0 (upFrom 1 (length fs - 1)) (ending a .kept) drops
   found-left = let same : ending a .drops ≡ drops = (let is = ending a .is in cc) in rw same at (ending a .ended)
 
-  pub none-refused : judged (xs' xs ys fs kept) (ys' xs ys fs kept) (fs' xs ys fs kept) ≡ Fine
+  none-refused : judged (xs' xs ys fs kept) (ys' xs ys fs kept) (fs' xs ys fs kept) ≡ Fine
   none-refused = judged-fine (accepted-left (ending a .kept) same-kept found-left)
 
-  pub twice : cleanOf (xs' xs ys fs kept) (ys' xs ys fs kept) (fs' xs ys fs kept) (length kept - 1) ≡ cleaned (upFrom 0 (length kept)) []
+  nothing-twice : cleanOf (xs' xs ys fs kept) (ys' xs ys fs kept) (fs' xs ys fs kept) (length kept - 1) ≡ cleaned (upFrom 0 (length kept)) []
   unfolding upFrom
-  twice =
+  nothing-twice =
       let n : length kept ≡ suc (length (ending a .kept)) = ap length same-kept in
       let m : length kept - 1 ≡ length (ending a .kept) = omega arith in
       rw (m, n) (nothing-more (ending a .kept) same-kept found-left)
+
+pub twice : TwiceDropsNothing
+twice xs ys fs kept drops c =
+    let a = accepted xs ys fs (c .fine) in
+    record { fine = none-refused a (c .is); twice = nothing-twice a (c .is) }

@@ -6,20 +6,19 @@ use mathlib.Core.Bool.{Bool, true, false}
 use mathlib.Core.List.{List, [], _∷_, map}
 use mathlib.Core.Path.{_≡_, refl, sym, ap, _∙_}
 use lib.Dec.{eqb, ltb}
-use lib.IntN.{ℤ}
-use lib.ListN.{length, getD, take, drop, length-map, length-append}
-use lib.Seq.{take-at}
+use lib.ListN.{length, getD, take, length-map, length-append}
+use Rattle.contour.specs.Laws.{front-first}
 use denote.Triple.Both.{Both}
 use Rattle.refusals.specs.Refusals.{rowsDiffer, noPoint}
 use Rattle.refusals.specs.declared.Judged.{Judged}
 use Rattle.refusals.specs.declared.Judged.the-variants as Judged
 use Rattle.rows.specs.Lent.{Inputs, inputs, Shown}
-use Rattle.contour.specs.Output.{Outputs, outputs, front}
+use Rattle.contour.specs.Output.{Outputs, outputs}
 use Rattle.clean.specs.Clean.{Cleaning, cleaned, upFrom}
 use Rattle.clean.specs.PutBack.{numberOf, whyOf, insertAt, putIn, putBack, copiedSpot, keptSpot, spotsOf}
-use Rattle.clean.specs.Entry.{coordinateIn, bitIn, pointsInto, Rows, rows, pointRoom, listRoom, refuseIf, answerIn, cleaningOf, writtenIn, leftBy}
-use Rattle.clean.specs.Entry.{afterJudging, judgedOf, wholeOf, Promise, report}
-use Rattle.clean.specs.Entry.{spotX, spotBit, spotsInto, outputRoom, orRefuse, restoredOf, spotsFor, leftBack, PutPromise, putReport}
+use Rattle.clean.specs.Entry.{coordinateIn, bitIn, Rows, rows, pointRoom, listRoom, refuseIf, answerIn, cleaningOf, leftBy}
+use Rattle.clean.specs.Entry.{afterJudging, judgedOf, Promise, report}
+use Rattle.clean.specs.Entry.{spotX, spotBit, outputRoom, orRefuse, restoredOf, spotsFor, leftBack, PutPromise, putReport}
 use Rattle.clean.specs.declared.CleanReport.{CleanReport}
 use Rattle.clean.specs.declared.PutReport.{PutReport}
 use Rattle.clean.specs.declared.Restored as R
@@ -79,9 +78,6 @@ counts-whole : (j : Judged) (list points : ℕ) (kept : List ℕ) (drops : List 
     countsOf (afterJudging j (answerIn list points (cleaned kept drops))) (length kept) (length drops)
 counts-whole (Judged.Refused k) list points kept drops = tt
 counts-whole Judged.Fine list points kept drops = counted (ltb list (length drops)) (ltb points (length kept)) (length kept) (length drops)
-
-front-first : {A : Type 0} (n : ℕ) (s row : List A) → length s ≡ n → take n (front s row) ≡ s
-front-first n s row e = take-at s (drop (length s) row) n e
 
 first-shown : (r : D.Cleaned) (i : Inputs) (kept : List ℕ) (drops : List (List ℕ)) (w : Rows) → countsOf r (length kept) (length drops) →
     firstOf r (leftBy r i (cleaned kept drops) w) ≡ shown r i (cleaned kept drops)
@@ -227,4 +223,10 @@ pub put-shown-orders : {i : Inputs} {list : List (List ℕ)} {w w' : Both Output
     Same r r' (firstPoints (s .answer) (w .exit)) (firstPoints (s' .answer) (w' .exit))
 put-shown-orders e s s' =
     let same = put-equal-orders e (s .promise) (s' .promise) in
+    record { answer = s .is ∙ ap putReport (same .answer) ∙ sym (s' .is); left = same .left }
+
+pub put-shown-determined : {i : Inputs} {list : List (List ℕ)} {w w' : Both Outputs Outputs} {r r' : PutReport} → w .entry ≡ w' .entry →
+    Shown putReport (PutPromise i list w) r → Shown putReport (PutPromise i list w') r' → Same r r' (w .exit) (w' .exit)
+put-shown-determined e s s' =
+    let same = put-determined e (s .promise) (s' .promise) in
     record { answer = s .is ∙ ap putReport (same .answer) ∙ sym (s' .is); left = same .left }

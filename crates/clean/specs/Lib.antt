@@ -3,3 +3,4 @@ pub mod Pass
 pub mod PutBack
 pub mod Entry
 pub mod Determine
+pub mod Statements

@@ -1,4 +1,4 @@
--- A number cut to 16 bits is the one 16-bit number that is congruent to it modulo 2 ^ 16. Assumes nothing.
+-- A number cut to 16 bits is the one 16-bit number that is congruent to it modulo 2 ^ 16: the statements of specs/Modulo. Assumes nothing.
 use Prim.Native.Nat.{ℕ, suc, _+_, _-_, _%_, _^_, _<_}
 use mathlib.Core.Bool.{Bool, true, false}
 use mathlib.Core.Path.{_≡_, refl, sym, ap, _∙_}
@@ -9,13 +9,10 @@ use lib.Dec.{ltb}
 use lib.IntN.{ℤ, pos, negsuc, _+ℤ_}
 use lib.Signed.{mag}
 use Rattle.contour.specs.Implied.{mod16, signedIf, cutOf}
-use Rattle.contour.proofs.Sixteen.{cut-inside}
+use Rattle.contour.specs.Modulo.{Remainder, CutIsCongruent}
+use Rattle.contour.proofs.Sixteen.{cut-inside, cut-fits}
 
--- from 0 to 2 ^ 16 - 1, `mod16` is the number itself, and 2 ^ 16 more changes nothing
-pub mod-small : (n : ℕ) → n < 2 ^ 16 → mod16 (pos n) ≡ n
-mod-small n h = mod-eq-of-lt h
-
-pub mod-period : (z : ℤ) → mod16 (z +ℤ pos 65536) ≡ mod16 z
+mod-period : (z : ℤ) → mod16 (z +ℤ pos 65536) ≡ mod16 z
 mod-period (pos n) = add-mod-right n 65536
 mod-period (negsuc n) = by (ltb 65536 (suc n)) refl
   where
@@ -28,10 +25,13 @@ mod-period (negsuc n) = by (ltb 65536 (suc n)) refl
         let less = ltb-false 65536 (suc n) e in
         rw (e, mod-eq-of-lt {n = 65536 - suc n} {m = 65536} (omega arith), mod-eq-of-lt {n = n} {m = 65536} (omega arith)) (omega arith)
 
+pub remainder : Remainder
+remainder = record { small = λ n h. mod-eq-of-lt h; period = mod-period }
+
 -- cut to 16 bits, a number is the same modulo 2 ^ 16
-pub cut-congruent : (z : ℤ) → mod16 (cutOf z) ≡ mod16 z
+congruent : (z : ℤ) → mod16 (cutOf z) ≡ mod16 z
 unfolding cutOf
-cut-congruent z = by (ltb (mod16 z) (2 ^ 15)) (below z)
+congruent z = by (ltb (mod16 z) (2 ^ 15)) (below z)
   where
     below : (y : ℤ) → mod16 y < 2 ^ 16
     below (pos n) = mod-lt n (omega arith)
@@ -42,6 +42,9 @@ cut-congruent z = by (ltb (mod16 z) (2 ^ 15)) (below z)
     by false {m} h = rw (mod-eq-of-lt {n = 65535 - m} {m = 65536} (omega arith)) (omega arith)
 
 -- and no other 16-bit number is
-pub cut-only : (y z : ℤ) → mag y < 2 ^ 15 → mod16 y ≡ mod16 z → y ≡ cutOf z
+only : (y z : ℤ) → mag y < 2 ^ 15 → mod16 y ≡ mod16 z → y ≡ cutOf z
 unfolding cutOf
-cut-only y z h e = sym (cut-inside y h) ∙ ap (λ (m : ℕ). signedIf (ltb m (2 ^ 15)) m) e
+only y z h e = sym (cut-inside y h) ∙ ap (λ (m : ℕ). signedIf (ltb m (2 ^ 15)) m) e
+
+pub cut-congruent : CutIsCongruent
+cut-congruent z = record { fits = cut-fits z .sfits; congruent = congruent z; only = λ y h e. only y z h e }

@@ -136,6 +136,12 @@ is-same a b e = rw e (by b)
     by (pos n) = eq-eqb n n refl
     by (negsuc n) = eq-eqb n n refl
 
+pub same-so : (a b : ℤ) → same a b ≡ true → a ≡ b
+same-so (pos a) (pos b) e = ap pos (eqb-true a b e)
+same-so (pos a) (negsuc b) e = absurd (false≢true e)
+same-so (negsuc a) (pos b) e = absurd (false≢true e)
+same-so (negsuc a) (negsuc b) e = ap negsuc (eqb-true a b e)
+
 not-same : (a b : ℤ) → (a ≡ b → ⊥) → same a b ≡ false
 not-same (pos a) (pos b) f = ne-eqb a b (λ e. f (ap pos e))
 not-same (pos a) (negsuc b) f = refl

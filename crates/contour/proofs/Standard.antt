@@ -1,5 +1,5 @@
 -- Closed mode's test against the crate's and against OpenType, and that a point which goes is the one that OpenType has in its place. Assumes nothing.
-use Prim.Native.Nat.{ℕ, zero, suc, _+_, _-_, _/_, _%_, _≤_, _<_}
+use Prim.Native.Nat.{ℕ, zero, suc, _+_, _-_, _/_, _%_, _<_}
 use mathlib.Core.Bool.{Bool, true, false, not, _&&_, false≢true}
 use mathlib.Core.List.{List, [], _∷_, _++_}
 use mathlib.Core.Path.{_≡_, refl, sym, ap, _∙_}
@@ -13,9 +13,9 @@ use lib.Seq.{length-take-le, split-at, getD-take, getD-drop, getD-append-add, ta
 use lib.Signed.{quotZ}
 use Rattle.corners.specs.Corners.{previous}
 use Rattle.contour.specs.Points.{Points}
-use Rattle.contour.specs.Implied.{cutOf, same, number, offCurve, midway, halfway, isImplied, impliedAt, removed}
+use Rattle.contour.specs.Implied.{same, number, offCurve, midway, halfway, isImplied, impliedAt, removed}
 use Rattle.contour.specs.Standard.{FitsAndEven, TestsAgree, Midpoint, AtMidpoint, ImpliedAtMidpoint, MidpointImplied, midpointOf, impliedBetween, putBack, OutlineKept}
-use Rattle.contour.proofs.Sixteen.{cut-inside, is-same}
+use Rattle.contour.proofs.Sixteen.{cut-inside, is-same, same-so}
 use Rattle.contour.proofs.Dropping.{removed-length}
 
 -- ---- twice a number
@@ -55,12 +55,6 @@ tests-agree prev this next x y =
     λ k. not (offCurve this) && (offCurve prev && (offCurve next && (x-agrees k && y-agrees k)))
 
 -- ---- the midpoint
-
-same-so : (a b : ℤ) → same a b ≡ true → a ≡ b
-same-so (pos a) (pos b) e = ap pos (eqb-true a b e)
-same-so (pos a) (negsuc b) e = absurd (false≢true e)
-same-so (negsuc a) (pos b) e = absurd (false≢true e)
-same-so (negsuc a) (negsuc b) e = ap negsuc (eqb-true a b e)
 
 all-five : (a b c d e : Bool) → (a && (b && (c && (d && e)))) ≡ true → (a ≡ true) × (b ≡ true) × (c ≡ true) × (d ≡ true) × (e ≡ true)
 all-five true true true true true h = (refl, refl, refl, refl, refl)

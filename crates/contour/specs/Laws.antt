@@ -1,5 +1,5 @@
--- Laws for callers: points that are written one list after the other are written as one list; what `over` says at the end; and that
--- finishing adds no point. Assumes nothing.
+-- Laws for callers: points that are written one list after the other are written as one list; what `over` says at the end; that finishing adds
+-- no point; and what stands in the first places of an output row. Assumes nothing.
 use Prim.Native.Nat.{ℕ, zero, suc, _+_, _-_, _≤_, _<_}
 use native.Mathlib.Nat.{le-refl, le-trans}
 use mathlib.Core.Bool.{Bool, true, false}
@@ -10,9 +10,10 @@ use borrow.Author.Tests.{lt-ltb, le-ltb, ltb-true, ltb-false}
 use lib.Dec.{ltb}
 use lib.IntN.{ℤ}
 use lib.ListN.{length, take, drop, length-append, length-take, length-drop, length-reverse}
-use lib.Seq.{length-take-le}
+use lib.Seq.{length-take-le, take-at}
 use Rattle.contour.specs.Points.{Points}
 use Rattle.contour.specs.Implied.{removed, impliedAt, look, dropFrom, dropImplied, isImplied, finished}
+use Rattle.contour.specs.Output.{front}
 use Rattle.contour.specs.declared.Written.{Written}
 use Rattle.contour.specs.Writing.{Writing, so, over, unlessOver, written, extended, writingIn, Wrote, Holds}
 
@@ -87,3 +88,8 @@ module _ (implied : List ℤ → List ℤ → List ℤ → Bool) where
 pub finished-shorter : (closed : Bool) (ps : Points) → length (finished closed ps) ≤ length ps
 finished-shorter true ps = dropped-shorter (isImplied true) ps
 finished-shorter false ps = rw (length-reverse ps) at (dropped-shorter (isImplied false) (reverse ps))
+
+-- ---- a row with s in its first places
+
+pub front-first : {A : Type 0} (n : ℕ) (s row : List A) → length s ≡ n → take n (front s row) ≡ s
+front-first n s row e = take-at s (drop (length s) row) n e

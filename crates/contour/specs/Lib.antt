@@ -3,4 +3,6 @@ pub mod Writing
 pub mod Implied
 pub mod Output
 pub mod Standard
+pub mod Modulo
+pub mod Unchanged
 pub mod Laws

@@ -114,7 +114,8 @@ pub fn start(xs: &[i16], ys: &[i16], points: &mut [[i16; 3]]) -> Written
 // The contour as it came: its start, and each segment's points. The closing segment is one of its own, so the
 // start comes again at the end.
 pub fn unchanged(xs: &[i16], ys: &[i16], flags: &[u8], points: &mut [[i16; 3]]) -> Written
-    ensures { λ r. ⌜ Wrote (now (points .exit)) r (written (length (now (points .entry))) (unchangedPoints (now (xs .entry)) (now (ys .entry)) (now (flags .entry)))) ⌝ }
+    ensures { λ r. ⌜ Wrote (now (points .exit)) r
+        (written (length (now (points .entry))) (unchangedPoints (now (xs .entry)) (now (ys .entry)) (now (flags .entry)))) ⌝ }
 {
     let m = corners::count(flags);
     let mut w = start(xs, ys, points);
@@ -130,7 +131,8 @@ pub fn unchanged(xs: &[i16], ys: &[i16], flags: &[u8], points: &mut [[i16; 3]]) 
 
 // In closed mode: the points in their order, the start not again.
 fn unchanged_closed(xs: &[i16], ys: &[i16], flags: &[u8], points: &mut [[i16; 3]]) -> Written
-    ensures { λ r. ⌜ Wrote (now (points .exit)) r (written (length (now (points .entry))) (cameTo (now (xs .entry)) (now (ys .entry)) (now (flags .entry)) (length (now (flags .entry))))) ⌝ }
+    ensures { λ r. ⌜ Wrote (now (points .exit)) r
+        (written (length (now (points .entry))) (cameTo (now (xs .entry)) (now (ys .entry)) (now (flags .entry)) (length (now (flags .entry))))) ⌝ }
 {
     let mut w = nothing();
     let mut i = 0;
@@ -149,7 +151,8 @@ pub fn unchanged_in(
     closed: bool,
     points: &mut [[i16; 3]],
 ) -> Written
-    ensures { λ r. ⌜ Wrote (now (points .exit)) r (written (length (now (points .entry))) (unchangedIn (now (xs .entry)) (now (ys .entry)) (now (flags .entry)) closed)) ⌝ }
+    ensures { λ r. ⌜ Wrote (now (points .exit)) r
+        (written (length (now (points .entry))) (unchangedIn (now (xs .entry)) (now (ys .entry)) (now (flags .entry)) closed)) ⌝ }
 {
     if closed {
         return unchanged_closed(xs, ys, flags, points);

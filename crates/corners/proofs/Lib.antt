@@ -1,7 +1,7 @@
--- What the proofs share; those that are `pub`, with other crates too. From `Values` on: theorems on the definitions, for a reader, which no proof of a function uses.
+-- What the proofs share; those that are `pub`, with other crates too. From `Values` on: theorems on the definitions, for a reader, which no function of this crate needs.
 mod Laws
 pub mod Rounds
 mod Values
 pub mod Reasons
 pub mod Whole
-mod Outline
+pub mod Outline

@@ -1,5 +1,4 @@
--- An index is a corner exactly when one of its tests holds: a sign turn in x or in y in the first or the second round, a zero
--- tangent before or after, or an angle; and no index past the segments is one. A theorem on the definitions, for a reader: no proof of a function uses it. Assumes nothing.
+-- An index is a corner exactly when one of its tests holds, and no index past the segments is one: specs/Statements. Assumes nothing.
 use Prim.Native.Nat.{ℕ, zero, suc, _≤_, _<_}
 use mathlib.Core.Bool.{Bool, true, false, _||_, or-true, or-false}
 use mathlib.Core.List.{List}
@@ -8,10 +7,11 @@ use mathlib.Core.Path.{_≡_, refl, sym, ap, _∙_}
 use native.Mathlib.Nat.{eq-or-lt-of-le}
 use native.Mathlib.Omega.{arith}
 use lib.IntN.{ℤ}
-use lib.ListN.{length, getD, set, length-set, length-replicate, getD-replicate}
+use lib.ListN.{length, getD, length-set, length-replicate, getD-replicate}
 use lib.Seq.{getD-set-same, getD-set-other}
 use Rattle.corners.specs.Segments.{countOf}
 use Rattle.corners.specs.Corners.{none, markIf, marked, origin, turnAt, tangentAt, afterFirst, cornersOf}
+use Rattle.corners.specs.Statements.{CornerWhenTested, NoCornerPastSegments}
 
 abbrev at : List Bool → ℕ → Bool
 at marks k = getD marks k false
@@ -73,25 +73,33 @@ module _ (m n k : ℕ) (h : k < m) (l : k < n) where
       let long : k < length (marked first m (none n)) = rw marked-length none-length in
       tested second (marked first m (none n)) m k h long ∙ ap (λ (b : Bool). b || second k) (marked-when first)
 
-module _ (xs ys : List ℤ) (fs : List ℕ) (n k : ℕ) where
-  pub corner-when : k < countOf fs → k < n →
-      at (cornersOf xs ys fs n) k ≡ (turnAt xs ys fs origin k || turnAt xs ys fs (afterFirst xs ys fs) k || tangentAt xs ys fs (countOf fs) k)
-  unfolding cornersOf
-  corner-when h l =
-      let m = countOf fs in
-      let once = marked (turnAt xs ys fs origin) m (none n) in
-      let twice = marked (turnAt xs ys fs (afterFirst xs ys fs)) m once in
-      let l₀ : k < length (none n) = rw length-replicate l in
-      let l₁ : k < length once = rw marked-length l₀ in
-      let l₂ : k < length twice = rw marked-length l₁ in
-      tested (tangentAt xs ys fs m) twice m k h l₂
-      ∙ rw (tested (turnAt xs ys fs (afterFirst xs ys fs)) once m k h l₁, tested (turnAt xs ys fs origin) (none n) m k h l₀, getD-replicate n k false false l)
+module _ (xs ys : List ℤ) (fs : List ℕ) (n : ℕ) where
+  -- marked in the first round, and in both
+  abbrev once : List Bool
+  once = marked (turnAt xs ys fs origin) (countOf fs) (none n)
 
-  -- an index past the segments is no corner
-  pub no-corner-past : countOf fs ≤ k → at (cornersOf xs ys fs n) k ≡ false
-  unfolding cornersOf
-  no-corner-past h =
-      let m = countOf fs in
-      let once = marked (turnAt xs ys fs origin) m (none n) in
-      let twice = marked (turnAt xs ys fs (afterFirst xs ys fs)) m once in
-      untested (tangentAt xs ys fs m) twice m k h ∙ untested (turnAt xs ys fs (afterFirst xs ys fs)) once m k h ∙ untested (turnAt xs ys fs origin) (none n) m k h ∙ unmarked n k
+  abbrev twice : List Bool
+  twice = marked (turnAt xs ys fs (afterFirst xs ys fs)) (countOf fs) once
+
+pub corner-when : CornerWhenTested
+unfolding cornersOf
+corner-when xs ys fs n k h l =
+    let m = countOf fs in
+    let l₀ : k < length (none n) = rw length-replicate l in
+    let l₁ : k < length (once xs ys fs n) = rw marked-length l₀ in
+    let l₂ : k < length (twice xs ys fs n) = rw marked-length l₁ in
+    tested (tangentAt xs ys fs m) (twice xs ys fs n) m k h l₂
+    ∙ rw (
+      tested (turnAt xs ys fs (afterFirst xs ys fs)) (once xs ys fs n) m k h l₁,
+      tested (turnAt xs ys fs origin) (none n) m k h l₀,
+      getD-replicate n k false false l,
+    )
+
+pub no-corner-past : NoCornerPastSegments
+unfolding cornersOf
+no-corner-past xs ys fs n k h =
+    let m = countOf fs in
+    untested (tangentAt xs ys fs m) (twice xs ys fs n) m k h
+    ∙ untested (turnAt xs ys fs (afterFirst xs ys fs)) (once xs ys fs n) m k h
+    ∙ untested (turnAt xs ys fs origin) (none n) m k h
+    ∙ unmarked n k

@@ -1,24 +1,31 @@
 -- `hypot` in the bend test, the `normOf` of `angleCorner`, is the root, rounded once, of the exact whole sum of squares: the steps of a
--- contour are exact whole numbers below 2 ^ 17, so that their squares and the sum of these are exact. A theorem on the definitions, for
--- a reader: no proof of a function uses it. Assumes nothing.
-use Prim.Native.Nat.{ℕ, _+_, _-_, _*_, _^_, _≤_, _<_}
-use mathlib.Core.Bool.{Bool, true, false, not, true≢false}
+-- contour are exact whole numbers below 2 ^ 17, so that their squares and the sum of these are exact. `bend-test-exact` says so of every tangent
+-- of a contour: a theorem on the definitions, for a reader, which no proof of a function uses. Assumes nothing.
+use Prim.Native.Nat.{ℕ, _+_, _*_, _^_, _≤_, _<_}
+use mathlib.Core.Bool.{Bool, true, false, true≢false}
+use mathlib.Core.List.{List}
 use mathlib.Core.Path.{_≡_, refl, sym, ap, _∙_}
 use native.Mathlib.Nat.{le-refl, mul-one, mul-mul-mul-comm, mul-pos, add-mul, mul-le-mul}
 use native.Mathlib.Omega.{arith}
 use lib.Dec.{lit≤}
-use lib.IntN.{ℤ, pos, natAbs, _-ℤ_, +ℤ-idr}
+use lib.IntN.{ℤ, pos, negsuc, natAbs, _+ℤ_, _-ℤ_, _*ℤ_, +ℤ-idr}
+use lib.Signed.{mag}
+use lib.ListN.{length, getD}
 use lib.Ieee.{Float, fin, binary64, up, down, unlike, round, sum, add, sub, mul, ofInt, ofBits}
 use lib.Ieee.Exact.{HasValue}
 use lib.Ieee.Fits.{down-pos, round-fits, add-fits}
 use lib.Ieee.Back.{round-whole, whole-unique}
+use Rattle.rows.specs.Sixteen.{SixteenBits}
+use Rattle.rows.proofs.Sixteen.{sixteen-at}
 use Rattle.float.specs.Numbers.{nil}
 use Rattle.float.specs.Float.{rootOf}
 use Rattle.float.specs.Dyadic.{Exact, signed}
 use Rattle.float.proofs.Dyadic.{round-unit, left, right, size-signed, size-of, sub-exact, whole-exact}
 use Rattle.geometry.specs.declared.Point.{Point}
 use Rattle.geometry.specs.Geometry.{squares, normOf}
-use Rattle.corners.specs.Segments.{step}
+use Rattle.corners.specs.Segments.{onAt, nextOf, endIf, endOf, startOf, coordinate, step, segIf, segFrom, leavingOf, arrivingOf}
+use Rattle.corners.specs.Corners.{previous}
+use Rattle.corners.specs.Statements.{exactHypot, leavingHypot, arrivingHypot, BendTestIsExact}
 
 -- x is the whole number ±size
 pub record Whole (x : Float) (size : ℕ) : Type 0 where
@@ -80,7 +87,7 @@ minus-nil x a v small =
 -- ---- the length of a step
 
 -- the sum of the squares of two whole numbers is not rounded
-pub squares-exact : (x y : Float) (a b : ℕ) → Whole x a → Whole y b → a < 2 ^ 17 → b < 2 ^ 17 → squares x y ≡ ofInt binary64 (pos (a * a + b * b))
+squares-exact : (x y : Float) (a b : ℕ) → Whole x a → Whole y b → a < 2 ^ 17 → b < 2 ^ 17 → squares x y ≡ ofInt binary64 (pos (a * a + b * b))
 unfolding ofInt
 squares-exact x y a b v w ha hb =
     let sa : a * a ≤ 2 ^ 17 * 2 ^ 17 = mul-le-mul {n₂ = 2 ^ 17} {m₂ = 2 ^ 17} (omega arith) (omega arith) in
@@ -90,12 +97,70 @@ squares-exact x y a b v w ha hb =
     (total (mul binary64 x x) (mul binary64 y y) (a * a) (b * b) (square x (v .sign) a (v .value) (omega arith)) (square y (w .sign) b (w .value) (omega arith)) (omega arith))
     (round-whole binary64 false n (omega arith))
 
-pub length-exact : (d : Point) (a b : ℕ) → Whole (d .x) a → Whole (d .y) b → a < 2 ^ 17 → b < 2 ^ 17 → normOf d ≡ rootOf (ofInt binary64 (pos (a * a + b * b)))
+length-exact : (d : Point) (a b : ℕ) → Whole (d .x) a → Whole (d .y) b → a < 2 ^ 17 → b < 2 ^ 17 → normOf d ≡ rootOf (ofInt binary64 (pos (a * a + b * b)))
 length-exact d a b v w ha hb = ap rootOf (squares-exact (d .x) (d .y) a b v w ha hb)
 
+square-is : (z : ℤ) → z *ℤ z ≡ pos (natAbs z * natAbs z)
+square-is (pos n) = refl
+square-is (negsuc n) = refl
+
 -- a tangent between two points of 16 bits: `hypot` of it is the root, rounded once, of the exact whole sum of squares
-pub hypot-exact : (x0 y0 x1 y1 : ℤ) → natAbs x0 ≤ 2 ^ 15 → natAbs y0 ≤ 2 ^ 15 → natAbs x1 ≤ 2 ^ 15 → natAbs y1 ≤ 2 ^ 15 →
+hypot-exact : (x0 y0 x1 y1 : ℤ) → natAbs x0 ≤ 2 ^ 15 → natAbs y0 ≤ 2 ^ 15 → natAbs x1 ≤ 2 ^ 15 → natAbs y1 ≤ 2 ^ 15 →
     normOf (step (ofInt binary64 x0) (ofInt binary64 y0) (ofInt binary64 x1) (ofInt binary64 y1))
-    ≡ rootOf (ofInt binary64 (pos (natAbs (x1 -ℤ x0) * natAbs (x1 -ℤ x0) + natAbs (y1 -ℤ y0) * natAbs (y1 -ℤ y0))))
+    ≡ rootOf (ofInt binary64 ((x1 -ℤ x0) *ℤ (x1 -ℤ x0) +ℤ (y1 -ℤ y0) *ℤ (y1 -ℤ y0)))
 hypot-exact x0 y0 x1 y1 hx0 hy0 hx1 hy1 =
-    length-exact _ _ _ (step-whole x1 x0 hx1 hx0) (step-whole y1 y0 hy1 hy0) (step-small x1 x0 hx1 hx0) (step-small y1 y0 hy1 hy0)
+    rw (square-is (x1 -ℤ x0), square-is (y1 -ℤ y0))
+    (length-exact _ _ _ (step-whole x1 x0 hx1 hx0) (step-whole y1 y0 hy1 hy0) (step-small x1 x0 hx1 hx0) (step-small y1 y0 hy1 hy0))
+
+-- ---- the tangents of a contour
+
+size-most : (z : ℤ) → mag z < 2 ^ 15 → natAbs z ≤ 2 ^ 15
+size-most (pos n) h = omega arith
+size-most (negsuc n) h = h
+
+pub size-at : (row : List ℤ) → SixteenBits row → (i : ℕ) → natAbs (getD row i (pos 0)) ≤ 2 ^ 15
+size-at row s i = size-most (getD row i (pos 0)) (sixteen-at row s i)
+
+-- each is the step between two of its points
+module _ (xs ys : List ℤ) where
+  abbrev pub between : ℕ → ℕ → Point
+  between i j = step (coordinate xs i) (coordinate ys i) (coordinate xs j) (coordinate ys j)
+
+  -- of a line from a to b, and of a quad from a to c with its control at b
+  leaves : (t : Bool) (a b c : ℕ) → leavingOf (segIf xs ys t a b c) ≡ between a b
+  leaves true a b c = refl
+  leaves false a b c = refl
+
+  arrives : (t : Bool) (a b c : ℕ) → arrivingOf (segIf xs ys t a b c) ≡ between (endIf t a b) (endIf t b c)
+  arrives true a b c = refl
+  arrives false a b c = refl
+
+  module _ (fs : List ℕ) (a : ℕ) where
+    abbrev next : ℕ
+    next = nextOf a (length fs)
+
+    pub leaving-is : leavingOf (segFrom xs ys fs a) ≡ between a next
+    unfolding segFrom
+    leaving-is = leaves (onAt fs next) a next (nextOf next (length fs))
+
+    pub arriving-is : arrivingOf (segFrom xs ys fs a) ≡ between (endIf (onAt fs next) a next) (endOf fs a)
+    unfolding segFrom endOf
+    arriving-is = arrives (onAt fs next) a next (nextOf next (length fs))
+
+-- and its length is exact
+module _ (xs ys : List ℤ) (fs : List ℕ) (sx : SixteenBits xs) (sy : SixteenBits ys) where
+  places : (i j : ℕ) → normOf (between xs ys i j) ≡ exactHypot xs ys i j
+  places i j = hypot-exact _ _ _ _ (size-at xs sx i) (size-at ys sy i) (size-at xs sx j) (size-at ys sy j)
+
+  leaves-at : (a : ℕ) → normOf (leavingOf (segFrom xs ys fs a)) ≡ leavingHypot xs ys fs a
+  leaves-at a = ap normOf (leaving-is xs ys fs a) ∙ places _ _
+
+  arrives-at : (a : ℕ) → normOf (arrivingOf (segFrom xs ys fs a)) ≡ arrivingHypot xs ys fs a
+  arrives-at a = ap normOf (arriving-is xs ys fs a) ∙ places _ _
+
+pub bend-test-exact : BendTestIsExact
+bend-test-exact xs ys fs sx sy = record {
+  leaving = λ k. leaves-at xs ys fs sx sy (startOf fs k);
+  arriving = λ k. arrives-at xs ys fs sx sy (startOf fs k);
+  test = λ m k. rw (arrives-at xs ys fs sx sy (startOf fs (previous m k)), leaves-at xs ys fs sx sy (startOf fs k));
+}

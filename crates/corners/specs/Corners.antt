@@ -59,7 +59,7 @@ abbrev pub bend : Point → Point → Float
 bend d0 d1 = sub binary64 (mul binary64 (d1 .x) (d0 .y)) (mul binary64 (d0 .x) (d1 .y))
 
 -- |bend / (h0 * h1)| > 0.02, where h is the `hypot` of a tangent. The steps of a contour are whole and of at most 2 ^ 16, so that `normOf`
--- is the root, rounded once, of the exact whole sum of squares: proofs/Whole has that.
+-- is the root, rounded once, of the exact whole sum of squares: `BendTestIsExact` of specs/Statements.
 abbrev pub angleCorner : Point → Point → Bool
 angleCorner d0 d1 = lt fiftieth (absOf (div binary64 (bend d0 d1) (mul binary64 (normOf d0) (normOf d1))))
 

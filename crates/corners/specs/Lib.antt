@@ -2,3 +2,4 @@ pub mod Segments
 pub mod Corners
 pub mod OpenType
 pub mod Laws
+pub mod Statements

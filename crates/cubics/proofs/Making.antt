@@ -1,13 +1,12 @@
 -- Laws of the row of points that is filled: one point more, lists one after the other, nothing more, and how the halvings left keep the
 -- numbers in reach. Assumes nothing.
-use Prim.Native.Nat.{ℕ, zero, suc, _+_, _-_, _*_, _^_, _≤_, _<_}
-use mathlib.Core.Bool.{Bool, true, false, _&&_, _||_, true≢false}
-use mathlib.Core.List.{List, [], _∷_, _++_, map, append-nil}
+use Prim.Native.Nat.{ℕ, zero, suc, _+_, _-_, _*_, _≤_, _<_}
+use mathlib.Core.Bool.{Bool, true, false, _&&_, _||_, true≢false, or-false}
+use mathlib.Core.List.{List, [], _∷_, _++_, map, map-append, append-nil}
 use mathlib.Core.Path.{_≡_, refl, sym, ap, _∙_}
-use native.Mathlib.Nat.{mul-assoc, mul-comm, mul-le-mul-left, min-le-right, min-eq-left, one-le-pow, pow-succ'}
+use native.Mathlib.Nat.{min-le-right, min-eq-left}
 use native.Mathlib.Omega.{arith}
 use borrow.Author.Tests.{lt-ltb, le-ltb, ltb-false}
-use lib.Dec.{lit≤}
 use lib.IntN.{ℤ, pos, negsuc}
 use mir.Syntax.{w16}
 use mir.Val.{SFits, toZ, ofZ}
@@ -21,23 +20,16 @@ use Rattle.contour.specs.Writing.{over, unlessOver, written, extended, writingI
 use Rattle.contour.specs.declared.Written.{Written}
 use Rattle.contour.specs.Laws.{wrote-more}
 use Rattle.halving.specs.Cubic.{Curve, firstPart, secondPart, bent, outside, point, controlPoint, startPoint, between}
-use Rattle.halving.specs.Exact.{Roomy, cutTo}
+use Rattle.halving.specs.Exact.{Reach, cutTo}
+use Rattle.halving.proofs.Halving.{reach-less}
 use Rattle.cubics.specs.Replacing.{afterPair, onAt, itselfAt, pairAt, pointsAt, pointsTo, outsidePoint, anyOutside}
-use Rattle.cubics.specs.Making.{stored, writtenOf, nothing, Makes, MadeOf, Reach}
+use Rattle.cubics.specs.Making.{stored, writtenOf, nothing, Makes, MadeOf}
 use Rattle.cubics.specs.Refusing.{unpaired, offAfter, unpairedFrom}
 use Rattle.cubics.specs.declared.Made.{Made}
-
-map-append : (f : List ℤ → List ℤ) (ps qs : Points) → map f (ps ++ qs) ≡ map f ps ++ map f qs
-map-append f [] qs = refl
-map-append f (p ∷ ps) qs = ap (λ (l : Points). f p ∷ l) (map-append f ps qs)
 
 or-assoc : (a b c : Bool) → ((a || b) || c) ≡ (a || (b || c))
 or-assoc true b c = refl
 or-assoc false b c = refl
-
-or-false : (a : Bool) → (a || false) ≡ a
-or-false true = refl
-or-false false = refl
 
 pub any-append : (ps qs : Points) → anyOutside (ps ++ qs) ≡ (anyOutside ps || anyOutside qs)
 unfolding anyOutside
@@ -78,22 +70,6 @@ makes-none row m h = record { wrote = record { within = h; is = none-more row (m
 -- from nothing
 pub made-from : {row₀ row : Points} {r : Made} {ps : Points} → Makes row₀ nothing row r ps → MadeOf (length row₀) row r ps
 made-from v = record { wrote = v .wrote; far = v .far }
-
--- ---- in reach
-
-pub reach-roomy : {left e b : ℕ} → Reach left e b → Roomy (e + 2) (8 * b)
-reach-roomy {left} {e} {b} h =
-    let more : b * 1 ≤ b * 8 ^ left = mul-le-mul-left b (one-le-pow left 8 (lit≤ tt)) in
-    record { low = omega (arith, h .low); few = omega (arith, h .few) }
-
-pub roomy-less : {e b : ℕ} → Roomy (e + 2) (8 * b) → Roomy e b
-roomy-less {e} {b} h = record { low = omega (arith, h .low); few = omega (arith, h .few) }
-
-pub reach-less : {left e b : ℕ} → Reach (suc left) e b → Reach left (e + 3) (8 * b)
-reach-less {left} {e} {b} h = record {
-  low = omega (arith, h .low);
-  few = rw (mul-comm 8 b, mul-assoc b 8 (8 ^ left), ← pow-succ' 8 left) (h .few);
-}
 
 -- ---- the place after a pair
 
@@ -223,10 +199,6 @@ module _ (xs ys : List ℤ) (fs : List ℕ) (i : ℕ) where
 pub points-none : (xs ys : List ℤ) (fs : List ℕ) → pointsTo xs ys fs 0 ≡ []
 unfolding pointsTo
 points-none xs ys fs = refl
-
--- five halvings from points of 16 bits
-pub reach-five : Reach 5 0 (2 ^ 15)
-reach-five = record { low = lit≤ tt; few = lit≤ tt }
 
 pub one-less : (left : ℕ) → (left ≡ 0 → ⊥) → left - 1 < left
 one-less zero some = absurd (some refl)

@@ -1,29 +1,30 @@
 -- A contour let through enters the base: what is written is refused by none of 1 to 5. And each of its cubics has one depth, of at most
--- five halvings. Assumes nothing.
-use Prim.Native.Nat.{ℕ, zero, suc, _+_, _-_, _≤_, _<_}
-use mathlib.Core.Bool.{Bool, true, false, not, _&&_, true≢false, false≢true}
+-- five halvings. The statements are those of specs/Statements. Assumes nothing.
+use Prim.Native.Nat.{ℕ, zero, suc, _+_, _-_, _<_}
+use mathlib.Core.Bool.{Bool, true, false, not, and-false, true≢false, false≢true}
 use mathlib.Core.List.{List, [], _∷_, _++_, append-assoc}
 use mathlib.Core.Path.{_≡_, refl, sym, ap, _∙_}
 use native.Mathlib.Omega.{arith}
 use borrow.Author.Tests.{ltb-false, not-false}
-use lib.IntN.{ℤ, pos}
-use lib.Signed.{mag}
+use lib.IntN.{ℤ}
 use lib.ListN.{length, getD, length-map}
-use Rattle.refusals.specs.Refusals.{isOn, firstOff, offNeighbours, tooMany, refuse, rowsDiffer, noPoint, judged}
+use Rattle.refusals.specs.Refusals.{isOn, firstOff, offNeighbours, tooMany, refuse, rowsDiffer, noPoint}
 use Rattle.refusals.specs.Accepted.{judged-fine}
 use Rattle.refusals.specs.declared.Judged.{Judged}
 use Rattle.refusals.specs.declared.Judged.the-variants as Judged
-use Rattle.rows.specs.Lent.{Inputs, inputs}
+use Rattle.rows.specs.Lent.{inputs}
+use Rattle.rows.specs.Sixteen.{SixteenBits}
+use Rattle.rows.proofs.Sixteen.{sixteen-at}
 use Rattle.contour.specs.Points.{Points}
 use Rattle.contour.specs.Implied.{number, offCurve}
 use Rattle.contour.specs.Output.{column, flagOf, flags}
-use Rattle.halving.specs.Cubic.{Curve, firstPart, secondPart, bent, controlPoint, startPoint, point, halvedIf, between}
-use Rattle.halving.specs.Depth.{Depth}
-use Rattle.halving.proofs.Linear.{sixteen}
-use Rattle.halving.proofs.Depth.{SixteenFour, depth}
+use Rattle.halving.specs.Cubic.{Curve, firstPart, secondPart, bent, controlPoint, startPoint, halvedIf, between}
+use Rattle.halving.specs.Statements as Halving
+use Rattle.halving.proofs.Depth.{one-depth}
 use Rattle.cubics.specs.Replacing.{onAt, afterPair, fourAt, curveAt, itselfAt, pointsAt, pointsTo}
 use Rattle.cubics.specs.Refusing.{judgedCubics}
-use Rattle.cubics.specs.Entry.{refuseIf, answerIn, afterJudging, pointsOf, wholeOf}
+use Rattle.cubics.specs.Entry.{refuseIf, answerIn, afterJudging}
+use Rattle.cubics.specs.Statements.{QuadsEnterTheBase, EachHasOneDepth}
 use Rattle.cubics.specs.declared.Replaced as D
 use Rattle.cubics.specs.declared.Replaced.the-variants as Replaced
 
@@ -56,6 +57,9 @@ record Through (xs ys : List ℤ) (fs : List ℕ) (k : ℕ) : Type 0 where
   chain : Chain true (pointsTo xs ys fs k) to
   open-to : onAt fs (k - 1) ≡ true → to ≡ true
 
+one : (k : ℕ) → suc k - 1 ≡ k
+one k = omega arith
+
 place-chain : (xs ys : List ℤ) (fs : List ℕ) (k : ℕ) (s t : Bool) → onAt fs k ≡ s → onAt fs (k - 1) ≡ t → Through xs ys fs k → Through xs ys fs (suc k)
 unfolding pointsTo
 place-chain xs ys fs k true t hs ht r = record { to = true; chain = rw hs (joined (r .chain) (onto refl stop)); open-to = λ h. refl }
@@ -64,17 +68,11 @@ place-chain xs ys fs k false true hs ht r = record {
   chain = rw (hs, ht) (joined (rw (r .open-to ht) at (r .chain)) (between-chain 5 0 (curveAt xs ys (length fs) k)));
   open-to = λ h. absurd (false≢true (sym hs ∙ rw (one k) at h));
 }
-  where
-    one : (k : ℕ) → suc k - 1 ≡ k
-    one k = omega arith
 place-chain xs ys fs k false false hs ht r = record {
   to = r .to;
   chain = rw (hs, ht) (joined (r .chain) stop);
   open-to = λ h. absurd (false≢true (sym hs ∙ rw (one k) at h));
 }
-  where
-    one : (k : ℕ) → suc k - 1 ≡ k
-    one k = omega arith
 
 through : (xs ys : List ℤ) (fs : List ℕ) (k : ℕ) → Through xs ys fs k
 unfolding pointsTo
@@ -82,10 +80,6 @@ through xs ys fs zero = record { to = true; chain = stop; open-to = λ h. refl }
 through xs ys fs (suc k) = place-chain xs ys fs k (onAt fs k) (onAt fs (k - 1)) refl refl (through xs ys fs k)
 
 -- ---- 5: no two neighbours are off-curve
-
-and-false : (a : Bool) → (a && false) ≡ false
-and-false true = refl
-and-false false = refl
 
 -- after a flag f, on-curve where the chain says so
 after-flag : (f : ℕ) {b c : Bool} {ps : Points} → Chain b ps c → (b ≡ true → isOn f ≡ true) → offNeighbours (f ∷ flags ps) ≡ false
@@ -141,9 +135,7 @@ fine-or : (j : Judged) (later : D.Replaced) (n : ℕ) → afterJudging j later �
 fine-or (Judged.Refused k) later n h = let z : _≡_ {A = ℕ} 0 1 = cc in absurd (omega arith)
 fine-or Judged.Fine later n h = (refl, h)
 
--- demands 2 and 3 speak of the quads: a contour let through here is refused by none of 1 to 5
-pub none-refused : (i : Inputs) (room n : ℕ) → wholeOf i room ≡ Replaced.Quads n →
-    judged (column 0 (pointsOf i)) (column 1 (pointsOf i)) (flags (pointsOf i)) ≡ Judged.Fine
+pub none-refused : QuadsEnterTheBase
 none-refused (inputs xs ys fs) room n h =
     let ps = pointsTo xs ys fs (length fs) in
     let past = fine-or (judgedCubics xs ys fs) (answerIn room ps) n h in
@@ -164,14 +156,8 @@ none-refused (inputs xs ys fs) room n h =
 
 -- ---- each cubic of an upload, whose coordinates are of 16 bits: one depth
 
-pub cubic-depth : (xs ys : List ℤ) (n i : ℕ) → ((k : ℕ) → mag (getD xs k (pos 0)) ≤ 32767) → ((k : ℕ) → mag (getD ys k (pos 0)) ≤ 32767) →
-    (d : ℕ) × Depth (curveAt xs ys n i) d
-cubic-depth xs ys n i hx hy = depth (curveAt xs ys n i) (four xs hx) (four ys hy)
-  where
-    four : (row : List ℤ) → ((k : ℕ) → mag (getD row k (pos 0)) ≤ 32767) → SixteenFour (fourAt row n i)
-    four row h = record {
-      p0 = sixteen (getD row (i - 1) (pos 0)) (h (i - 1));
-      p1 = sixteen (getD row i (pos 0)) (h i);
-      p2 = sixteen (getD row (i + 1) (pos 0)) (h (i + 1));
-      p3 = sixteen (getD row (afterPair i n) (pos 0)) (h (afterPair i n));
-    }
+four-at : (row : List ℤ) (n i : ℕ) → SixteenBits row → Halving.SixteenBits (fourAt row n i)
+four-at row n i s = record { p0 = sixteen-at row s (i - 1); p1 = sixteen-at row s i; p2 = sixteen-at row s (i + 1); p3 = sixteen-at row s (afterPair i n) }
+
+pub each-one-depth : EachHasOneDepth
+each-one-depth xs ys n i sx sy = one-depth (curveAt xs ys n i) (four-at xs n i sx) (four-at ys n i sy)

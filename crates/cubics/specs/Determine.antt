@@ -6,8 +6,8 @@ use mathlib.Core.List.{List, []}
 use mathlib.Core.Path.{_≡_, refl, sym, ap, _∙_}
 use lib.Dec.{ltb}
 use lib.IntN.{ℤ}
-use lib.ListN.{length, take, drop, length-map}
-use lib.Seq.{take-at}
+use lib.ListN.{length, take, length-map}
+use Rattle.contour.specs.Laws.{front-first}
 use denote.Triple.Both.{Both}
 use Rattle.refusals.specs.Refusals.{tooMany}
 use Rattle.refusals.specs.declared.Judged.{Judged}
@@ -15,7 +15,7 @@ use Rattle.refusals.specs.declared.Judged.the-variants as Judged
 use Rattle.rows.specs.Lent.{Inputs, Shown}
 use Rattle.contour.specs.Points.{Points}
 use Rattle.contour.specs.Implied.{number}
-use Rattle.contour.specs.Output.{Outputs, outputs, column, flagOf, flags, front}
+use Rattle.contour.specs.Output.{Outputs, outputs, column, flagOf, flags}
 use Rattle.cubics.specs.Replacing.{anyOutside}
 use Rattle.cubics.specs.Entry.{roomOf, refuseIf, answerIn, afterJudging, judgedOf, pointsOf, leftBy, Promise, report}
 use Rattle.cubics.specs.declared.CubicReport.{CubicReport}
@@ -71,9 +71,6 @@ counted false false false a = refl
 count-whole : (j : Judged) (room : ℕ) (ps : Points) → countOf (afterJudging j (answerIn room ps)) (length ps)
 count-whole (Judged.Refused k) room ps = tt
 count-whole Judged.Fine room ps = counted (tooMany (length ps)) (anyOutside ps) (ltb room (length ps)) (length ps)
-
-front-first : {A : Type 0} (n : ℕ) (s row : List A) → length s ≡ n → take n (front s row) ≡ s
-front-first n s row e = take-at s (drop (length s) row) n e
 
 first-shown : (r : D.Replaced) (ps : Points) (w : Outputs) → countOf r (length ps) → firstOf r (leftBy r ps w) ≡ shown r ps
 first-shown (Replaced.Refused k) ps w h = refl

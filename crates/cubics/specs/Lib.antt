@@ -3,3 +3,4 @@ pub mod Making
 pub mod Refusing
 pub mod Entry
 pub mod Determine
+pub mod Statements

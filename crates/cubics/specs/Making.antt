@@ -1,5 +1,5 @@
 -- What the functions leave in the row of points that they fill, and when numbers are within reach of the halvings left. Definitions only.
-use Prim.Native.Nat.{ℕ, _+_, _*_, _^_, _≤_}
+use Prim.Native.Nat.{ℕ}
 use mathlib.Core.Bool.{false, _||_}
 use mathlib.Core.List.{List, map}
 use mathlib.Core.Path.{_≡_}
@@ -30,8 +30,3 @@ pub record Makes (row₀ : Points) (m : Made) (row : Points) (r : Made) (ps : Po
 pub record MadeOf (room : ℕ) (row : Points) (m : Made) (ps : Points) : Type 0 where
   pub wrote : Wrote row (writtenOf m) (written room (map stored ps))
   pub far : m .far ≡ anyOutside ps
-
--- with so many halvings left, the numbers stay within 53 digits
-pub record Reach (left e b : ℕ) : Type 0 where
-  pub low : e + 3 * left ≤ 900
-  pub few : b * 8 ^ left ≤ 2 ^ 30

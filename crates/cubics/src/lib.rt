@@ -17,9 +17,9 @@ ghost use Rattle.rows.specs.Lent.{before, after, contour, Shown};
 ghost use Rattle.contour.specs.Points.{Points};
 ghost use Rattle.halving.specs.Cubic.{Curve, outside, rounded, controlPoint, startPoint, between};
 ghost use Rattle.float.specs.Dyadic.{Exact};
-ghost use Rattle.halving.specs.Exact.{ExactAxis, ExactCubic, Roomy};
+ghost use Rattle.halving.specs.Exact.{ExactAxis, ExactCubic, Roomy, Reach};
 ghost use Rattle.cubics.specs.Replacing.{afterPair, fourAt, curveAt, onAt, pointsAt, pointsOf, outsidePoint};
-ghost use Rattle.cubics.specs.Making.{stored, Makes, MadeOf, Reach};
+ghost use Rattle.cubics.specs.Making.{stored, Makes, MadeOf};
 ghost use Rattle.cubics.specs.Refusing.{unpaired, offAfter, offPairs, judgedCubics};
 ghost use Rattle.cubics.specs.Entry.{lent, WrittenOut, Promise, report};
 

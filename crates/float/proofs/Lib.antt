@@ -1,5 +1,5 @@
 -- The mathematics of the proofs, on plain values. Each function's own proof stands in its folder.
--- `Exact`, `Nearest`, `Values` and `Decimals` have the theorems for a reader, whose statements are types of specs/: Rounding, Worked, Decimals.
+-- `Own`, `Exact`, `Nearest`, `Values` and `Decimals` have the theorems for a reader, whose statements are types of specs/: Unrounded, Rounding, Worked, Decimals.
 pub mod Number
 mod Sign
 mod Saturate

@@ -41,7 +41,7 @@ use Rattle.float.specs.Rounding.{RootIsNearest}
 use Rattle.float.specs.Steps.{scaled}
 use Rattle.float.proofs.Squares.{Root, root-down, sq-next, sq-twice}
 use Rattle.float.proofs.Fitting.{below-prec, down-in, place}
-use Rattle.float.proofs.Scaled.{word, half, exact, normal, below, root-in, units, four-pow, four-pos}
+use Rattle.float.proofs.Scaled.{word, half, exact, normal, below, root-in, units, four-pow, four-pos, shifted}
 use Rattle.float.proofs.Read.{rootOf-is}
 
 -- ---- of a whole number n above 0: 4 * n lies strictly between the squares of 2 * p - 1 and 2 * p + 1
@@ -147,10 +147,7 @@ side a b = go (leb a b) (leb-true a b) (leb-false a b)
     go true f g = inl (f refl)
     go false f g = inr (g refl)
 
--- 2 ^ j is a multiple of 2 ^ k, or half of it at most
-multiple : (m j k : ℕ) → k ≤ j → m * 2 ^ j ≡ m * 2 ^ (j - k) * 2 ^ k
-multiple m j k h = ap (λ (i : ℕ). m * 2 ^ i) (sym (sub-add-cancel h)) ∙ ap (λ (a : ℕ). m * a) (pow-add 2 (j - k) k) ∙ sym (mul-assoc m (2 ^ (j - k)) (2 ^ k))
-
+-- 2 ^ j is a multiple of 2 ^ k (`shifted`), or half of it at most
 small : (m j k : ℕ) → m < 2 ^ 53 → j < k → m * 2 ^ j < 2 ^ 52 * 2 ^ k
 small m j k h l =
     let a : m * 2 ^ j < 2 ^ 53 * 2 ^ j = mul-lt-mul-of-pos-right h (pow-pos j) in
@@ -163,8 +160,8 @@ step-up m j p k few least h = by (side k j)
     by : (k ≤ j) ⊎ (j < k) → (p + 1) * 2 ^ k ≤ m * 2 ^ j
     by (inl l) =
         let t = m * 2 ^ (j - k) in
-        let less : p < t = lt-of-mul-lt-mul-right (2 ^ k) (subst (λ (a : ℕ). p * 2 ^ k < a) (multiple m j k l) h) in
-        subst (λ (a : ℕ). (p + 1) * 2 ^ k ≤ a) (sym (multiple m j k l)) (mul-le-mul-right (2 ^ k) (omega arith))
+        let less : p < t = lt-of-mul-lt-mul-right (2 ^ k) (subst (λ (a : ℕ). p * 2 ^ k < a) (shifted m j k l) h) in
+        subst (λ (a : ℕ). (p + 1) * 2 ^ k ≤ a) (sym (shifted m j k l)) (mul-le-mul-right (2 ^ k) (omega arith))
     by (inr l) = absurd (lt-irrefl (m * 2 ^ j) (lt-of-lt-of-le (small m j k few l) (le-trans (mul-le-mul-right (2 ^ k) least) (le-of-lt h))))
 
 -- a step down, or the smaller step where p is the least number of 53 digits
@@ -174,8 +171,8 @@ step-down m j p k few least h = by (side k j) (side p (2 ^ 52))
     by : (k ≤ j) ⊎ (j < k) → (p ≤ 2 ^ 52) ⊎ (2 ^ 52 < p) → (m * 2 ^ j ≤ (p - 1) * 2 ^ k) ⊎ (p ≡ 2 ^ 52)
     by (inl l) c =
         let t = m * 2 ^ (j - k) in
-        let less : t < p = lt-of-mul-lt-mul-right (2 ^ k) (subst (λ (a : ℕ). a < p * 2 ^ k) (multiple m j k l) h) in
-        inl (subst (λ (a : ℕ). a ≤ (p - 1) * 2 ^ k) (sym (multiple m j k l)) (mul-le-mul-right (2 ^ k) (omega arith)))
+        let less : t < p = lt-of-mul-lt-mul-right (2 ^ k) (subst (λ (a : ℕ). a < p * 2 ^ k) (shifted m j k l) h) in
+        inl (subst (λ (a : ℕ). a ≤ (p - 1) * 2 ^ k) (sym (shifted m j k l)) (mul-le-mul-right (2 ^ k) (omega arith)))
     by (inr l) (inl c) = inr (omega arith)
     by (inr l) (inr c) = inl (le-trans (le-of-lt (small m j k few l)) (mul-le-mul-right (2 ^ k) (omega arith)))
 

@@ -1,4 +1,5 @@
--- An f64 is not rounded: `round` gives back the f64 whose value it is handed, bit for bit; so 1 * x is x. Assumes nothing.
+-- An f64 is not rounded: `round` gives back the f64 whose value it is handed, bit for bit; so 1 * x is x: two statements of specs/Unrounded.
+-- Assumes nothing.
 use mathlib.Core.Path.{_≡_, refl, sym, ap, _∙_, subst}
 use Prim.Native.Nat.{ℕ, zero, suc, _+_, _-_, _*_, _/_, _^_, _<_}
 use native.Mathlib.Nat.{one-mul, mul-assoc, mul-right-comm, mul-lt-mul-of-pos-right, lt-of-mul-lt-mul-right}
@@ -13,7 +14,7 @@ use lib.Ieee.Fits.{down-pos, round-fits}
 use lib.Ieee.Exact.{HasValue, round-exact}
 use lib.Ieee.Nearest.{div-same}
 use lib.Ieee.Scale.{round-same}
-use Rattle.float.specs.Numbers.{one}
+use Rattle.float.specs.Unrounded.{RoundsToItself, OneTimesIsItself}
 use Rattle.float.proofs.Fitting.{fits-says, down-in, place}
 
 -- ---- the value of an f64, rounded
@@ -48,7 +49,7 @@ one-value : (f : Format) (s : Bool) (m n : ℕ) (e d : ℤ) → T (fits f (fin s
     m * up e * down d ≡ n * up d * down e → fin s m e ≡ fin s n d
 one-value f s m n e d p q h = sym (ofBits-toBits f (fin s m e) p) ∙ ap (ofBits f) (same-bits f s m n e d h) ∙ ofBits-toBits f (fin s n d) q
 
-pub itself : (s : Bool) (m : ℕ) (e : ℤ) → T (fits binary64 (fin s m e)) → round binary64 s (m * up e) (down e) ≡ fin s m e
+pub itself : RoundsToItself
 itself s m e f = by (round binary64 s (m * up e) (down e)) (round-fits binary64 s (m * up e) (down e)) (own-value s m e f)
   where
     by : (y : Float) → T (fits binary64 y) → HasValue y s (m * up e) (down e) → y ≡ fin s m e
@@ -71,7 +72,6 @@ times (inf false) f = refl
 times (fin true m e) f = once true m e ∙ itself true m e f
 times (fin false m e) f = once false m e ∙ itself false m e f
 
--- every f64, a NaN, an infinity and either zero among them
-pub one-times : (x : Float) → T (fits binary64 x) → mul binary64 one x ≡ x
+pub one-times : OneTimesIsItself
 unfolding ofBits
 one-times x f = times x f

@@ -32,7 +32,7 @@ four-pos h = subst (λ (a : ℕ). 0 < a) (sym (four-pow h)) (pow-pos (h + h))
 gathered : (m a b : ℕ) → m * 2 ^ a * 2 ^ b ≡ m * 2 ^ (a + b)
 gathered m a b = mul-assoc m (2 ^ a) (2 ^ b) ∙ ap (λ (c : ℕ). m * c) (sym (pow-add 2 a b))
 
-shifted : (m a b : ℕ) → b ≤ a → m * 2 ^ a ≡ m * 2 ^ (a - b) * 2 ^ b
+pub shifted : (m a b : ℕ) → b ≤ a → m * 2 ^ a ≡ m * 2 ^ (a - b) * 2 ^ b
 shifted m a b h = ap (λ (k : ℕ). m * 2 ^ k) (sym (sub-add-cancel h)) ∙ sym (gathered m (a - b) b)
 
 size-exact : (a n : ℕ) → 2 ^ a ≤ n → n < 2 ^ suc a → size n ≡ suc a

@@ -1,22 +1,19 @@
 -- Words, differences and flags that are coded and read back. Assumes nothing.
-use Prim.Native.Nat.{ℕ, zero, suc, _+_, _-_, _*_, _/_, _%_, _≤_, _<_}
+use Prim.Native.Nat.{ℕ, suc, _+_, _-_, _*_, _/_, _%_, _≤_}
 use mathlib.Core.Bool.{Bool, true, false, _&&_}
-use mathlib.Core.List.{List, [], _∷_, _++_, map, append-assoc}
-use mathlib.Core.Path.{_≡_, refl, sym, ap, _∙_}
+use mathlib.Core.List.{List, [], _∷_, _++_, map}
+use mathlib.Core.Path.{_≡_, refl}
 use native.Mathlib.Nat.{div-add-mod'}
 use native.Mathlib.Omega.{arith}
 use borrow.Author.Tests.{lt-ltb, le-ltb, leb-true, eqb-true}
-use lib.Dec.{eqb, leb, ltb, leb·zero}
-use lib.IntN.{ℤ, pos, negsuc, negℤ, natAbs}
+use lib.Dec.{eqb, leb, leb·zero}
+use lib.IntN.{ℤ, pos, negsuc}
 use lib.Signed.{leZ}
 use lib.ListN.{length}
-use Rattle.glyf.specs.Layout.{Taken, taken, cut, next, byte, word, several, signed, unsigned, in16, wordBytes, joined, bit, isOn}
-use Rattle.glyf.specs.Layout.{Size, still, small, large, sizeIf, sizeOf, sameIf, bitsBy, bitsOf, codeBy, codeOf, differenceBy}
+use Rattle.glyf.specs.Layout.{taken, byte, word, several, signed, unsigned, in16, wordBytes, joined, bit, isOn}
+use Rattle.glyf.specs.Layout.{Size, still, small, large, sizeIf, sizeOf, bitsBy, bitsOf, codeBy, codeOf, differenceBy}
 
 -- ---- words and bytes
-
-pub word-back : (v : ℕ) (rest : List ℕ) → word (wordBytes v ++ rest) ≡ taken v rest
-word-back v rest = ap (λ (n : ℕ). taken n rest) (div-add-mod' v 256)
 
 pub words-back : (es rest : List ℕ) → several word (length es) (joined (map wordBytes es) ++ rest) ≡ taken es rest
 unfolding several joined

@@ -1,13 +1,15 @@
 -- Nothing is rounded where a cubic is halved, its third difference taken and its control worked out: the code's numbers are those of
--- specs/Cubic.antt. Assumes nothing.
-use Prim.Native.Nat.{ℕ, _+_, _*_, _^_, _≤_}
-use mathlib.Core.Bool.{Bool, false}
+-- specs/Cubic.antt. So of points of 16 bits every part is exact: `parts-exact`. Assumes nothing.
+use Prim.Native.Nat.{ℕ, zero, suc, _+_, _*_, _^_, _≤_}
+use mathlib.Core.Bool.{Bool, true, false}
+use mathlib.Core.List.{List, [], _∷_}
 use mathlib.Core.Path.{_≡_, refl, ap, _∙_}
-use native.Mathlib.Nat.{one-mul, mul-one, mul-right-comm, le-refl}
+use native.Mathlib.Nat.{one-mul, mul-one, mul-comm, mul-assoc, mul-right-comm, mul-le-mul-left, one-le-pow, pow-succ', le-refl, le-of-suc-le-suc}
 use native.Mathlib.Omega.{arith}
-use lib.Dec.{ltb}
+use lib.Dec.{ltb, lit≤}
 use lib.Pow.{pow-pos}
 use lib.IntN.{ℤ, pos, negsuc, _+ℤ_}
+use lib.ListN.{length}
 use lib.Ieee.{Float, nan, inf, fin, binary64, up, down, lt, ofBits}
 use lib.Ieee.Exact.{HasValue}
 use lib.Ieee.Fits.{down-pos}
@@ -15,8 +17,9 @@ use Rattle.float.specs.Numbers.{half, three}
 use Rattle.float.specs.Float.{absOf}
 use Rattle.halving.specs.Cubic.{Four, Curve, times, mid, mid01, mid12, mid23, mid012, mid123, middle, firstHalf, secondHalf, firstPart, secondPart, thirdDifference, isBent, bent, control}
 use Rattle.float.specs.Dyadic.{Exact}
-use Rattle.halving.specs.Exact.{ExactAxis, ExactCubic, Roomy}
+use Rattle.halving.specs.Exact.{ExactAxis, ExactCubic, Roomy, Reach}
 use Rattle.halving.specs.Steps.{quarter, midOf, p012Of, p123Of, firstOf, secondOf, thirdOf, bentOf, controlOf, firstCubic, secondCubic, bentCubic}
+use Rattle.halving.specs.Statements.{partAlong, cubicAlong, ExactPart, ExactParts, PartsAreExact}
 use Rattle.halving.specs.declared.Axis.{Axis}
 use Rattle.halving.specs.declared.Cubic.{Cubic}
 use Rattle.float.proofs.Dyadic.{size-of, add-exact, sub-exact, mul-exact, finer, looser}
@@ -141,3 +144,64 @@ module _ {a : Cubic} {c : Curve} {e b : ℕ} (room : Roomy e b) (v : ExactCubic 
 
   pub bent-part : bentCubic a ≡ bent e c
   bent-part = rw (bent-exact room (v .x), bent-exact room (v .y))
+
+-- ---- in reach
+
+pub reach-roomy : {left e b : ℕ} → Reach left e b → Roomy (e + 2) (8 * b)
+reach-roomy {left} {e} {b} h =
+    let more : b * 1 ≤ b * 8 ^ left = mul-le-mul-left b (one-le-pow left 8 (lit≤ tt)) in
+    record { low = omega (arith, h .low); few = omega (arith, h .few) }
+
+pub roomy-less : {e b : ℕ} → Roomy (e + 2) (8 * b) → Roomy e b
+roomy-less {e} {b} h = record { low = omega (arith, h .low); few = omega (arith, h .few) }
+
+pub reach-less : {left e b : ℕ} → Reach (suc left) e b → Reach left (e + 3) (8 * b)
+reach-less {left} {e} {b} h = record {
+  low = omega (arith, h .low);
+  few = rw (mul-comm 8 b, mul-assoc b 8 (8 ^ left), ← pow-succ' 8 left) (h .few);
+}
+
+-- five halvings from points of 16 bits
+pub reach-five : Reach 5 0 (2 ^ 15)
+reach-five = record { low = lit≤ tt; few = lit≤ tt }
+
+-- ---- every part
+
+-- one coordinate of it
+module _ {a : Axis} {f : Four} {left e b : ℕ} (reach : Reach left e b) (v : ExactAxis a f e b) where
+  most : b ≤ 2 ^ 30
+  most = let more : b * 1 ≤ b * 8 ^ left = mul-le-mul-left b (one-le-pow left 8 (lit≤ tt)) in omega (arith, reach .few)
+
+  exact-part : ExactPart a f e
+  exact-part =
+      let room = roomy-less (reach-roomy reach) in
+      record {
+        points = record { p0 = looser _ most (v .p0); p1 = looser _ most (v .p1); p2 = looser _ most (v .p2); p3 = looser _ most (v .p3) };
+        third = looser _ (omega (arith, most)) (third-exact room v);
+        over-four = looser _ (omega (arith, most)) (control-exact room v);
+        test = bent-exact room v;
+      }
+
+further : {a : Cubic} {c : Curve} (e n : ℕ) → ExactParts a c (e + 3 + 3 * n) → ExactParts a c (e + 3 * suc n)
+further e n v = let same : e + 3 * suc n ≡ e + 3 + 3 * n = omega arith in rw same v
+
+no-further : {a : Cubic} {c : Curve} (e : ℕ) → ExactParts a c e → ExactParts a c (e + 3 * 0)
+no-further e v = let same : e + 3 * 0 ≡ e = omega arith in rw same v
+
+-- with so many halvings to come at most
+along : (halves : List Bool) (left e b : ℕ) (a : Cubic) (c : Curve) → length halves ≤ left → Reach left e b → ExactCubic a c e b →
+    ExactParts (cubicAlong halves a) (partAlong halves c) (e + 3 * length halves)
+unfolding cubicAlong partAlong
+along [] left e b a c h reach v = no-further e (record { x = exact-part reach (v .x); y = exact-part reach (v .y) })
+along (t ∷ halves) zero e b a c h reach v = absurd (omega arith)
+along (true ∷ halves) (suc left) e b a c h reach v =
+    further e (length halves)
+    (along halves left (e + 3) (8 * b) (firstCubic a) (firstPart c) (le-of-suc-le-suc h) (reach-less reach) (first-part (roomy-less (reach-roomy reach)) v))
+along (false ∷ halves) (suc left) e b a c h reach v =
+    further e (length halves)
+    (along halves left (e + 3) (8 * b) (secondCubic a) (secondPart c) (le-of-suc-le-suc h) (reach-less reach) (second-part (roomy-less (reach-roomy reach)) v))
+
+pub parts-exact : PartsAreExact
+parts-exact halves a c h v =
+    let same : 3 * length halves ≡ 0 + 3 * length halves = omega arith in
+    rw same (along halves 5 0 (2 ^ 15) a c h reach-five v)

@@ -1,11 +1,11 @@
 -- Whole numbers as differences of natural ones, so that an identity of sums of whole numbers is one of natural numbers. Assumes nothing.
-use Prim.Native.Nat.{ℕ, zero, suc, _+_, _-_, _≤_}
+use Prim.Native.Nat.{ℕ, zero, suc, _+_, _-_, _^_, _≤_, _<_}
 use mathlib.Core.Bool.{Bool, true, false, cond}
 use mathlib.Core.Path.{_≡_, refl, sym, ap, _∙_}
 use native.Mathlib.Omega.{arith}
 use borrow.Author.Tests.{ltb-true, ltb-false, lt-ltb, le-ltb}
 use lib.Dec.{ltb}
-use lib.IntN.{ℤ, pos, negsuc, negℤ, natAbs, subℕ, _+ℤ_, _-ℤ_, _*ℤ_, negℤ-negℤ, negℤ-+ℤ, +ℤ-assoc, +ℤ-comm, +ℤ-idl, +ℤ-idr, zero-*ℤ, sucℤ-*ℤ}
+use lib.IntN.{ℤ, pos, negsuc, negℤ, natAbs, subℕ, _+ℤ_, _-ℤ_, negℤ-negℤ, negℤ-+ℤ, +ℤ-assoc, +ℤ-comm, +ℤ-idl, +ℤ-idr, zero-*ℤ, sucℤ-*ℤ}
 use lib.Signed.{mag}
 use Rattle.halving.specs.Cubic.{times}
 
@@ -86,7 +86,7 @@ pub record Sixteen (z : ℤ) : Type 0 where
 abbrev pub gap-from : {z : ℤ} → Sixteen z → Gap z
 gap-from s = record { more = s .up; less = 32768; is = s .is }
 
-pub sixteen : (z : ℤ) → mag z ≤ 32767 → Sixteen z
+pub sixteen : (z : ℤ) → mag z < 2 ^ 15 → Sixteen z
 sixteen (pos n) h = record {
   up = n + 32768;
   most = omega arith;

@@ -13,6 +13,7 @@ use lib.Ieee.Exact.{HasValue}
 use lib.Ieee.Fits.{down-pos}
 use lib.Ieee.Back.{round-whole}
 use Rattle.float.specs.Float.{wholeBy, roundOf}
+use Rattle.float.proofs.Exact.{twice}
 use Rattle.halving.specs.Cubic.{near, nearest, outside}
 use Rattle.float.specs.Dyadic.{signed, Exact}
 use Rattle.halving.specs.Exact.{Roomy, cutTo, Brought}
@@ -35,9 +36,6 @@ div-cross X Y x y hY hy h =
 near-cross : (m n d u : ℕ) → 0 < d → 0 < u → m * u ≡ n * d → (2 * m + d) / (2 * d) ≡ near u n
 near-cross m n d u hd hu h = div-cross (2 * m + d) (2 * d) (2 * n + u) (2 * u) (omega arith) (omega arith) even
   where
-    twice : (a b : ℕ) → a * (2 * b) ≡ 2 * (a * b)
-    twice a b = sym (mul-assoc a 2 b) ∙ ap (λ (k : ℕ). k * b) (mul-comm a 2) ∙ mul-assoc 2 a b
-
     spread : (a b c : ℕ) → (2 * a + b) * (2 * c) ≡ 2 * (2 * (a * c) + b * c)
     spread a b c =
         twice (2 * a + b) c ∙ ap (λ (k : ℕ). 2 * k) (add-mul (2 * a) b c) ∙ ap (λ (k : ℕ). 2 * (k + b * c)) (mul-assoc 2 a c)

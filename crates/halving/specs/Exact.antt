@@ -1,5 +1,5 @@
 -- When the f64s of a cubic are exactly whole numbers of a unit 1 / 2 ^ e. Definitions only.
-use Prim.Native.Nat.{ℕ, _^_, _≤_, min}
+use Prim.Native.Nat.{ℕ, _+_, _*_, _^_, _≤_, min}
 use mathlib.Core.Path.{_≡_}
 use lib.IntN.{ℤ, pos, negsuc}
 use Rattle.float.specs.Dyadic.{Exact}
@@ -23,6 +23,11 @@ pub record ExactCubic (a : D.Cubic) (c : Curve) (e b : ℕ) : Type 0 where
 pub record Roomy (e b : ℕ) : Type 0 where
   pub low : e ≤ 1000
   pub few : b ≤ 2 ^ 40
+
+-- with so many halvings left, they stay within 53 digits
+pub record Reach (left e b : ℕ) : Type 0 where
+  pub low : e + 3 * left ≤ 900
+  pub few : b * 8 ^ left ≤ 2 ^ 30
 
 -- ---- a rounded number in the code: whether it is outside 16 bits, and it brought into 16 bits
 

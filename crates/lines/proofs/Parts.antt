@@ -4,28 +4,18 @@ use mathlib.Core.Bool.{Bool, true, false}
 use mathlib.Core.List.{List, [], _∷_, _++_, append-assoc}
 use mathlib.Core.Path.{_≡_, refl, sym, ap, _∙_}
 use native.Mathlib.Omega.{arith}
-use borrow.Author.Tests.{ltb-true, ltb-false}
+use borrow.Author.Tests.{ltb-false}
 use lib.Dec.{eqb, ltb}
 use lib.ListN.{length, take, drop, length-take, length-append, drop-of-length-le}
 use lib.Seq.{sets, take-all, take-at, drop-append-add, drop-append-le}
 use Rattle.lines.specs.Line.{split, until, upTo}
 use Rattle.lines.specs.Steps.{wordsIf}
 use Rattle.lines.specs.Stream.{allButEmptyLast, endedBy}
-use Rattle.lines.proofs.Texts.{sets-out}
-use Rattle.lines.proofs.Words.{partedAt, parted}
+use Rattle.lines.proofs.Words.{parted}
 use Rattle.lines.proofs.Feeding.{prefix}
 use Rattle.lines.proofs.Theorems.{past-first, rows}
 
 -- ---- the first part
-
-pub no-longer : (stop : ℕ) (l : List ℕ) → length (upTo stop l) ≤ length l
-unfolding upTo
-no-longer stop [] = omega arith
-no-longer stop (b ∷ bs) = by (eqb b stop) (no-longer stop bs)
-  where
-    by : (t : Bool) → length (upTo stop bs) ≤ length bs → length (until t b (upTo stop bs)) ≤ suc (length bs)
-    by true later = omega arith
-    by false later = omega arith
 
 front : (p : List ℕ) {q : List ℕ} {parts later : List (List ℕ)} → later ≡ q ∷ parts → allButEmptyLast (p ∷ later) ≡ p ∷ allButEmptyLast later
 unfolding allButEmptyLast

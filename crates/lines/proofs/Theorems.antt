@@ -1,19 +1,19 @@
--- Theorems on the definitions, which no function needs: numbers are read back from their text, a line cut past its bound stays malformed, the lines
--- of a stream do not depend on where its chunks end, what the rows hold after a line,
--- and what a buffer holds after a text. Assumes nothing.
-use Prim.Native.Nat.{ℕ, zero, suc, _+_, _-_, _*_, _/_, _%_, _≤_, _<_, min}
-use mathlib.Core.Bool.{Bool, true, false, false≢true}
+-- Theorems on the definitions, of the types of specs/Statements: numbers are read back from their text, a line cut past its bound stays malformed, the
+-- lines of a stream do not depend on where its chunks end, what the rows hold after a line, and what a buffer holds after a text. Assumes nothing.
+use Prim.Native.Nat.{ℕ, zero, suc, _+_, _-_, _*_, _/_, _%_, _<_, min}
+use mathlib.Core.Bool.{Bool, true, false}
 use mathlib.Core.List.{List, [], _∷_, _++_}
 use mathlib.Core.Option.{Option, none, some, Option·map}
-use mathlib.Core.Path.{_≡_, refl, sym, ap, _∙_}
+use mathlib.Core.Path.{_≡_, refl, ap, _∙_}
 use native.Mathlib.Omega.{arith}
 use borrow.Author.Tests.{eqb-true, le-leb, lt-leb, leb-true, leb-false, ltb-true, ltb-false}
 use lib.Dec.{eqb, leb, ltb}
-use lib.IntN.{ℤ, pos, negsuc}
+use lib.IntN.{pos, negsuc}
 use lib.ListN.{length, take, drop, set, length-take, length-append}
 use lib.Seq.{sets, sets-eq, take-all, take-nil}
 use Rattle.lines.specs.Line.{before, split, until, upTo, given, isDigit, digitsOn, wholeOf, negative, signed, numberOf, contourOf, parsedOf}
 use Rattle.lines.specs.Text.{Put, lastAfter, decimalIn, decimalOf, signedOf}
+use Rattle.lines.specs.Statements.{DecimalReadBack, NumberReadBack, CutSaysTheSame, onFirst, LineGoesOn, FirstPlacesHold, TextIsWhole}
 use Rattle.lines.proofs.Texts.{sets-out}
 use Rattle.lines.proofs.Reading.{some-digits}
 
@@ -59,7 +59,7 @@ some-text (suc k) n h e = by (ltb n 10) e
     by true e = omega arith
     by false e = omega (arith, simp length-append at e)
 
-pub decimal-back : (n : ℕ) → wholeOf (decimalOf n) ≡ some n
+pub decimal-back : DecimalReadBack
 unfolding decimalOf
 decimal-back n = some-digits (decimalIn (suc n) n) (some-text (suc n) n (omega arith)) ∙ in-steps (suc n) n (omega arith)
 
@@ -80,14 +80,14 @@ minus : (ds : List ℕ) (n : ℕ) → wholeOf ds ≡ some (suc n) → numberOf (
 unfolding numberOf
 minus ds n e = ap (Option·map negative) e
 
-pub signed-back : (z : ℤ) → numberOf (signedOf z) ≡ some z
+pub signed-back : NumberReadBack
 unfolding signedOf
 signed-back (pos n) = unsigned (decimalOf n) n (decimal-back n)
 signed-back (negsuc n) = minus (decimalOf (suc n)) n (decimal-back (suc n))
 
 -- ---- a line that was cut where the buffer ended
 
-pub cut : (line : List ℕ) → parsedOf (take 65537 line) ≡ parsedOf line
+pub cut : CutSaysTheSame
 unfolding parsedOf
 cut line = by (leb (length line) 65536) refl
   where
@@ -101,13 +101,7 @@ cut line = by (leb (length line) 65536) refl
 
 -- ---- chunks
 
--- bytes in front of the first part
-abbrev pub onFirst : List ℕ → List (List ℕ) → List (List ℕ)
-onFirst line [] = []
-onFirst line (p ∷ parts) = (line ++ p) ∷ parts
-
--- a line under way, with no stop in it, goes on with the first part of what comes
-pub carried : (stop : ℕ) (line bytes : List ℕ) → upTo stop line ≡ line → split stop (line ++ bytes) ≡ onFirst line (split stop bytes)
+pub carried : LineGoesOn
 unfolding split upTo
 carried stop [] bytes h = empty (split stop bytes)
   where
@@ -133,16 +127,18 @@ pub past-first : {A : Type 0} (vs : List A) (a : A) (row : List A) (i : ℕ) →
 past-first [] a row i = refl
 past-first (v ∷ vs) a row i = past-first vs a (set row i v) (suc i)
 
--- the first places hold the values, as many as there is room for, and the others what they held
-pub rows : {A : Type 0} (row vs : List A) → sets row 0 vs ≡ take (length row) vs ++ drop (length vs) row
+pub rows : {A : Type 0} → FirstPlacesHold A
 rows {A} row [] = rw (take-nil {A = A} (length row))
 rows [] (v ∷ vs) = sets-out vs [] 1 (omega arith)
 rows {A} (a ∷ row) (v ∷ vs) = past-first vs v row 0 ∙ ap (λ (l : List A). v ∷ l) (rows row vs)
 
 -- ---- texts
 
--- a text that ends below the buffer's length is whole
-pub whole : {out text out′ : List ℕ} {at r : ℕ} → Put out at text out′ r → r < length out → (out′ ≡ take at out ++ text ++ drop (at + length text) out) × (r ≡ at + length text)
-whole {out} {text} {out′} {at} {r} p h =
+pub text-whole : TextIsWhole
+text-whole out text out′ at r p h =
     let next = p .next in
     (p .held ∙ sets-eq text out at (omega arith), omega arith)
+
+-- the same, where the text is known
+pub whole : {out text out′ : List ℕ} {at r : ℕ} → Put out at text out′ r → r < length out → (out′ ≡ take at out ++ text ++ drop (at + length text) out) × (r ≡ at + length text)
+whole p h = text-whole _ _ _ _ _ p h

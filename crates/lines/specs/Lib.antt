@@ -3,3 +3,4 @@ pub mod Text
 pub mod Steps
 pub mod Stream
 pub mod Answer
+pub mod Statements

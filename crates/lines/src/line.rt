@@ -68,7 +68,8 @@ fn lay(row: &mut [i16], n: usize, v: i16)
 
 // Reads a line, which is given without its line end. Points past a row's end are counted and not stored.
 pub fn parse(line: &[u8], xs: &mut [i16], ys: &mut [i16], flags: &mut [u8]) -> Parsed
-    ensures { λ r. ⌜ Leaves (laid (parsedOf (now (line .entry))) 0 (now (xs .entry)) (now (ys .entry)) (now (flags .entry))) r (now (xs .exit)) (now (ys .exit)) (now (flags .exit)) ⌝ }
+    ensures { λ r. ⌜ Leaves (laid (parsedOf (now (line .entry))) 0 (now (xs .entry)) (now (ys .entry)) (now (flags .entry)))
+        r (now (xs .exit)) (now (ys .exit)) (now (flags .exit)) ⌝ }
 {
     if 65536 < line.len() {
         return Parsed::Malformed;

@@ -1,18 +1,18 @@
 -- Run k of a contour of at most 1,024 points starts at a segment of at most 2,048, counted on going round, and has at most so many. Assumes nothing.
-use Prim.Native.Nat.{ℕ, zero, suc, _+_, _-_, _≤_, _<_}
+use Prim.Native.Nat.{ℕ, zero, suc, _+_, _≤_, _<_}
 use native.Mathlib.Omega.{arith}
 use mathlib.Core.Bool.{Bool, true, false, true≢false}
 use mathlib.Core.List.{List, [], _∷_, _++_}
-use mathlib.Core.Path.{_≡_, refl, sym, ap, _∙_}
+use mathlib.Core.Path.{_≡_, sym, ap, _∙_}
 use lib.IntN.{ℤ}
 use lib.ListN.{length, getD}
 use Rattle.corners.specs.Segments.{countOf}
 use Rattle.corners.specs.Corners.{cornersOf}
+use Rattle.corners.specs.Laws.{count-few}
 use Rattle.corners.proofs.Reasons.{no-corner-past}
 use Rattle.runs.specs.Runs.{marksFrom, cornerList, between, stopsIn, stopsOf, runsOf, runAt, isCopied, unlessCopied, numberedRun}
 use Rattle.runs.specs.declared.Run.{Run}
 use Rattle.runs.specs.declared.Run.the-variants.{Between, Nothing}
-use Rattle.runs.proofs.Listing.{count-few}
 
 -- each is at most n
 data Low (n : ℕ) : List ℕ → Type 0 where

@@ -7,8 +7,6 @@ use mathlib.Core.List.{List, [], _∷_, _++_, append-assoc, append-nil}
 use mathlib.Core.Path.{_≡_, refl, sym, ap, _∙_}
 use lib.ListN.{length, getD, take, drop, set, length-set, drop-of-length-le}
 use lib.Seq.{drop-cons, take-suc-set}
-use Rattle.refusals.specs.Refusals.{isOn}
-use Rattle.corners.specs.Segments.{oneMore, countOf}
 use Rattle.runs.specs.Runs.{marksFrom, goingRound, between, runAt, Listed}
 use Rattle.runs.specs.declared.Run.the-variants.{Between, Nothing}
 
@@ -76,16 +74,6 @@ first-low marks {row} {n} l some = omega (arith, marks-low marks 0 0, ap (λ (li
     first-taken (a ∷ row) (suc n) h = refl
 
 -- ---- the stops
-
--- there are no more segments than points
-more-few : (b : Bool) (n m : ℕ) → n ≤ m → oneMore b n ≤ suc m
-more-few true n m h = omega arith
-more-few false n m h = omega arith
-
-pub count-few : (fs : List ℕ) → countOf fs ≤ length fs
-unfolding countOf
-count-few [] = omega arith
-count-few (f ∷ fs) = more-few (isOn f) (countOf fs) (length fs) (count-few fs)
 
 -- the first corner once more, after the others
 round-is : (row : List ℕ) (n segments : ℕ) → 0 < n → 0 < length row → take n row ++ ((getD row 0 0 + segments) ∷ []) ≡ goingRound segments (take n row)

@@ -10,7 +10,8 @@ use Rattle.float.specs.Numbers.{nil, one, two}
 use Rattle.geometry.specs.declared.Quad.{Quad}
 use Rattle.arclen.specs.Arclen.{hundredth, arclenFunctorOf, rk4One}
 use Rattle.samples.specs.declared.Step.{Step}
-use Rattle.samples.specs.Samples.{Sample, sampleAt, Walked, full, at, fillFrom, fillTo, filled, movedTo, stepAt, sweepFrom, lengthAfter, sweepAll, lengthAll, begun, lastOf, nowhere, lastStep, sampled, runOf, finished, thetasOf}
+use Rattle.samples.specs.Samples.{Sample, sampleAt, Walked, full, at, fillFrom, fillTo, filled, movedTo, stepAt, sweepFrom, lengthAfter}
+use Rattle.samples.specs.Samples.{sweepAll, lengthAll, begun, lastOf, nowhere, lastStep, sampled, runOf, finished, thetasOf}
 
 -- two walks, the second with more room: the first is full, or they are one
 data Alike : Walked → Walked → Type 0 where

@@ -187,7 +187,8 @@ pub fn sample_run(
     count: usize,
     row: &mut [[f64; 4]],
 ) -> Thetas
-    ensures row { λ r. ⌜ thetasOf (length (now (row .entry))) (quadsOf (now (xs .entry)) (now (ys .entry)) (now (flags .entry)) first count) ≡ runIn (now (row .exit)) r ⌝ }
+    ensures row { λ r. ⌜ thetasOf (length (now (row .entry))) (quadsOf (now (xs .entry)) (now (ys .entry)) (now (flags .entry)) first count)
+        ≡ runIn (now (row .exit)) r ⌝ }
     ensures places { λ r. ⌜ placesSampled r ≤ length (now (row .entry)) ⌝ }
 {
     let here = Point { x: 0.0, y: 0.0 };

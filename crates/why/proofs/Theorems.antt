@@ -1,32 +1,32 @@
 -- W1's theorems. Assumes nothing.
-use Prim.Native.Nat.{ℕ, zero, suc, _+_, _-_, _^_, _≤_, _<_}
+use Prim.Native.Nat.{ℕ, _<_}
 use mathlib.Core.Bool.{Bool, true, false, _&&_, _||_, false≢true}
-use mathlib.Core.List.{List, [], _∷_}
-use mathlib.Core.Path.{_≡_, refl, sym, ap, _∙_, subst}
+use mathlib.Core.List.{List}
+use mathlib.Core.Path.{_≡_, refl, sym, ap, _∙_}
 use native.Mathlib.Omega.{arith}
 use borrow.Author.Tests.{ltb-true}
 use lib.Dec.{ltb}
 use lib.IntN.{ℤ, pos, natAbs, _-ℤ_}
-use lib.ListN.{length, getD}
-use lib.Ieee.{Float, binary64, sub, ofInt}
+use lib.ListN.{getD}
+use lib.Ieee.{binary64, sub}
 use lib.Ieee.Fits.{sub-fits}
 use Rattle.float.specs.Numbers.{nil}
 use Rattle.float.specs.Float.{closeTo}
 use Rattle.float.proofs.Zeros.{IsZero}
-use Rattle.refusals.specs.Refusals.{isOn, judged}
+use Rattle.refusals.specs.Refusals.{judged}
 use Rattle.refusals.specs.Accepted.{accepted}
 use Rattle.refusals.specs.declared.Judged.{Judged}
 use Rattle.refusals.specs.declared.Judged.the-variants as Judged
-use Rattle.rows.specs.Lent.{inputs}
+use Rattle.rows.specs.Sixteen.{SixteenBits}
 use Rattle.geometry.specs.declared.Point.{Point}
-use Rattle.corners.specs.declared.Seg.{Seg}
-use Rattle.corners.specs.Segments.{coordinate, onAt, oneMore, countOf, nextOf, startOf, step, segIf, segFrom, segAt, leavingOf, arrivingOf}
-use Rattle.corners.specs.Corners.{origin, turnsX, turnsY, zeroTangent, previous, chordAt, stateAt, turnAt, tangentAt, afterFirst, cornersOf}
+use Rattle.corners.specs.Segments.{coordinate, countOf, startOf}
+use Rattle.corners.specs.Laws.{count-few}
+use Rattle.corners.specs.Corners.{turnsX, turnsY, zeroTangent, previous, chordAt, tangentAt}
 use Rattle.corners.proofs.Reasons.{marked-when, twice-when, corner-when, no-corner-past}
-use Rattle.corners.proofs.Whole.{Whole, step-whole, step-small}
+use Rattle.corners.proofs.Whole.{step-whole, step-small, size-at, between, leaving-is, arriving-is}
 use Rattle.why.specs.Tests.{firstState, secondState, tangentBefore, tangentAfter, noneBefore, noneAfter, angled, reasonsOf, someReason}
-use Rattle.why.specs.Entry.{unlessBelow, afterJudging, whyOf, Promise}
-use Rattle.why.specs.Statements.{inFirst, inSecond, Told, Named, NamedWhenMarked, SomeWhenCorner, NoCornerPast, Sixteen, Apart, ZeroHasNoAngle}
+use Rattle.why.specs.Entry.{unlessBelow, afterJudging}
+use Rattle.why.specs.Statements.{inFirst, inSecond, Told, NamedWhenMarked, SomeWhenCorner, NoCornerPast, ZeroHasNoAngle}
 use Rattle.why.specs.declared.Marks.{Marks}
 use Rattle.why.specs.declared.Explained as D
 use Rattle.why.specs.declared.Explained.the-variants as Explained
@@ -38,15 +38,6 @@ pub record Within (xs ys : List ℤ) (fs : List ℕ) (k : ℕ) (r : Marks) : Typ
   pub below : k < countOf fs
   pub few : k < 1024
   pub is : r ≡ reasonsOf xs ys fs (countOf fs) k
-
-count-most : (fs : List ℕ) → countOf fs ≤ length fs
-unfolding countOf
-count-most [] = omega arith
-count-most (f ∷ fs) = by (isOn f) (count-most fs)
-  where
-    by : (b : Bool) → countOf fs ≤ length fs → oneMore b (countOf fs) ≤ suc (length fs)
-    by true h = omega arith
-    by false h = omega arith
 
 refused-no : (n : ℕ) (r : Marks) → Explained.Reasons r ≡ Explained.Refused n → ⊥
 refused-no n r e = let z : _≡_ {A = ℕ} 0 1 = cc in absurd (omega arith)
@@ -64,7 +55,7 @@ within xs ys fs k r p = by (judged xs ys fs) refl (ltb k (countOf fs)) refl (p .
     by Judged.Fine ej true eb e =
         let h = ltb-true k (countOf fs) eb in
         let few = accepted xs ys fs ej .few in
-        let most = count-most fs in
+        let most = count-few fs in
         record { below = h; few = omega arith; is = same-marks r (reasonsOf xs ys fs (countOf fs) k) e }
 
 -- ---- each reason is named exactly when its own test marks that index
@@ -108,43 +99,25 @@ no-corner-beyond xs ys fs k h = no-corner-past xs ys fs 1024 k h
 
 -- ---- a zero tangent leaves the angle test false
 
--- a tangent of a contour is the step between two of its points
-pub data Between (xs ys : List ℤ) : Point → Type 0 where
-  between : (i j : ℕ) → Between xs ys (step (coordinate xs i) (coordinate ys i) (coordinate xs j) (coordinate ys j))
-
-module _ (xs ys : List ℤ) where
-  arriving-if : (b : Bool) (i j l : ℕ) → Between xs ys (arrivingOf (segIf xs ys b i j l))
-  arriving-if true i j l = between i j
-  arriving-if false i j l = between j l
-
-  leaving-if : (b : Bool) (i j l : ℕ) → Between xs ys (leavingOf (segIf xs ys b i j l))
-  leaving-if true i j l = between i j
-  leaving-if false i j l = between i j
-
-  arriving-between : (fs : List ℕ) (k : ℕ) → Between xs ys (arrivingOf (segAt xs ys fs k))
-  unfolding segFrom
-  arriving-between fs k = arriving-if (onAt fs (nextOf (startOf fs k) (length fs))) _ _ _
-
-  leaving-between : (fs : List ℕ) (k : ℕ) → Between xs ys (leavingOf (segAt xs ys fs k))
-  unfolding segFrom
-  leaving-between fs k = leaving-if (onAt fs (nextOf (startOf fs k) (length fs))) _ _ _
-
 both : (a b : Bool) → (a && b) ≡ true → (a ≡ true) × (b ≡ true)
 both true true h = (refl, refl)
 both true false h = absurd (false≢true h)
 both false b h = absurd (false≢true h)
 
-none-of : (xs ys : List ℤ) → Sixteen xs → Sixteen ys → (d : Point) → Between xs ys d → zeroTangent d ≡ true → IsNone d
-none-of xs ys hx hy d (between i j) h =
-    let e = both _ _ h in
-    record { x = close xs hx i j (e .0); y = close ys hy i j (e .1) }
+-- a tangent of a contour is the step between two of its points
+none-of : (xs ys : List ℤ) → SixteenBits xs → SixteenBits ys → (i j : ℕ) {d : Point} → d ≡ between xs ys i j → zeroTangent d ≡ true → IsNone d
+none-of xs ys hx hy i j is h =
+    let e = both _ _ (rw is at h) in
+    rw is (record { x = close xs hx i j (e .0); y = close ys hy i j (e .1) })
   where
-    close : (row : List ℤ) → Sixteen row → (i j : ℕ) → closeTo (sub binary64 (coordinate row j) (coordinate row i)) nil ≡ true → IsZero (sub binary64 (coordinate row j) (coordinate row i))
+    close : (row : List ℤ) → SixteenBits row → (i j : ℕ) → closeTo (sub binary64 (coordinate row j) (coordinate row i)) nil ≡ true → IsZero (sub binary64 (coordinate row j) (coordinate row i))
     close row hr i j c =
         let u = getD row j (pos 0) in
         let v = getD row i (pos 0) in
-        let small = step-small u v (hr j) (hr i) in
-        close-is-zero (sub binary64 (coordinate row j) (coordinate row i)) (natAbs (u -ℤ v)) (sub-fits binary64 _ _) (step-whole u v (hr j) (hr i)) (omega arith) c
+        let hu = size-at row hr j in
+        let hv = size-at row hr i in
+        let small = step-small u v hu hv in
+        close-is-zero (sub binary64 (coordinate row j) (coordinate row i)) (natAbs (u -ℤ v)) (sub-fits binary64 _ _) (step-whole u v hu hv) (omega arith) c
 
 pub zero-has-no-angle : ZeroHasNoAngle
 zero-has-no-angle xs ys fs k r hx hy p =
@@ -154,6 +127,6 @@ zero-has-no-angle xs ys fs k r hx hy p =
     let d1 = tangentAfter xs ys fs m k in
     let angle = ap (λ (r : Marks). r .angle) (w .is) in
     record {
-      before = λ h. angle ∙ none-before d0 d1 (none-of xs ys hx hy d0 (arriving-between xs ys fs (previous m k)) (sym (ap (λ (r : Marks). r .before) (w .is)) ∙ h));
-      after = λ h. angle ∙ none-after d0 d1 (none-of xs ys hx hy d1 (leaving-between xs ys fs k) (sym (ap (λ (r : Marks). r .after) (w .is)) ∙ h));
+      before = λ h. angle ∙ none-before d0 d1 (none-of xs ys hx hy _ _ (arriving-is xs ys fs (startOf fs (previous m k))) (sym (ap (λ (r : Marks). r .before) (w .is)) ∙ h));
+      after = λ h. angle ∙ none-after d0 d1 (none-of xs ys hx hy _ _ (leaving-is xs ys fs (startOf fs k)) (sym (ap (λ (r : Marks). r .after) (w .is)) ∙ h));
     }

@@ -1,11 +1,12 @@
 -- What W1 asks to be proved of the answer, as types; proofs/Theorems has a proof of each. Definitions only.
-use Prim.Native.Nat.{ℕ, _^_, _≤_}
+use Prim.Native.Nat.{ℕ, _≤_}
 use mathlib.Core.Bool.{Bool, true, false}
 use mathlib.Core.List.{List}
 use mathlib.Core.Path.{_≡_}
-use lib.IntN.{ℤ, pos, natAbs}
+use lib.IntN.{ℤ}
 use lib.ListN.{getD}
 use Rattle.rows.specs.Lent.{inputs}
+use Rattle.rows.specs.Sixteen.{SixteenBits}
 use Rattle.geometry.specs.declared.Point.{Point}
 use Rattle.corners.specs.Segments.{countOf}
 use Rattle.corners.specs.Corners.{turnsX, turnsY, none, marked, chordAt, cornersOf}
@@ -56,14 +57,10 @@ SomeWhenCorner = (xs ys : List ℤ) (fs : List ℕ) (k : ℕ) (r : Marks) → To
 abbrev pub NoCornerPast : Type 0
 NoCornerPast = (xs ys : List ℤ) (fs : List ℕ) (k : ℕ) → countOf fs ≤ k → isMarked (cornersOf xs ys fs 1024) k ≡ false
 
--- coordinates of 16 bits, as every row of the entry has them
-abbrev pub Sixteen : List ℤ → Type 0
-Sixteen row = (i : ℕ) → natAbs (getD row i (pos 0)) ≤ 2 ^ 15
-
 -- beside a zero tangent there is no angle: 0 / 0 is above no bound
 pub record Apart (r : Marks) : Type 0 where
   pub before : r .before ≡ true → r .angle ≡ false
   pub after : r .after ≡ true → r .angle ≡ false
 
 abbrev pub ZeroHasNoAngle : Type 0
-ZeroHasNoAngle = (xs ys : List ℤ) (fs : List ℕ) (k : ℕ) (r : Marks) → Sixteen xs → Sixteen ys → Told xs ys fs k r → Apart r
+ZeroHasNoAngle = (xs ys : List ℤ) (fs : List ℕ) (k : ℕ) (r : Marks) → SixteenBits xs → SixteenBits ys → Told xs ys fs k r → Apart r

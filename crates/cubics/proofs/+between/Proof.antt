@@ -6,8 +6,8 @@ use native.Mathlib.Nat.{pos-of-ne-zero}
 use borrow.Author.Tests.{not-true, not-false}
 use Rattle.halving.specs.Cubic.{firstPart, secondPart, bent, startPoint}
 use Rattle.halving.specs.Exact.{ExactCubic}
-use Rattle.halving.proofs.Halving.{first-part, second-part, bent-part}
-use Rattle.cubics.proofs.Making.{makes-more, reach-roomy, roomy-less, reach-next, one-less, none-left, not-halved, halved}
+use Rattle.halving.proofs.Halving.{first-part, second-part, bent-part, reach-roomy, roomy-less}
+use Rattle.cubics.proofs.Making.{makes-more, reach-next, one-less, none-left, not-halved, halved}
 use Prim.Native.Nat.{ℕ, _+_, _*_, _<_}
 use borrow.Fn.Kinds.{In}
 use borrow.Fn.PlainCycle.{Measures, is, falls, and}

@@ -2,8 +2,7 @@
 use Prim.Native.Nat.{_+_, _*_}
 use mathlib.Core.Path.{refl}
 use Rattle.halving.specs.Cubic.{control}
-use Rattle.halving.proofs.Halving.{control-exact}
-use Rattle.cubics.proofs.Making.{roomy-less}
+use Rattle.halving.proofs.Halving.{control-exact, roomy-less}
 use borrow.Author.Needs.{needs}
 use Rattle.cubics.proofs.put_control.Statement.{statement}
 use Rattle.cubics.proofs.put_control.Tie as tie

@@ -3,7 +3,8 @@ use Prim.Native.Nat.{_^_}
 use mathlib.Core.Path.{refl, sym, _∙_}
 use lib.IntN.{pos}
 use Rattle.halving.specs.Cubic.{point}
-use Rattle.cubics.proofs.Making.{makes-none, as-stored, kept, not-outside, outside-point, place-on, place-pair, place-none, place-zero, reach-five}
+use Rattle.cubics.proofs.Making.{makes-none, as-stored, kept, not-outside, outside-point, place-on, place-pair, place-none, place-zero}
+use Rattle.halving.proofs.Halving.{reach-five}
 use borrow.Author.Needs.{needs, sfits-of}
 use Rattle.cubics.proofs.put_place.Statement.{statement}
 use Rattle.cubics.proofs.put_place.Tie as tie

@@ -2,7 +2,8 @@
 use native.Mathlib.Omega.{arith}
 use lib.ListN.{length-set}
 use Rattle.runs.specs.Runs.{stopsOf}
-use Rattle.runs.proofs.Listing.{count-few, goes-round, none-round}
+use Rattle.corners.specs.Laws.{count-few}
+use Rattle.runs.proofs.Listing.{goes-round, none-round}
 use Rattle.runs.proofs.list_stops.Statement.{statement}
 use Rattle.runs.proofs.list_stops.Tie as tie
 

@@ -1,0 +1,80 @@
+-- What a reader should know of segments and corners, as types; a theorem of proofs/ is of each: `read-by-opentype` of Outline, `corner-when` and
+-- `no-corner-past` of Reasons, `bend-test-exact` of Whole. Statements only.
+use Prim.Native.Nat.{ℕ, _+_, _≤_, _<_}
+use mathlib.Core.Bool.{Bool, false, _||_}
+use mathlib.Core.List.{List}
+use mathlib.Core.Path.{_≡_}
+use lib.IntN.{ℤ, pos, _+ℤ_, _-ℤ_, _*ℤ_}
+use lib.ListN.{length, getD}
+use lib.Ieee.{Float, binary64, mul, div, lt, ofInt}
+use Rattle.float.specs.Float.{absOf, rootOf}
+use Rattle.geometry.specs.declared.Point.{Point}
+use Rattle.geometry.specs.Geometry.{normOf}
+use Rattle.rows.specs.Sixteen.{SixteenBits}
+use Rattle.refusals.specs.Refusals.{judged}
+use Rattle.refusals.specs.declared.Judged.the-variants.{Fine}
+use Rattle.corners.specs.declared.Seg.{Seg}
+use Rattle.corners.specs.Segments.{onAt, countOf, nextOf, endIf, endOf, startOf, segAt, leavingOf, arrivingOf}
+use Rattle.corners.specs.OpenType.{points, outline}
+use Rattle.corners.specs.Corners.{origin, bend, fiftieth, zeroBefore, zeroAfter, previous, turnAt, tangentAt, afterFirst, cornersOf}
+
+-- ---- segments
+
+-- the segments that are read are those of the closed outline that OpenType describes: as many, segment k the k-th, and after the last the first again
+pub record ReadByOpenType (xs ys : List ℤ) (fs : List ℕ) : Type 0 where
+  pub count : countOf fs ≡ length (outline (points xs ys fs))
+  pub segment : (k : ℕ) (past : Seg) → k < countOf fs → segAt xs ys fs k ≡ getD (outline (points xs ys fs)) k past
+  pub round : (k : ℕ) → segAt xs ys fs (countOf fs + k) ≡ segAt xs ys fs k
+
+-- of every contour that refusals 1 to 5 let through
+abbrev pub SegmentsAreOpenTypes : Type 0
+SegmentsAreOpenTypes = (xs ys : List ℤ) (fs : List ℕ) → judged xs ys fs ≡ Fine → ReadByOpenType xs ys fs
+
+-- ---- corners
+
+-- In a row of n places an index is marked exactly when one of its tests holds: a sign turn in x or in y, in the first or in the second round; a zero
+-- tangent before or after, or an angle. An index past the segments is none.
+abbrev pub CornerWhenTested : Type 0
+CornerWhenTested =
+    (xs ys : List ℤ) (fs : List ℕ) (n k : ℕ) → k < countOf fs → k < n →
+    getD (cornersOf xs ys fs n) k false ≡ (turnAt xs ys fs origin k || turnAt xs ys fs (afterFirst xs ys fs) k || tangentAt xs ys fs (countOf fs) k)
+
+abbrev pub NoCornerPastSegments : Type 0
+NoCornerPastSegments = (xs ys : List ℤ) (fs : List ℕ) (n k : ℕ) → countOf fs ≤ k → getD (cornersOf xs ys fs n) k false ≡ false
+
+-- ---- the root of the bend test
+
+module _ (xs ys : List ℤ) where
+  -- the root, rounded once, of the exact whole sum of squares, for the step from the point at place i to that at place j
+  abbrev pub exactHypot : ℕ → ℕ → Float
+  exactHypot i j =
+      let dx = getD xs j (pos 0) -ℤ getD xs i (pos 0) in
+      let dy = getD ys j (pos 0) -ℤ getD ys i (pos 0) in
+      rootOf (ofInt binary64 (dx *ℤ dx +ℤ dy *ℤ dy))
+
+  -- A segment from place a leaves by the step to the next place. It arrives by the step to its end, from its control where it has one.
+  abbrev pub leavingHypot : List ℕ → ℕ → Float
+  leavingHypot fs a = exactHypot a (nextOf a (length fs))
+
+  abbrev pub arrivingHypot : List ℕ → ℕ → Float
+  arrivingHypot fs a = let b = nextOf a (length fs) in exactHypot (endIf (onAt fs b) a b) (endOf fs a)
+
+-- |bend / (h0 * h1)| > 0.02
+abbrev pub angleBy : Float → Float → Point → Point → Bool
+angleBy h0 h1 d0 d1 = lt fiftieth (absOf (div binary64 (bend d0 d1) (mul binary64 h0 h1)))
+
+-- the lengths of the tangents of every segment, counted on going round, are exact; so the tests of the tangents are those with exact lengths
+pub record ByExactHypot (xs ys : List ℤ) (fs : List ℕ) : Type 0 where
+  pub leaving : (k : ℕ) → normOf (leavingOf (segAt xs ys fs k)) ≡ leavingHypot xs ys fs (startOf fs k)
+  pub arriving : (k : ℕ) → normOf (arrivingOf (segAt xs ys fs k)) ≡ arrivingHypot xs ys fs (startOf fs k)
+  pub test :
+      (m k : ℕ) →
+      let d0 = arrivingOf (segAt xs ys fs (previous m k)) in
+      let d1 = leavingOf (segAt xs ys fs k) in
+      let h0 = arrivingHypot xs ys fs (startOf fs (previous m k)) in
+      let h1 = leavingHypot xs ys fs (startOf fs k) in
+      tangentAt xs ys fs m k ≡ (zeroBefore d0 d1 || (zeroAfter d0 d1 || angleBy h0 h1 d0 d1))
+
+-- of every contour of 16-bit points
+abbrev pub BendTestIsExact : Type 0
+BendTestIsExact = (xs ys : List ℤ) (fs : List ℕ) → SixteenBits xs → SixteenBits ys → ByExactHypot xs ys fs
