@@ -6,3 +6,4 @@ mod Apart
 mod Again
 pub mod Stated
 pub mod Theorems
+pub mod Values

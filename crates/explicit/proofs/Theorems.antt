@@ -248,4 +248,7 @@ pub outline-kept : OutlineKept
 outline-kept i w n p whole =
     let t = written-told i w n p in
     let points = doubled-written (turned (startOf i) (pointsOf i)) whole in
-    record { points = points; outline = rw (promise-shows p) (outline-written t ∙ points) }
+    record {
+      points = rw (promise-shows p, read-again (formed-points i)) points;
+      outline = rw (promise-shows p) (outline-written t ∙ points);
+    }

@@ -68,7 +68,7 @@ WholeMiddles ps = (k : ℕ) → suc k < length ps → bothOff (getD ps k []) (ge
 
 -- the points that are written, doubled, are the outline of the contour as it came; and so is the outline of what is written
 pub record Kept (i written : Inputs) : Type 0 where
-  pub points : map doubled (explicitOf i) ≡ outlineOf i
+  pub points : map doubled (pointsOf written) ≡ outlineOf i
   pub outline : outlineOf written ≡ outlineOf i
 
 abbrev pub OutlineKept : Type 0
