@@ -1,13 +1,12 @@
 """Cleaning: which points go and why, and that they can be put back. Cubics made quads. Implied points written out."""
 
-import importlib.util
 import random
 import unittest
 
 import fontcrunch
 from fontcrunch import Dropped, Glyph, Settings, Why
 
-from .common import HILL, RECORDED, STILL, TOP, Case, points, zigzag
+from .common import HILL, RECORDED, STILL, Case, model, points, zigzag
 
 
 class Cleaning(Case):
@@ -70,14 +69,6 @@ class Cubics(Case):
         self.assertLess(len(fontcrunch.crunch(quads, RECORDED).points), len(quads))
 
 
-def model():
-    """tools/explicit/model.py, written from document 02 without regard to the port."""
-    spec = importlib.util.spec_from_file_location("explicit_model", TOP / "tools/explicit/model.py")
-    module = importlib.util.module_from_spec(spec)
-    spec.loader.exec_module(module)
-    return module
-
-
 class Explicit(Case):
     def made(self, line):
         return fontcrunch.explicit(points(line))
@@ -93,7 +84,7 @@ class Explicit(Case):
             self.assertEqual(fontcrunch.explicit([(0, 0, 1), (a, b, 0), (b, a, 0)])[2], (middle, middle, True))
 
     def test_against_the_model(self):
-        by_words, some = model(), random.Random(7)
+        by_words, some = model("explicit"), random.Random(7)
         for _ in range(2000):
             contour = [(some.randrange(-40, 40), some.randrange(-40, 40), some.randrange(4)) for _ in range(some.randrange(1, 9))]
             answer, told = by_words.explicit(*zip(*contour), (1024,) * 3)
