@@ -2,8 +2,8 @@
  * fontcrunch.h: crunch TrueType contours from C and C++.
  *
  * A contour comes in, and goes out with fewer quadratic pieces between its corners. The functions below are
- * proved to do what their definitions in crates/fontcrunch, clean, why, cubics, glyfread and glyfwrite say, on
- * every input that the rules on this page allow. They are in libfontcrunch.a, for x86-64 Linux:
+ * proved to do what their definitions in crates/fontcrunch, clean, why, cubics, explicit, glyfread and glyfwrite
+ * say, on every input that the rules on this page allow. They are in libfontcrunch.a, for x86-64 Linux:
  *
  *     tools/library                                writes build/libfontcrunch.a
  *     cc -Iinclude program.c -Lbuild -lfontcrunch
@@ -30,8 +30,9 @@
  * A contour is three rows of equal length, a place for each point: `xs`, `ys`, and `flags`, whose bit 0 is
  * set for an on-curve point. The other bits of a flag are not looked at. Flags that are written are 1 or 0.
  *
- * The first point is on-curve, and an implied point between two off-curve ones is written out. The contour
- * is closed: its last point leads back to its first, by a line if it is on-curve, by a curve if not.
+ * The first point is on-curve, and an implied point between two off-curve ones is written out, as
+ * fontcrunch_explicit does. The contour is closed: its last point leads back to its first, by a line if it is
+ * on-curve, by a curve if not.
  *
  *
  * SETTINGS
@@ -157,7 +158,7 @@ enum {
     FONTCRUNCH_MALFORMED = 19,
     /* GLIF: a point is cubic or not whole, or a contour is open */
     FONTCRUNCH_CUBIC_OR_OPEN = 20,
-    /* GLIF: a contour has no on-curve point */
+    /* GLIF and fontcrunch_explicit: a contour has no on-curve point */
     FONTCRUNCH_NO_ON_CURVE = 21
 };
 
@@ -216,6 +217,11 @@ typedef struct CubicReport {
     uint32_t number; /* of the refusal, or 0 */
     size_t points;   /* points written; 0 where refused */
 } CubicReport;
+
+typedef struct ExplicitReport {
+    uint32_t number; /* of the refusal, or 0 */
+    size_t points;   /* points written; 0 where refused */
+} ExplicitReport;
 
 typedef struct WhyReport {
     uint32_t number;  /* of the refusal, or 0 */
@@ -350,6 +356,27 @@ PutReport fontcrunch_put_back(
  * What is written is refused by none of 1 to 5 by the other functions.
  */
 CubicReport fontcrunch_from_cubics(
+    const int16_t *xs, size_t xs_len,
+    const int16_t *ys, size_t ys_len,
+    const uint8_t *flags, size_t flags_len,
+    int16_t *ox, size_t ox_len,
+    int16_t *oy, size_t oy_len,
+    uint8_t *of, size_t of_len);
+
+/*
+ * Writes out the implied points of a contour as fonts hold it, which the other functions refuse by 4 or 5: from
+ * its first on-curve point round to it, with the middle of two off-curve points that follow each other put
+ * between them, on-curve. Each coordinate of a middle is half of the sum, halves away from zero. The points are
+ * written to the first places of ox, oy and of, in order, flags 1 or 0; no other place is touched.
+ *
+ * Refused by 1 and 2; by 21, no on-curve point; by 3, more than FONTCRUNCH_POINTS_IN points with the implied ones;
+ * last by 9, an output row too short. A refusal writes nothing. Rows of FONTCRUNCH_POINTS_IN places always
+ * suffice. No scratch is needed.
+ *
+ * What is written is refused by none of 1 to 5 by the other functions. A contour that they let through is written
+ * as it came. Where each middle is whole, the outline is the same.
+ */
+ExplicitReport fontcrunch_explicit(
     const int16_t *xs, size_t xs_len,
     const int16_t *ys, size_t ys_len,
     const uint8_t *flags, size_t flags_len,

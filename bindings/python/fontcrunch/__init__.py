@@ -34,10 +34,11 @@ the first corner and after the last is in no run, and is not written, or in clos
 tests make the start of a segment a corner.
 
 Uploads. `clean` drops repeated points and lists each with why, and `put_back` gives the upload's points again. `from_cubics`
-makes quads of cubics.
+makes quads of cubics. `explicit` takes contours as fonts hold them: it turns one to its first on-curve point and writes its
+implied points out.
 
 Glyphs. `read_glyph` and `write_glyph` take OpenType's simple glyph descriptions, bytes, to a Glyph and back;
-`crunch_glyph` crunches one, bytes in and bytes out. `read_glif`, `write_glif` and `crunch_glif` do the same for files of UFO's
+`crunch_glyph` crunches one, bytes in and bytes out, with explicit=True after writing out implied points. `read_glif`, `write_glif` and `crunch_glif` do the same for files of UFO's
 GLIF, whose other bytes stay as they are.
 
 Editions. `editions` crunches a contour at two penalties from one sampling.
@@ -52,7 +53,7 @@ from ._glif import crunch_glif, read_glif, write_glif
 from ._glyphs import Glyph, crunch_glyph, read_glyph, write_glyph
 from ._refusal import Refused
 from ._rows import ANSWER_ROOM, BREAK_ROOM, MOST_PIECES, MOST_POINTS_IN, SAMPLE_ROOM, USUAL_POINT_ROOM, Point
-from ._uploads import Cleaned, Dropped, Why, clean, from_cubics, put_back
+from ._uploads import Cleaned, Dropped, Why, clean, explicit, from_cubics, put_back
 
 __all__ = [
     "ANSWER_ROOM",
@@ -82,6 +83,7 @@ __all__ = [
     "crunch_glif",
     "crunch_glyph",
     "editions",
+    "explicit",
     "from_cubics",
     "put_back",
     "read_glif",

@@ -54,6 +54,7 @@ SIGNATURES: dict[str, tuple[type, ...]] = {
     "clean": (_report(kept=SIZE, dropped=SIZE), *_POINTS, *_POINTS, _DROPS),
     "put_back": (_report(points=SIZE), *_POINTS, _DROPS, *_POINTS),
     "from_cubics": (_report(points=SIZE), *_POINTS, *_POINTS),
+    "explicit": (_report(points=SIZE), *_POINTS, *_POINTS),
     "read_glyph": (_report(contours=SIZE, points=SIZE, instructions=SIZE), _row(U8), *_GLYPH),
     "write_glyph": (_report(bytes=SIZE), *_GLYPH, _row(U8)),
     "crunch_glyph": (_report(bytes=SIZE), _row(U8), *_SETTINGS, _row(U8), *_GLYPH, *_RUN, _ASSEMBLED),

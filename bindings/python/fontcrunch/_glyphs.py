@@ -8,7 +8,11 @@ from typing import Iterable, NamedTuple
 
 from ._contours import Settings
 from ._entries import U8, U16, call
+from ._refusal import Refused
 from ._rows import SCRATCH, USUAL_POINT_ROOM, AnyPoint, assembly_room, point_rows, points_in, points_room, row_of
+from ._uploads import explicit as made_explicit
+
+_MOST_POINTS = 65536
 
 
 @dataclasses.dataclass
@@ -87,7 +91,18 @@ def write_glyph(glyph: Glyph) -> bytes:
     return bytes(out[: report.bytes])
 
 
-def crunch_glyph(data: bytes, settings: Settings = Settings(), *, point_room: int = USUAL_POINT_ROOM) -> bytes:
+def _written_out(data: bytes) -> bytes:
+    """The description with the implied points of each contour written out."""
+    glyph = read_glyph(data)
+    made = Glyph.of_contours(map(made_explicit, glyph.contours()), glyph.instructions)
+    if len(made.points) > _MOST_POINTS:
+        raise Refused(14)
+    return write_glyph(made)
+
+
+def crunch_glyph(
+    data: bytes, settings: Settings = Settings(), *, point_room: int = USUAL_POINT_ROOM, explicit: bool = False
+) -> bytes:
     """Crunches a description, each contour as `crunch` does, and writes the new one. Instructions stay as they stand, though
     the points that they name are others now.
 
@@ -95,7 +110,13 @@ def crunch_glyph(data: bytes, settings: Settings = Settings(), *, point_room: in
     where the penalty is out of range and there is no contour; by 14 where contours lie too far apart to be written, or
     there are more than 65,536 points. The contours share point_room, or as many places as the glyph has points where
     these are more: 9 where it does not suffice.
+
+    Glyphs of fonts are often refused by 4 or 5. Where explicit is true, the description is read, each contour goes through
+    `explicit` in order, and what they became is written and crunched: refused as `read_glyph`, then by the first contour
+    that is refused there, by 21 or 3, then by 14 where the glyph with its implied points cannot be written, then as above.
     """
+    if explicit:
+        data = _written_out(data)
     held = _room(data)
     room = held._replace(points=max(held.points, point_room))
     out = (U8 * _most_bytes(room))()

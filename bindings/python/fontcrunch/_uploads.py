@@ -1,4 +1,4 @@
-"""Uploads cleaned of repeated points, and put back as they were; contours of cubics made quads."""
+"""Uploads cleaned of repeated points, and put back as they were; contours of cubics made quads; implied points written out."""
 
 from __future__ import annotations
 
@@ -72,4 +72,16 @@ def from_cubics(points: Iterable[AnyPoint]) -> list[Point]:
     """
     out = points_room(MOST_POINTS_IN)
     report = call("from_cubics", *point_rows(points), *out)
+    return points_in(out, report.points)
+
+
+def explicit(points: Iterable[AnyPoint]) -> list[Point]:
+    """A contour as fonts hold it from its first on-curve point on, with the implied point between two off-curve ones that
+    follow each other written out: their middle, halves away from zero. None of refusals 1 to 5 is given for the points that
+    come out; a contour that they let through comes out as it is, and where each middle is whole the outline is the same.
+
+    Refused by 2; by 21 where no point is on-curve; by 3 where more than MOST_POINTS_IN points come out.
+    """
+    out = points_room(MOST_POINTS_IN)
+    report = call("explicit", *point_rows(points), *out)
     return points_in(out, report.points)

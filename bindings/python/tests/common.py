@@ -1,5 +1,6 @@
 """Contours that the tests share, and what is recorded in the repository."""
 
+import importlib.util
 import pathlib
 import struct
 import unittest
@@ -56,6 +57,14 @@ def double(digits):
 def digits(value):
     """The 16 hexadecimal digits of a double's bits. All NaNs have one pattern, since which of them comes is not fixed."""
     return struct.pack(">d", float("nan") if value != value else value).hex()
+
+
+def model(folder):
+    """The model of a folder of tools, written from the documents without regard to the port."""
+    spec = importlib.util.spec_from_file_location(f"{folder}_model", TOP / "tools" / folder / "model.py")
+    module = importlib.util.module_from_spec(spec)
+    spec.loader.exec_module(module)
+    return module
 
 
 class Case(unittest.TestCase):

@@ -1,21 +1,12 @@
 """Glyph descriptions: round trips, against the model of tools/glyf, and crunched contour by contour."""
 
-import importlib.util
 import random
 import unittest
 
 import fontcrunch
 from fontcrunch import Glyph, Settings
 
-from .common import HILL, RECORDED, STILL, TOP, Case, points
-
-
-def model():
-    """tools/glyf/model.py, written from OpenType's text without regard to the port."""
-    spec = importlib.util.spec_from_file_location("glyf_model", TOP / "tools/glyf/model.py")
-    module = importlib.util.module_from_spec(spec)
-    spec.loader.exec_module(module)
-    return module
+from .common import HILL, RECORDED, STILL, Case, model, points
 
 
 def made(seed):
@@ -48,7 +39,7 @@ class Bytes(Case):
             self.assertEqual(fontcrunch.read_glyph(fontcrunch.write_glyph(glyph)), glyph)
 
     def test_against_the_model(self):
-        by_text = model()
+        by_text = model("glyf")
         for seed in range(300):
             glyph = made(seed)
             xs, ys, flags = (list(map(int, row)) for row in zip(*glyph.points)) if glyph.points else ([], [], [])

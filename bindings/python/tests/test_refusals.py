@@ -77,6 +77,12 @@ class ByNumber(Case):
         self.assert_refused(3, fontcrunch.from_cubics, zigzag(1025))
         self.assert_refused(17, fontcrunch.from_cubics, points("-32768 0 1 32767 0 0 32767 0 0 -32768 0 1"))
 
+    def test_explicit(self):
+        self.assert_refused(2, fontcrunch.explicit, [])
+        self.assert_refused(21, fontcrunch.explicit, points("0 0 0"))
+        self.assert_refused(21, fontcrunch.explicit, [(0, 0, 0)] * 2000)
+        self.assert_refused(3, fontcrunch.explicit, zigzag(1025))
+
     def test_glyphs(self):
         square = Glyph([3], points("0 0 1 0 300 1 -40 300 0 -32768 -1 1"))
         data = fontcrunch.write_glyph(square)
@@ -106,6 +112,21 @@ class ByNumber(Case):
         self.assert_refused(14, fontcrunch.crunch_glyph, *of("-32767 0 1 0 0 1", "32767 0 1"))
         self.assert_refused(9, fontcrunch.crunch_glyph, *of(STILL), point_room=0)
 
+    def test_glyphs_with_implied_points_written_out(self):
+        def refused(number, contours, **named):
+            data = fontcrunch.write_glyph(Glyph.of_contours(contours))
+            self.assert_refused(number, fontcrunch.crunch_glyph, data, Settings(**named), explicit=True)
+
+        self.assert_refused(15, fontcrunch.crunch_glyph, b"\xff\xff", explicit=True)
+        # the first contour that is refused, before the penalty
+        refused(21, [points("0 0 0 9 9 0"), zigzag(1025)], penalty=0)
+        refused(3, [zigzag(1025), points("0 0 0 9 9 0")], penalty=0)
+        # turned, a difference is outside 16 bits; and more than 65,536 points
+        refused(14, [points("-30000 0 0 0 0 1 30000 0 1")], penalty=0)
+        refused(14, [[(0, 0, 0)] * 512 + [(0, 0, 1)]] * 65, penalty=0)
+        refused(16, [points("0 0 0 9 9 1")], penalty=0)
+        refused(7, [points("0 0 0 9 9 1"), points(BOW)])
+
 
 class ByEntries(Case):
     """Rows of lengths that the functions never lend."""
@@ -119,6 +140,7 @@ class ByEntries(Case):
             self.assertEqual(told("clean", *rows, *out, (U32 * 2 * 0)()).number, 1)
             self.assertEqual(told("put_back", *rows, (U32 * 2 * 0)(), *out).number, 1)
             self.assertEqual(told("from_cubics", *rows, *out).number, 1)
+            self.assertEqual(told("explicit", *rows, *out).number, 1)
 
     def test_9_of_chains_and_cleaning(self):
         hill = point_rows(points(HILL))
@@ -127,6 +149,17 @@ class ByEntries(Case):
             report = told("chain", *hill, 0, 16, 0, 0, *chain, *SCRATCH.rows)
             self.assertEqual((report.number, report.pieces), (0, 2) if places == spans else (9, 0))
         self.assertEqual(told("clean", *hill, *points_room(5), (U32 * 2 * 0)()).number, 9)
+
+    def test_9_of_implied_points_written_out(self):
+        arch = point_rows(points("3 -3 0 8 0 1 0 0 1 0 0 0"))
+        for rooms in ((5, 5, 5), (4, 5, 5), (5, 4, 5), (5, 5, 4), (0, 9, 9)):
+            out = ((I16 * rooms[0])(*[7] * rooms[0]), (I16 * rooms[1])(*[7] * rooms[1]), (U8 * rooms[2])(*[7] * rooms[2]))
+            report = told("explicit", *arch, *out)
+            if min(rooms) == 5:
+                self.assertEqual((report.number, report.points, out[0][:], out[2][:]), (0, 5, [8, 0, 0, 2, 3], [1, 1, 0, 1, 0]))
+            else:
+                self.assertEqual((report.number, report.points), (9, 0))
+                self.assertEqual([set(row) - {7} for row in out], [set()] * 3)
 
     def test_18_before_9(self):
         twice = point_rows(points("0 0 1 0 0 1"))

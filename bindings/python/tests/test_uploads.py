@@ -1,12 +1,12 @@
-"""Cleaning: which points go and why, and that they can be put back. Cubics made quads."""
+"""Cleaning: which points go and why, and that they can be put back. Cubics made quads. Implied points written out."""
 
 import random
 import unittest
 
 import fontcrunch
-from fontcrunch import Dropped, Why
+from fontcrunch import Dropped, Glyph, Settings, Why
 
-from .common import RECORDED, Case, points, zigzag
+from .common import HILL, RECORDED, STILL, Case, model, points, zigzag
 
 
 class Cleaning(Case):
@@ -67,6 +67,49 @@ class Cubics(Case):
     def test_what_comes_out_is_crunched(self):
         quads = fontcrunch.from_cubics(points("0 0 1 0 200 0 300 400 0 600 400 1 600 0 1"))
         self.assertLess(len(fontcrunch.crunch(quads, RECORDED).points), len(quads))
+
+
+class Explicit(Case):
+    def made(self, line):
+        return fontcrunch.explicit(points(line))
+
+    def test_turned_and_written_out(self):
+        self.assertEqual(self.made("0 0 1 1 0 0 2 3 0 9 9 1"), points("0 0 1 1 0 0 2 2 1 2 3 0 9 9 1"))
+        self.assertEqual(self.made("1 0 0 2 3 0 9 9 1 -7 0 0"), points("9 9 1 -7 0 0 -3 0 1 1 0 0 2 2 1 2 3 0"))
+        for line in ("7 9 1", HILL, STILL):
+            self.assertEqual(self.made(line), points(line))
+
+    def test_halves_go_away_from_zero(self):
+        for a, b, middle in ((0, 1, 1), (0, -1, -1), (-3, 0, -2), (32767, 32766, 32767), (-32768, -32767, -32768), (-32768, 32767, -1)):
+            self.assertEqual(fontcrunch.explicit([(0, 0, 1), (a, b, 0), (b, a, 0)])[2], (middle, middle, True))
+
+    def test_against_the_model(self):
+        by_words, some = model("explicit"), random.Random(7)
+        for _ in range(2000):
+            contour = [(some.randrange(-40, 40), some.randrange(-40, 40), some.randrange(4)) for _ in range(some.randrange(1, 9))]
+            answer, told = by_words.explicit(*zip(*contour), (1024,) * 3)
+            if answer == "refused":
+                self.assert_refused(told, fontcrunch.explicit, contour)
+                continue
+            made = fontcrunch.explicit(contour)
+            self.assertEqual(made, told)
+            # let through by 1 to 5, and as it is
+            self.assertTrue(fontcrunch.clean(made).points)
+            self.assertEqual(fontcrunch.explicit(made), made)
+
+    def test_most_points(self):
+        late = [(0, 0, 0)] * 512 + [(0, 0, 1)]
+        self.assertEqual(len(fontcrunch.explicit(late)), 1024)
+        self.assert_refused(3, fontcrunch.explicit, late + [(0, 0, 1)])
+
+    def test_a_glyph_of_a_font(self):
+        contours = [points("0 0 1 100 0 1 0 100 1"), points("10 0 0 10 7 0 0 7 1")]
+        data = fontcrunch.write_glyph(Glyph.of_contours(contours, b"\xb0\x03"))
+        written_out = fontcrunch.write_glyph(Glyph.of_contours(map(fontcrunch.explicit, contours), b"\xb0\x03"))
+        for settings in (RECORDED, Settings(closed=True), Settings(whole_units=True)):
+            self.assert_refused(4, fontcrunch.crunch_glyph, data, settings)
+            crunched = fontcrunch.crunch_glyph(data, settings, explicit=True)
+            self.assertEqual(crunched, fontcrunch.crunch_glyph(written_out, settings))
 
 
 if __name__ == "__main__":

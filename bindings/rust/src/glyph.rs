@@ -13,7 +13,8 @@
 //! # Ok::<(), fontcrunch::Refusal>(())
 //! ```
 //!
-//! [`Cruncher::crunch_glyph`] crunches a description, bytes in and bytes out.
+//! [`Cruncher::crunch_glyph`] crunches a description, bytes in and bytes out;
+//! [`Cruncher::crunch_glyph_explicit`] writes out implied points before.
 //!
 //! Whatever is written reads back the same, and whatever is read can be written again: both are proved. The
 //! bytes may differ from those that were read, since every difference gets its shortest coding, and bits 6
@@ -181,6 +182,17 @@ impl Glyph {
         Ok(out)
     }
 
+    /// The glyph with the implied points of each contour written out. The first contour that is refused decides.
+    fn explicit(&self) -> Result<Glyph, Refusal> {
+        let mut made = Glyph { instructions: self.instructions.clone(), ..Glyph::default() };
+        let contours = self.contours().map(crate::explicit).collect::<Result<Vec<_>, _>>()?;
+        for contour in contours {
+            made.points.extend(contour);
+            made.ends.push(u16::try_from(made.points.len() - 1).map_err(|_| Refusal::TooLarge)?);
+        }
+        Ok(made)
+    }
+
     /// The points of each contour.
     pub fn contours(&self) -> impl Iterator<Item = &[Point]> {
         let starts = std::iter::once(0).chain(self.ends.iter().map(|&end| usize::from(end) + 1));
@@ -231,5 +243,16 @@ impl Cruncher {
         }
         out.truncate(report.bytes);
         Ok(out)
+    }
+
+    /// Crunches a description as fonts hold it, which [`Cruncher::crunch_glyph`] may refuse by 4 or 5: it is read,
+    /// each contour goes through [`explicit`](crate::explicit()) in order, and what they became is written and
+    /// crunched.
+    ///
+    /// Refused, in this order: as [`read`]; by the first contour that is refused there, by 21 or 3;
+    /// [`TooLarge`](Refusal::TooLarge), where the glyph with its implied points cannot be written: a difference is
+    /// outside 16 bits, or there are more than 65,536 points; then as [`Cruncher::crunch_glyph`].
+    pub fn crunch_glyph_explicit(&mut self, bytes: &[u8]) -> Result<Vec<u8>, Refusal> {
+        self.crunch_glyph(&read(bytes)?.explicit()?.to_bytes()?)
     }
 }

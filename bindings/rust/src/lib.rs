@@ -50,10 +50,15 @@
 //!
 //! [`from_cubics`] makes quads of a contour of cubics, whose off-curve points stand in pairs.
 //!
+//! # Fonts
+//!
+//! A font's contours may start off-curve, and leave out on-curve points midway between two off-curve ones.
+//! [`explicit`] turns such a contour to its first on-curve point and writes these points out.
+//!
 //! # Glyph descriptions
 //!
 //! [`glyph`] reads and writes OpenType's simple glyph descriptions; [`Cruncher::crunch_glyph`] crunches one, contour
-//! by contour.
+//! by contour, and [`Cruncher::crunch_glyph_explicit`] with implied points written out first.
 //!
 //! # UFO
 //!
@@ -73,6 +78,7 @@ mod cruncher;
 mod cubics;
 mod editions;
 mod entries;
+mod explicit;
 pub mod glif;
 pub mod glyph;
 mod reasons;
@@ -84,6 +90,7 @@ pub use cleaning::{clean, put_back, Cleaned, Dropped, Why};
 pub use cruncher::{Chain, Crunched, Cruncher, Piece, Point};
 pub use cubics::from_cubics;
 pub use editions::Editions;
+pub use explicit::explicit;
 pub use reasons::Reasons;
 pub use refusal::Refusal;
 pub use rows::{ANSWER_ROOM, BREAK_ROOM, MOST_PIECES, MOST_POINTS_IN, SAMPLE_ROOM, USUAL_POINT_ROOM};

@@ -53,7 +53,7 @@ pub enum Refusal {
     Malformed,
     /// 20: a point is cubic or not whole, or a contour is open; GLIF only.
     CubicOrOpen,
-    /// 21: a contour has no on-curve point; GLIF only.
+    /// 21: a contour has no on-curve point; GLIF, and where implied points are written out.
     NoOnCurve,
     /// A number that this crate has no name for: the library is newer than the crate.
     Other(u32),

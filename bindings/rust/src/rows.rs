@@ -37,7 +37,7 @@ impl Contour {
         rows
     }
 
-    /// Every point: a contour of cubics may have more than [`MOST_POINTS_IN`].
+    /// Every point, where 3 counts the points that come out.
     pub fn whole(points: &[Point]) -> Contour {
         let mut rows = Contour::default();
         rows.extend(points);
@@ -143,7 +143,7 @@ impl GlifRows {
     }
 }
 
-/// The points that come out of cleaning, and of cubics.
+/// The points that come out of cleaning, of cubics, and with implied ones written out.
 pub(crate) struct PointRows {
     pub xs: Box<[i16]>,
     pub ys: Box<[i16]>,

@@ -203,7 +203,8 @@ fn shell(command: &str) -> String {
 
 #[test]
 fn the_examples_of_each_page_are_so() {
-    for tool in ["crunch", "editions", "why", "chain", "check", "glyph", "glif", "clean", "cubic"] {
+    for tool in ["crunch", "editions", "why", "chain", "check", "glyph", "glif", "clean", "cubic", "explicit"]
+    {
         let page = run(&[tool, "--help"], b"");
         assert!(page.status.success());
         let page = text(&page.stdout);
@@ -573,6 +574,23 @@ fn settings_of_glyph_crunch_are_read_as_those_of_crunch() {
 }
 
 #[test]
+fn implied_points_are_written_out_before_a_description_is_crunched() {
+    // a line back to the start, and a contour that starts off-curve
+    let font = "ends=2,5 instr=b003 pts=0 0 1 100 0 1 0 100 1 10 0 0 10 7 0 0 7 1";
+    assert_eq!(crunched_glyph(&["--closed"], font), "refused 4");
+    let explicit = "ends=2,6 instr=b003 pts=0 0 1 100 0 1 0 100 1 0 7 1 10 0 0 10 4 1 10 7 0";
+    for words in [&["--closed"][..], &["--closed", "--penalty=256"], &[]] {
+        let told = crunched_glyph(&[&["--explicit"], words].concat(), font);
+        assert_eq!(told, crunched_glyph(words, explicit));
+        assert!(told.starts_with("ok ends="), "{told}");
+    }
+    // the first contour that is refused decides, by 21 too
+    assert_eq!(crunched_glyph(&["--explicit"], "ends=1,2 instr= pts=0 0 0 1 1 0 0 0 1"), "refused 21");
+    assert_eq!(glyph(&["crunch", "--explicit"], "ffff"), "refused 15");
+    assert_eq!(status(&["glyph", "read", "--explicit"], ""), 2);
+}
+
+#[test]
 fn messages_of_glyph_name_the_line_and_the_reason() {
     let folder = folder("glyphs");
     let file = path(&folder, "hex");
@@ -596,6 +614,29 @@ fn a_line_for_glyph_may_be_longer() {
     let line = "00".repeat(2_097_152);
     let said = run(&["glyph", "read"], format!("{line}\n{line}00\n").as_bytes());
     assert_eq!(text(&said.stdout), "ok ends= instr= pts=\nmalformed\n");
+}
+
+// ---- implied points
+
+#[test]
+fn implied_points_are_written_out() {
+    let lines = "1 0 0 2 3 0 9 9 1 -7 0 0\n0 0 1 5 0 1\n7 9 255\n\n0 0 0 1 1 0\n0 0\n";
+    let told = [
+        "ok 9 9 1 -7 0 0 -3 0 1 1 0 0 2 2 1 2 3 0",
+        "ok 0 0 1 5 0 1",
+        "ok 7 9 1",
+        "refused 2",
+        "refused 21",
+        "malformed",
+    ];
+    assert_eq!(answers_to(&["explicit"], lines), told);
+    assert_eq!(
+        answers_to(&["explicit", "--crunch", "--closed"], "0 0 0 100 0 1 0 100 1\n0 0 0\n")[1],
+        "refused 21"
+    );
+    let crunched = answers_to(&["explicit", "--crunch", "--penalty=16"], "5 0 0 9 9 1 0 0 1\n");
+    assert_eq!(crunched, answers("9 9 1 0 0 1 5 0 0\n"));
+    assert_eq!(status(&["explicit"], "0 0 0\n"), 1);
 }
 
 // ---- chains

@@ -46,6 +46,10 @@ pub enum Tool {
         /// and then crunch
         crunch: bool,
     },
+    Explicit {
+        /// and then crunch
+        crunch: bool,
+    },
     Why {
         /// of the segment whose index comes first on each line
         index: bool,
@@ -60,6 +64,8 @@ pub enum Tool {
     },
     Glyph {
         step: Step,
+        /// with implied points written out before
+        explicit: bool,
     },
     Glif {
         step: Step,
@@ -95,10 +101,11 @@ impl Tool {
             Some("crunch") => Some(Tool::Crunch),
             Some("clean") => Some(Tool::Clean { crunch: false }),
             Some("cubic") => Some(Tool::Cubic { crunch: false }),
+            Some("explicit") => Some(Tool::Explicit { crunch: false }),
             Some("why") => Some(Tool::Why { index: false }),
             Some("chain") => Some(Tool::Chain { run: 0, segments: false }),
             Some("check") => Some(Tool::Check { run: 0 }),
-            Some("glyph") => Some(Tool::Glyph { step: Step::Read }),
+            Some("glyph") => Some(Tool::Glyph { step: Step::Read, explicit: false }),
             Some("glif") => Some(Tool::Glif { step: Step::Read }),
             Some("editions") => Some(Tool::Editions { penalty: 0 }),
             _ => None,
@@ -109,8 +116,8 @@ impl Tool {
     fn works_runs(self) -> bool {
         match self {
             Tool::Crunch | Tool::Chain { .. } | Tool::Check { .. } | Tool::Editions { .. } => true,
-            Tool::Clean { crunch } | Tool::Cubic { crunch } => crunch,
-            Tool::Glyph { step } | Tool::Glif { step } => step == Step::Crunch,
+            Tool::Clean { crunch } | Tool::Cubic { crunch } | Tool::Explicit { crunch } => crunch,
+            Tool::Glyph { step, .. } | Tool::Glif { step } => step == Step::Crunch,
             Tool::Why { .. } => false,
         }
     }
@@ -182,6 +189,8 @@ const NEEDS_STEP: &str = "glyph needs read, write or crunch before any file, as 
 const NEEDS_GLIF: &str =
     "glif needs one file of GLIF, or read, write or crunch before any file of lines, as in: glif A.glif, glif read";
 
+const EXPLICIT_IS_FOR: &str = "--explicit is an option of glyph crunch";
+
 const NEEDS_PENALTIES: &str = "editions needs two penalties: --penalty A --penalty B";
 
 /// What the words so far ask for.
@@ -203,7 +212,7 @@ impl Asked {
             Tool::Chain { run, .. } | Tool::Check { run } if !self.has_needed => {
                 *run = whole_number(&word).ok_or(NEEDS_RUN)? as usize;
             }
-            Tool::Glyph { step } if !self.has_needed => *step = Step::named(&word).ok_or(NEEDS_STEP)?,
+            Tool::Glyph { step, .. } if !self.has_needed => *step = Step::named(&word).ok_or(NEEDS_STEP)?,
             Tool::Glif { step } if !self.has_needed => match Step::named(&word) {
                 Some(named) => *step = named,
                 None => {
@@ -253,6 +262,7 @@ impl Asked {
             ("--svg", value) => self.draw_to(value.or_else(|| words.next())),
             ("--jobs", value) => self.by_jobs(value.or_else(|| words.next())),
             ("--crunch", None) => self.then_crunch(),
+            ("--explicit", None) => self.made_explicit(),
             ("--index", None) => self.by_index(),
             ("--segments", None) => self.with_segments(),
             _ => Err(no_option(word)),
@@ -261,8 +271,16 @@ impl Asked {
 
     fn then_crunch(&mut self) -> Result<(), String> {
         match &mut self.tool {
-            Tool::Clean { crunch } | Tool::Cubic { crunch } => *crunch = true,
-            _ => return Err("--crunch is an option of clean and cubic".to_owned()),
+            Tool::Clean { crunch } | Tool::Cubic { crunch } | Tool::Explicit { crunch } => *crunch = true,
+            _ => return Err("--crunch is an option of clean, cubic and explicit".to_owned()),
+        }
+        Ok(())
+    }
+
+    fn made_explicit(&mut self) -> Result<(), String> {
+        match &mut self.tool {
+            Tool::Glyph { explicit, .. } => *explicit = true,
+            _ => return Err(EXPLICIT_IS_FOR.to_owned()),
         }
         Ok(())
     }
@@ -302,7 +320,7 @@ impl Asked {
         match self.settings.first_given() {
             None => Ok(()),
             Some(name) => Err(format!(
-                "{name} is for crunching: clean --crunch, cubic --crunch, glyph crunch, glif crunch"
+                "{name} is for crunching: clean --crunch, cubic --crunch, explicit --crunch, glyph crunch, glif crunch"
             )),
         }
     }
@@ -325,6 +343,9 @@ impl Asked {
         }
         if !self.tool.works_runs() {
             self.no_settings()?;
+            if let Tool::Glyph { explicit: true, .. } = self.tool {
+                return Err(EXPLICIT_IS_FOR.to_owned());
+            }
         }
         if self.inputs.is_empty() {
             self.inputs.push(Input::Standard);

@@ -16,6 +16,7 @@ pub const LONGEST_LINE: usize = 1 << 22;
 /// The answer to a line: a text, or a refusal.
 pub fn answer(
     step: Step,
+    explicit: bool,
     cruncher: &mut Cruncher,
     line: &[u8],
 ) -> Result<Result<String, Refusal>, Malformed> {
@@ -26,7 +27,8 @@ pub fn answer(
         Step::Read => glyph::read(&of_hex(line).ok_or(Malformed::NoHex)?).map(|glyph| text_of(&glyph)),
         Step::Write => of_line(line).ok_or(Malformed::NoGlyph)?.to_bytes().map(|bytes| hex_of(&bytes)),
         Step::Crunch => {
-            cruncher.crunch_glyph(&of_hex(line).ok_or(Malformed::NoHex)?).map(|bytes| hex_of(&bytes))
+            let crunch = if explicit { Cruncher::crunch_glyph_explicit } else { Cruncher::crunch_glyph };
+            crunch(cruncher, &of_hex(line).ok_or(Malformed::NoHex)?).map(|bytes| hex_of(&bytes))
         }
     };
     Ok(told.map(|text| format!("ok {text}")))

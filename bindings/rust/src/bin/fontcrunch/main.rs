@@ -7,6 +7,7 @@ mod cleaning;
 mod contour_line;
 mod cubics;
 mod editions;
+mod explicit;
 mod glif;
 mod glyph;
 mod inputs;

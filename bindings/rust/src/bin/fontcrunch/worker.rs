@@ -9,6 +9,7 @@ use crate::cleaning;
 use crate::contour_line::{self, Malformed};
 use crate::cubics;
 use crate::editions;
+use crate::explicit;
 use crate::glif;
 use crate::glyph;
 use crate::picture::Sketch;
@@ -81,13 +82,17 @@ impl Worker {
             Tool::Clean { crunch: true } => cleaning::clean_and_crunch(cruncher, contour(line, points)?),
             Tool::Cubic { crunch: false } => cubics::cubic(contour(line, points)?),
             Tool::Cubic { crunch: true } => cubics::cubic_and_crunch(cruncher, contour(line, points)?),
+            Tool::Explicit { crunch: false } => explicit::explicit(contour(line, points)?),
+            Tool::Explicit { crunch: true } => {
+                explicit::explicit_and_crunch(cruncher, contour(line, points)?)
+            }
             Tool::Why { index: false } => reasons::why_all(cruncher, contour(line, points)?),
             Tool::Why { index: true } => {
                 let index = contour_line::parse_indexed(line, points)?;
                 reasons::why_at(cruncher, points, index)
             }
             Tool::Chain { run, segments } => chains::chain(cruncher, contour(line, points)?, run, segments),
-            Tool::Glyph { step } => glyph::answer(step, cruncher, line)?,
+            Tool::Glyph { step, explicit } => glyph::answer(step, explicit, cruncher, line)?,
             Tool::Glif { step } => glif::answer(step, cruncher, line)?,
             Tool::Editions { penalty } => {
                 return Ok(Ok(editions::answer(cruncher, contour(line, points)?, penalty)))

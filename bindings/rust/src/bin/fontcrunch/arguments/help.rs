@@ -51,6 +51,7 @@ fn page(tool: Tool) -> &'static Page {
         Tool::Crunch => &CRUNCH,
         Tool::Clean { .. } => &CLEAN,
         Tool::Cubic { .. } => &CUBIC,
+        Tool::Explicit { .. } => &EXPLICIT,
         Tool::Why { .. } => &WHY,
         Tool::Chain { .. } => &CHAIN,
         Tool::Check { .. } => &CHECK,
@@ -68,11 +69,12 @@ usage: fontcrunch [crunch] [SETTINGS] [--svg PICTURE] [FILE...]
        fontcrunch why [--index] [FILE...]
        fontcrunch chain K [--segments] [SETTINGS] [FILE...]
        fontcrunch check K [SETTINGS] [FILE...]
-       fontcrunch glyph read|write|crunch [SETTINGS] [FILE...]
+       fontcrunch glyph read|write|crunch [--explicit] [SETTINGS] [FILE...]
        fontcrunch glif read|write|crunch [SETTINGS] [FILE...]
        fontcrunch glif [SETTINGS] FILE.glif
        fontcrunch clean [--crunch [SETTINGS]] [FILE...]
        fontcrunch cubic [--crunch [SETTINGS]] [FILE...]
+       fontcrunch explicit [--crunch [SETTINGS]] [FILE...]
 
 crunch         crunches contours, which a first word that names no tool does too; a file
                of a tool's name is ./crunch, ./clean and so on
@@ -84,6 +86,7 @@ glyph          reads, writes and crunches simple glyph descriptions
 glif           reads, writes and crunches files of UFO's GLIF
 clean          drops repeated points
 cubic          makes quads of cubics
+explicit       writes out implied points
 
 fontcrunch TOOL --help tells a tool's lines, and has an example.
 ";
@@ -264,10 +267,12 @@ Reads, writes and crunches simple glyph descriptions, as OpenType's glyf table h
 
 usage: fontcrunch glyph read [FILE...]
        fontcrunch glyph write [FILE...]
-       fontcrunch glyph crunch [SETTINGS] [FILE...]
+       fontcrunch glyph crunch [--explicit] [SETTINGS] [FILE...]
 
 crunch         crunches each contour as fontcrunch crunch does. The first that is
                refused refuses the glyph. Instructions stay as they stand
+--explicit     writes out the implied points of each contour before, as fontcrunch
+               explicit does: without it 4 and 5 refuse most glyphs of fonts
 ",
     settings: true,
     lines: "\
@@ -282,7 +287,7 @@ A line out, for each line in:
                       read: the glyph
   ok HEX              write and crunch: the description
 ",
-    refusals: &[3, 4, 5, 6, 7, 8, 9, 12, 13, 14, 15, 16],
+    refusals: &[3, 4, 5, 6, 7, 8, 9, 12, 13, 14, 15, 16, 21],
     example: "  \
   $ echo 'ends=2 instr= pts=0 0 1 100 0 1 0 100 1' | fontcrunch glyph write
   ok 0001000000000064006400020000313327646464
@@ -372,5 +377,32 @@ A line out, for each line in:
     example: "  \
   $ echo '0 0 1 0 0 0 0 0 0 9 0 1' | fontcrunch cubic
   ok 0 0 1 0 0 0 1 0 1 3 0 0 9 0 1
+",
+};
+
+const EXPLICIT: Page = Page {
+    what: "\
+Writes out implied points: contours as fonts hold them become such as fontcrunch crunch
+takes.
+
+usage: fontcrunch explicit [--crunch [SETTINGS]] [FILE...]
+
+--crunch       writes out implied points, then crunches: lines out are those of
+               fontcrunch crunch
+",
+    settings: true,
+    lines: "\
+A line in is a contour, x y f x y f ..., as for fontcrunch crunch, but it may start
+off-curve, and off-curve points may follow each other.
+
+A line out, for each line in:
+  ok x y f ...        the points from the first on-curve one on; between two off-curve
+                      ones that follow each other stands their middle, on-curve,
+                      halves away from zero
+",
+    refusals: &[2, 3, 6, 7, 8, 9, 16, 21],
+    example: "  \
+  $ echo '10 0 0 10 7 0 0 7 1' | fontcrunch explicit
+  ok 0 7 1 10 0 0 10 4 1 10 7 0
 ",
 };

@@ -54,6 +54,8 @@ fn cleaning_and_cubics() {
     assert_eq!(job(&["clean", "--crunch", "a"]).tool, Tool::Clean { crunch: true });
     assert_eq!(job(&["cubic"]).tool, Tool::Cubic { crunch: false });
     assert_eq!(job(&["cubic", "a", "--crunch"]).tool, Tool::Cubic { crunch: true });
+    assert_eq!(job(&["explicit", "a"]).tool, Tool::Explicit { crunch: false });
+    assert_eq!(job(&["explicit", "--closed", "--crunch"]).tool, Tool::Explicit { crunch: true });
     assert!(fault(&["--crunch"]).contains("option of clean"));
     assert!(fault(&["crunch", "--crunch"]).contains("option of clean"));
     assert!(fault(&["clean", "--svg", "p"]).contains("--svg"));
@@ -131,7 +133,7 @@ fn closed() {
 
 #[test]
 fn settings_are_for_what_crunches() {
-    for tool in ["clean", "cubic", "why"] {
+    for tool in ["clean", "cubic", "explicit", "why"] {
         assert!(fault(&[tool, "--penalty", "16"]).contains("--penalty is for crunching"), "{tool}");
         assert!(fault(&[tool, "--whole-units"]).contains("--whole-units is for crunching"), "{tool}");
         assert!(fault(&[tool, "--closed"]).contains("--closed is for crunching"), "{tool}");
@@ -142,7 +144,8 @@ fn settings_are_for_what_crunches() {
 fn glyphs() {
     for (word, step) in [("read", Step::Read), ("write", Step::Write), ("crunch", Step::Crunch)] {
         let job = job(&["glyph", word, "read", "-"]);
-        assert_eq!((job.tool, job.inputs), (Tool::Glyph { step }, vec![file("read"), Input::Standard]));
+        let tool = Tool::Glyph { step, explicit: false };
+        assert_eq!((job.tool, job.inputs), (tool, vec![file("read"), Input::Standard]));
     }
     for words in [&["glyph"][..], &["glyph", "clean"], &["glyph", "--closed"], &["glyph", "--", "read"]] {
         assert!(fault(words).contains("needs read, write or crunch"), "{words:?}");
@@ -159,6 +162,15 @@ fn glyphs() {
         assert!(fault(&["glyph", word, "--closed"]).contains("--closed is for crunching"));
     }
     assert_eq!(job(&["glyph", "read", "--jobs", "4"]).jobs, 4);
+    let explicit = Tool::Glyph { step: Step::Crunch, explicit: true };
+    for words in
+        [["glyph", "crunch", "--explicit", "--closed"], ["glyph", "--closed", "--explicit", "crunch"]]
+    {
+        assert_eq!(job(&words).tool, explicit);
+    }
+    for words in [&["glyph", "read", "--explicit"][..], &["glif", "crunch", "--explicit"], &["--explicit"]] {
+        assert!(fault(words).contains("--explicit is an option of glyph crunch"), "{words:?}");
+    }
     assert!(fault(&["glyph", "crunch", "--svg", "p"]).contains("--svg"));
 }
 

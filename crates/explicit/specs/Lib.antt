@@ -1,0 +1,4 @@
+pub mod Explicit
+pub mod Entry
+pub mod Determine
+pub mod Statements
