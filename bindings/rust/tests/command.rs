@@ -375,6 +375,37 @@ fn a_letter_is_drawn() {
     }
 }
 
+/// The pictures of the repository stand as they were drawn.
+#[test]
+fn the_letter_of_the_examples_is_drawn_as_it_stands_there() {
+    let top = concat!(env!("CARGO_MANIFEST_DIR"), "/../..");
+    let folder = folder("examples");
+    for (name, words) in [("letter.svg", &[][..]), ("closed.svg", &["--closed"])] {
+        let picture = path(&folder, name);
+        let words = [&["--svg", &picture, "examples/letter.txt"], words].concat();
+        assert!(command().current_dir(top).args(words).output().unwrap().status.success());
+        let drawn = fs::read_to_string(picture).unwrap();
+        assert!(drawn == fs::read_to_string(format!("{top}/examples/{name}")).unwrap(), "{name}");
+    }
+}
+
+/// The colour of runs whose lookups fell.
+const FALLEN: &str = "#8a3ffc";
+
+#[test]
+fn runs_whose_lookups_fell_are_marked() {
+    let svg = drawn_with(&HIGH, "fell", &format!("{FELL}\n{HILL}\n"));
+    assert_eq!(svg.matches(FALLEN).count(), 1);
+    for words in [
+        "3,641 pairs tried, 4 lookups fell in runs marked on the left",
+        "<title>run 0: 4 lookups fell past the samples, 0 of them in the chain that was found</title>",
+    ] {
+        assert_eq!(svg.matches(words).count(), 1, "{words}");
+    }
+    let refused = drawn_with(&HIGH, "fell", &format!("{REFUSED_8}\n{HILL}\n"));
+    assert!(refused.contains("refused 8") && !refused.contains(FALLEN) && !refused.contains(" fell "));
+}
+
 #[test]
 fn every_kind_of_contour_is_drawn() {
     let input: String = CASES.iter().map(|(line, _)| format!("{line}\n")).collect();
