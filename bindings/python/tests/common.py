@@ -43,13 +43,18 @@ def zigzag(count):
     return [Point(i % 512, 40 * (i % 2), True) for i in range(count)]
 
 
-def answer(contour, settings):
-    """What the program and the command answer to a contour."""
+def answer_and_fallen(contour, settings):
+    """What the program and the command answer to a contour with --fallen."""
     try:
         crunched = fontcrunch.crunch(contour, settings)
     except Refused as refused:
-        return f"refused {refused.number}"
-    return f"ok {crunched.pairs} {line_of(crunched.points)}"
+        return f"refused {refused.number} fallen 0"
+    return f"ok {crunched.pairs} {line_of(crunched.points)} fallen {crunched.fallen}"
+
+
+def answer(contour, settings):
+    """What they answer without it."""
+    return answer_and_fallen(contour, settings).rpartition(" fallen ")[0]
 
 
 def double(digits):
