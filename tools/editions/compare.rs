@@ -168,8 +168,8 @@ fn made(r: &mut Random) -> Contour {
     if r.one_in(20) {
         return of_points(&[(0, 0, 1), (432, 433, 0), (410, 410 + d, 1), (-300, 900, 1)]);
     }
-    // on whole units lookups fall past the samples; a long run, so a rare one
-    if r.one_in(200) {
+    // on whole units lookups fall past the samples; a long run, so not a common one
+    if r.one_in(60) {
         return of_points(&[(-1795, 0, 1), (-1794, 0, 1), (143, -4, 0), (-3, 7, 1), (-1795, d - 900, 1)]);
     }
     let n = if r.one_in(400) { 1025 } else { r.below(9) + usize::from(!r.one_in(50)) };
