@@ -64,6 +64,15 @@
  * made with.
  *
  *
+ * LOOKUPS THAT FELL
+ *
+ * A piece is measured at places along it, each held against a sample of the run. Where the run has no sample so
+ * far on, the Rust takes (0, 0), and so do the functions: the piece then gets an odd score. `fallen` in a report
+ * is how many lookups fell so, at or past the end of the samples, a place and a direction counting one each. It
+ * counts every attempt measured in the runs worked, also those of pieces that were not taken and of a contour left
+ * unchanged; of fontcrunch_check, those of the chain that is checked alone. It changes no point, score or pair.
+ *
+ *
  * SCRATCH
  *
  * Five rows are lent to work in. What they hold on entry does not matter, and they are zero throughout on
@@ -188,6 +197,7 @@ typedef struct CrunchReport {
     uint32_t number; /* of the refusal, or 0 */
     size_t points;   /* points written; 0 where refused */
     size_t pairs;    /* pairs of breaks tried, over all runs worked; 0 where refused */
+    size_t fallen;   /* lookups that fell past the samples, over all runs worked; 0 where refused */
 } CrunchReport;
 
 typedef struct ChainReport {
@@ -195,11 +205,13 @@ typedef struct ChainReport {
     size_t pieces;       /* pieces written; 0 where refused, and where the run leaves the contour unchanged */
     size_t pairs;        /* pairs of breaks tried; 0 where refused */
     uint64_t score_bits; /* the score's bits, see fontcrunch_score; 0 (which is 0.0) where there is no piece */
+    size_t fallen;       /* lookups of this run that fell past the samples; 0 where refused */
 } ChainReport;
 
 typedef struct CheckReport {
     uint32_t number;   /* of the refusal, or 0 */
     uint32_t accepted; /* 1: the chain is accepted; 0: it is not, or nothing was checked */
+    size_t fallen;     /* lookups that fell as this chain's pieces were measured; 0 where none was, or refused */
 } CheckReport;
 
 typedef struct CleanReport {
@@ -285,7 +297,8 @@ ChainReport fontcrunch_chain(
  * accepted exactly when its pieces lead from the run's first break to its last, each straight or bent as the
  * rules allow, and its score is the sum that they give at these settings. Chain rows of unequal length, or with
  * no piece, are not accepted, which is no refusal. Answers and links are lent for their lengths alone: the
- * checker refuses by 7 where fontcrunch_chain would.
+ * checker refuses by 7 where fontcrunch_chain would. `fallen` is that of the pieces as they are measured, whatever
+ * their score; 0 where they are not, since rows are of unequal length or pieces do not lead so.
  */
 CheckReport fontcrunch_check(
     const int16_t *xs, size_t xs_len,

@@ -1,9 +1,9 @@
 /*
  * Crunches the contours of a letter: letter FILE, one contour a line, `x y f x y f ...`.
  *
- * For each contour it prints the points that come out at the penalty of the Rust; then, for the first run that
- * has one, the chain of pieces that was found, and what the checker says of it, and of the same chain with another
- * score.
+ * For each contour it prints the points that come out at the penalty of the Rust, and how many lookups fell past
+ * the samples; then, for the first run that has one, the chain of pieces that was found, and what the checker says
+ * of it, and of the same chain with another score.
  */
 #include <inttypes.h>
 #include <math.h>
@@ -101,14 +101,14 @@ static CheckReport check_of_run(size_t k, size_t pieces, double score)
 
 static void print_points(CrunchReport report)
 {
-    printf("%zu points in, %zu out, %zu pairs tried\n", contour.n, report.points, report.pairs);
+    printf("%zu points in, %zu out, %zu pairs tried, %zu lookups fell\n", contour.n, report.points, report.pairs, report.fallen);
     for (size_t i = 0; i < report.points; i++)
         printf("  %6" PRId16 " %6" PRId16 "  %s\n", crunched.xs[i], crunched.ys[i], crunched.flags[i] ? "on" : "off");
 }
 
 static void print_chain(size_t k, ChainReport report)
 {
-    printf("run %zu: score %.17g, %zu pairs tried\n", k, fontcrunch_score(report), report.pairs);
+    printf("run %zu: score %.17g, %zu pairs tried, %zu lookups fell\n", k, fontcrunch_score(report), report.pairs, report.fallen);
     for (size_t i = 0; i < report.pieces; i++)
         printf("  from break %" PRIu32 " to %" PRIu32 ", control %g %g, for segments %" PRIu32 " to %" PRIu32 "\n", chain.starts[i],
                chain.ends[i], chain.cxs[i], chain.cys[i], chain.spans[i][0], chain.spans[i][1]);

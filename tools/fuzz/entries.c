@@ -108,7 +108,7 @@ static void crunch(Row in[3]) {
     CrunchReport r = fontcrunch_crunch(IN(in), penalty(), choice(), choice(), out[0].at, out[0].places, out[1].at, out[1].places, out[2].at,
                                        out[2].places, WORK(work), points.at, points.places);
     demand(r.number <= 9 || r.number == 16, "a number of the documents");
-    demand(r.number == 0 || (r.points == 0 && r.pairs == 0), "a refusal reports no point and no pair");
+    demand(r.number == 0 || (r.points == 0 && r.pairs == 0 && r.fallen == 0), "a refusal reports nothing else");
     for (int i = 0; i < 3; i++) demand(kept(out[i], r.points), "places beyond the points stay");
     cleared(work);
     demand(zero(points), "scratch points are zero");
@@ -121,7 +121,7 @@ static void chain(Row in[3], size_t run) {
     scratch(work);
     ChainReport r = fontcrunch_chain(IN(in), run, cost, whole_units, closed, WORK(rows), rows[4].at, rows[4].places, WORK(work));
     demand(r.number <= 10 || r.number == 16, "a number of the documents");
-    demand(r.number == 0 || (r.pieces == 0 && r.pairs == 0 && r.score_bits == 0), "a refusal reports nothing else");
+    demand(r.number == 0 || (r.pieces == 0 && r.pairs == 0 && r.score_bits == 0 && r.fallen == 0), "a refusal reports nothing else");
     for (int i = 0; i < 5; i++) demand(kept(rows[i], r.pieces), "places beyond the pieces stay");
     for (size_t i = 0; i < 2 * r.pieces; i++) demand(((uint32_t *)rows[4].at)[i] < in[2].places, "a segment of the contour");
     cleared(work);
@@ -135,7 +135,8 @@ static void chain(Row in[3], size_t run) {
         for (size_t k = 0; k < work[i].places * work[i].size; k++) ((uint8_t *)work[i].at)[k] = (uint8_t)any();
     CheckReport v = fontcrunch_check(IN(in), run, cost, whole_units, closed, WORK(given), fontcrunch_score(r), WORK(work));
     demand(r.pieces == 0 || (v.number == 0 && v.accepted == 1), "a chain is accepted");
-    demand(v.number == 0 || v.accepted == 0, "a refusal accepts nothing");
+    demand(v.number == 0 || (v.accepted == 0 && v.fallen == 0), "a refusal accepts nothing and counts nothing");
+    demand(r.pieces == 0 || v.fallen <= r.fallen, "the pieces of a chain are some of the attempts");
     cleared(work);
     done(rows, 5), done(work, 4), done(given, 4);
 }

@@ -33,6 +33,10 @@ the first corner and after the last is in no run, and is not written, or in clos
 `chain` gives the pieces of a run, and `check` judges those of anyone: it measures anew and seeks nothing. `why` tells which
 tests make the start of a segment a corner.
 
+Lookups that fell. A piece is measured against the samples of its run, and some lookups may fall past their end, where the
+Rust which this follows takes (0, 0). `fallen` of Crunched and of Chain counts them, and `verdict`, which is `check` with
+that number, those of its chain alone. They change nothing else.
+
 Uploads. `clean` drops repeated points and lists each with why, and `put_back` gives the upload's points again. `from_cubics`
 makes quads of cubics. `explicit` takes contours as fonts hold them: it turns one to its first on-curve point and writes its
 implied points out.
@@ -47,8 +51,8 @@ Threads. Every function may be called in any thread. The library works outside P
 the same time; answers do not depend on them.
 """
 
-from ._contours import CRATE_PENALTY, DEFAULT_PENALTY, Chain, Crunched, Editions, Piece, Reasons, Settings
-from ._contours import chain, check, crunch, editions, why
+from ._contours import CRATE_PENALTY, DEFAULT_PENALTY, Chain, Crunched, Editions, Piece, Reasons, Settings, Verdict
+from ._contours import chain, check, crunch, editions, verdict, why
 from ._glif import crunch_glif, read_glif, write_glif
 from ._glyphs import Glyph, crunch_glyph, read_glyph, write_glyph
 from ._refusal import Refused
@@ -75,6 +79,7 @@ __all__ = [
     "SAMPLE_ROOM",
     "Settings",
     "USUAL_POINT_ROOM",
+    "Verdict",
     "Why",
     "chain",
     "check",
@@ -88,6 +93,7 @@ __all__ = [
     "put_back",
     "read_glif",
     "read_glyph",
+    "verdict",
     "why",
     "write_glif",
     "write_glyph",

@@ -56,6 +56,10 @@ class Crunched(NamedTuple):
     """Its points, with implied points dropped: in reverse order, or in closed mode in order."""
     pairs: int
     """How many pairs of breaks were tried, over all runs."""
+    fallen: int = 0
+    """How many lookups fell past the samples of their run, a place and a direction counting one each: over every attempt
+    measured in the runs worked, also where the contour is left unchanged. Such an attempt was held against (0, 0), as the Rust
+    which this follows does, and has an odd score."""
 
 
 class Piece(NamedTuple):
@@ -82,6 +86,22 @@ class Chain(NamedTuple):
     """For each piece the first and the last segment of the contour that it replaces, counted from 0: those that hold its start
     break and its end break. In closed mode a run goes round, so that the last may be before the first. The checker does
     not look at it."""
+    fallen: int = 0
+    """How many lookups fell past the samples, over every attempt measured in the run, as in Crunched. The checker does not
+    look at it: `verdict` has the number of the chain's own pieces."""
+
+
+class Verdict(NamedTuple):
+    """What the checker says of a chain. It is true where the chain is accepted."""
+
+    accepted: bool
+    """Whether the chain is valid for its run and has the score that it says."""
+    fallen: int
+    """How many lookups fell past the samples as the chain's own pieces were measured, a place and a direction counting one
+    each; 0 where they were not, since they do not lead from break to break as a chain's do."""
+
+    def __bool__(self) -> bool:
+        return self.accepted
 
 
 class Editions(NamedTuple):
@@ -132,7 +152,12 @@ def crunch(
     out = points_room(point_room)
     assembled = assembly_room(point_room)
     report = call("crunch", *point_rows(points), *settings._words(), *out, *SCRATCH.rows, assembled)
-    return Crunched(points_in(out, report.points), report.pairs)
+    return _crunched(report, out)
+
+
+def _crunched(report: Any, out: Any) -> Crunched:
+    """What is said of a contour, or of one edition, that is not refused."""
+    return Crunched(points_in(out, report.points), report.pairs, report.fallen)
 
 
 def editions(
@@ -151,7 +176,7 @@ def editions(
     report = told("editions", *point_rows(points), *words, samples, breaks, *own_a, *own_b)
 
     def edition(said: Any, out: Any) -> Crunched | Refused:
-        return Refused(said.number) if said.number else Crunched(points_in(out, said.points), said.pairs)
+        return Refused(said.number) if said.number else _crunched(said, out)
 
     return Editions(edition(report.a, out_a), edition(report.b, out_b))
 
@@ -169,7 +194,8 @@ def chain(points: Iterable[AnyPoint], run: int, settings: Settings = Settings())
     n = report.pieces
     pieces = [Piece(a, b, (x, y)) for a, b, x, y in zip(starts[:n], ends[:n], xs[:n], ys[:n])]
     segments = tuple((first, last) for first, last in spans[:n])
-    return Chain(pieces, struct.unpack("d", struct.pack("Q", report.score_bits))[0], report.pairs, segments)
+    score = struct.unpack("d", struct.pack("Q", report.score_bits))[0]
+    return Chain(pieces, score, report.pairs, segments, report.fallen)
 
 
 def check(points: Iterable[AnyPoint], run: int, given: Chain, settings: Settings = Settings()) -> bool:
@@ -179,11 +205,16 @@ def check(points: Iterable[AnyPoint], run: int, given: Chain, settings: Settings
     Controls and score are compared as values: -0.0 equals 0.0, and a NaN equals a NaN. A chain with no piece is never
     accepted.
     """
+    return verdict(points, run, given, settings).accepted
+
+
+def verdict(points: Iterable[AnyPoint], run: int, given: Chain, settings: Settings = Settings()) -> Verdict:
+    """What `check` says, and how many lookups fell past the samples as the chain was measured."""
     starts, ends = (row_of(U32, (piece[k] for piece in given.pieces)) for k in (0, 1))
     xs, ys = (row_of(F64, (piece.control[k] for piece in given.pieces)) for k in (0, 1))
     asked = (*point_rows(points), counted(run, _MOST_SIZE), *settings._words())
     report = call("check", *asked, starts, ends, xs, ys, given.score, *SCRATCH.rows)
-    return bool(report.accepted)
+    return Verdict(bool(report.accepted), report.fallen)
 
 
 def why(points: Iterable[AnyPoint], index: int) -> Reasons:

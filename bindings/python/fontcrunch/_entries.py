@@ -42,14 +42,15 @@ _GLYPH = (_row(U16), *_POINTS, _row(U8))
 _RUN = (_row(F64 * 4), _row(F64 * 6), _row(F64 * 3), _row(U32))
 _ASSEMBLED = _row(I16 * 3)
 _MARKS = _row(SIZE * 3)
-_CRUNCHED = _report(points=SIZE, pairs=SIZE)
+_CRUNCHED = _report(points=SIZE, pairs=SIZE, fallen=SIZE)
+_CHAINED = _report(pieces=SIZE, pairs=SIZE, score_bits=U64, fallen=SIZE)
 _OWN = (_row(F64 * 3), _row(U32), _ASSEMBLED, *_POINTS)
 
 # Each entry of include/fontcrunch.h without `fontcrunch_`: its report, and what it takes in the header's order.
 SIGNATURES: dict[str, tuple[type, ...]] = {
     "crunch": (_CRUNCHED, *_POINTS, *_SETTINGS, *_POINTS, *_RUN, _ASSEMBLED),
-    "chain": (_report(pieces=SIZE, pairs=SIZE, score_bits=U64), *_POINTS, SIZE, *_SETTINGS, *_CHAIN, _SPANS, *_RUN),
-    "check": (_report(accepted=U32), *_POINTS, SIZE, *_SETTINGS, *_CHAIN, F64, *_RUN),
+    "chain": (_CHAINED, *_POINTS, SIZE, *_SETTINGS, *_CHAIN, _SPANS, *_RUN),
+    "check": (_report(accepted=U32, fallen=SIZE), *_POINTS, SIZE, *_SETTINGS, *_CHAIN, F64, *_RUN),
     "why": (_report(reasons=U32), *_POINTS, SIZE),
     "clean": (_report(kept=SIZE, dropped=SIZE), *_POINTS, *_POINTS, _DROPS),
     "put_back": (_report(points=SIZE), *_POINTS, _DROPS, *_POINTS),

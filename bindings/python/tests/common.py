@@ -17,6 +17,8 @@ RECORDED = Settings.of_crate()
 HILL = "0 0 1 0 60 0 40 90 1 80 120 0 130 120 1 200 -40 1"
 # stays in one place, so that no chain is found
 STILL = "5 5 1 5 5 0 5 5 1"
+# on whole units some lookups of run 0 fall past its samples
+FELL = "-1795 0 1 -1794 0 1 143 -4 0 -3 7 1 -1795 -900 1"
 # too many breaks on half units, and not on whole ones
 BOW = "0 0 1 700 0 0 700 700 1"
 
@@ -41,13 +43,18 @@ def zigzag(count):
     return [Point(i % 512, 40 * (i % 2), True) for i in range(count)]
 
 
-def answer(contour, settings):
-    """What the program and the command answer to a contour."""
+def answer_and_fallen(contour, settings):
+    """What the program and the command answer to a contour with --fallen."""
     try:
         crunched = fontcrunch.crunch(contour, settings)
     except Refused as refused:
-        return f"refused {refused.number}"
-    return f"ok {crunched.pairs} {line_of(crunched.points)}"
+        return f"refused {refused.number} fallen 0"
+    return f"ok {crunched.pairs} {line_of(crunched.points)} fallen {crunched.fallen}"
+
+
+def answer(contour, settings):
+    """What they answer without it."""
+    return answer_and_fallen(contour, settings).rpartition(" fallen ")[0]
 
 
 def double(digits):

@@ -5,7 +5,7 @@ import unittest
 import fontcrunch
 from fontcrunch import Crunched, Reasons, Settings
 
-from .common import BOW, HILL, RECORDED, STILL, TOP, Case, answer, letter, points, zigzag
+from .common import BOW, HILL, RECORDED, STILL, TOP, Case, answer, answer_and_fallen, letter, points, zigzag
 
 CLOSED = Settings(penalty=16, closed=True)
 
@@ -59,7 +59,7 @@ def is_contour(line):
 
 
 class Recorded(Case):
-    def assert_recorded(self, contours, answers, settings, least):
+    def assert_recorded(self, contours, answers, settings, least, answer=answer):
         asked = (TOP / contours).read_text().splitlines()
         recorded = (TOP / answers).read_text().splitlines()
         self.assertEqual(len(asked), len(recorded))
@@ -85,6 +85,15 @@ class Recorded(Case):
         }.items():
             with self.subTest(name):
                 self.assert_recorded("tools/words/contours", f"tools/words/{name}", settings, 3)
+
+    def test_lookups_that_fell(self):
+        for name, settings in {
+            "fallen-at-0": Settings(penalty=0),
+            "fallen-at-32": Settings(),
+            "fallen-whole-at-256": Settings(penalty=256, whole_units=True),
+        }.items():
+            with self.subTest(name):
+                self.assert_recorded("tools/words/contours", f"tools/words/{name}", settings, 12, answer_and_fallen)
 
     def test_letter(self):
         counts = [(len(contour), len(fontcrunch.crunch(contour, RECORDED).points)) for contour in letter()]

@@ -4,8 +4,9 @@
 //! usage: chains [--penalty N] [--whole-units] [--closed], by default as the Rust has it.
 //!
 //! Input: a run number and a contour on each line, `K x y f x y f ...`. Output, a line each:
-//! `refused N`, `pairs P unchanged`, or `pairs P score S chain C [START END CX CY]*C`, as the oracle
-//! writes them, and after a chain ` ; ` with the verdicts on it: `yes`, then how many harmless copies
+//! `refused N fallen 0`, `pairs P unchanged fallen L`, or `pairs P score S chain C [START END CX CY]*C
+//! fallen L M`, as the oracle writes them: L lookups fell past the samples in the run, and M as the checker
+//! measured the chain. After a chain ` ; ` with the verdicts on it: `yes`, then how many harmless copies
 //! were accepted and how many damaged ones refused, `harmless A/B damaged A/B`.
 
 use std::env;
@@ -47,13 +48,17 @@ fn point(three: &[i64]) -> Point {
 
 fn answer(cruncher: &mut Cruncher, points: &[Point], run: usize) -> String {
     match cruncher.chain(points, run) {
-        Err(refusal) => format!("refused {}", refusal.number()),
-        Ok(chain) if chain.pieces.is_empty() => format!("pairs {} unchanged", chain.pairs),
+        Err(refusal) => format!("refused {} fallen 0", refusal.number()),
+        Ok(chain) if chain.pieces.is_empty() => {
+            format!("pairs {} unchanged fallen {}", chain.pairs, chain.fallen)
+        }
         Ok(chain) => {
-            let accepted = if cruncher.check(points, run, &chain) == Ok(true) { "yes" } else { "no" };
+            let verdict = cruncher.verdict(points, run, &chain);
+            let accepted = if verdict.is_ok_and(|said| said.accepted) { "yes" } else { "no" };
+            let fallen = format!("{} {}", chain.fallen, verdict.map_or(0, |said| said.fallen));
             let harmless = judged(cruncher, points, run, &harmless(&chain), Ok(true));
             let damaged = judged(cruncher, points, run, &damaged(&chain), Ok(false));
-            format!("{} ; {accepted} harmless {harmless} damaged {damaged}", written(&chain))
+            format!("{} fallen {fallen} ; {accepted} harmless {harmless} damaged {damaged}", written(&chain))
         }
     }
 }

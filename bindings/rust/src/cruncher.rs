@@ -3,7 +3,7 @@
 use std::fmt;
 
 use crate::editions::Second;
-use crate::entries;
+use crate::entries::{self, CrunchReport};
 use crate::reasons::Reasons;
 use crate::refusal::Refusal;
 use crate::rows::{ChainRows, Contour, Output, Scratch};
@@ -40,6 +40,16 @@ pub struct Crunched {
     pub points: Vec<Point>,
     /// How many pairs of breaks were tried, over all runs.
     pub pairs: usize,
+    /// How many lookups fell past the samples of their run, a place and a direction counting one each: over every
+    /// attempt measured in the runs worked, also where the contour is left unchanged. Such an attempt was held
+    /// against (0, 0), as the Rust which this follows does, and has an odd score.
+    pub fallen: usize,
+}
+
+impl Crunched {
+    pub(crate) fn of(report: CrunchReport, output: &Output) -> Crunched {
+        Crunched { points: output.first(report.points), pairs: report.pairs, fallen: report.fallen }
+    }
 }
 
 /// A piece of a chain: a quadratic curve between two breaks.
@@ -67,6 +77,19 @@ pub struct Chain {
     /// not in the next. In closed mode the last may be before the first, going round. The checker does not look
     /// at them, and they may be left empty.
     pub segments: Vec<(u32, u32)>,
+    /// How many lookups fell past the samples, over every attempt measured in the run, as in [`Crunched::fallen`].
+    /// The checker does not look at it: [`Cruncher::verdict`] has the number of the chain's own pieces.
+    pub fallen: usize,
+}
+
+/// What the checker says of a chain.
+#[derive(Clone, Copy, Debug, PartialEq, Eq)]
+pub struct Verdict {
+    /// Whether the chain is valid for its run and has the score that it says.
+    pub accepted: bool,
+    /// How many lookups fell past the samples as the chain's own pieces were measured, a place and a direction
+    /// counting one each; 0 where they were not, since they do not lead from break to break as a chain's do.
+    pub fallen: usize,
 }
 
 /// Crunches contours, one after another, at its settings and in rows that it holds: about a megabyte, allocated
@@ -115,7 +138,7 @@ impl Cruncher {
         self.take_contour(points);
         let report = entries::crunch(&self.contour, self.settings, &mut self.output, &mut self.scratch);
         unless_refused(report.number)?;
-        Ok(Crunched { points: self.output.first(report.points), pairs: report.pairs })
+        Ok(Crunched::of(report, &self.output))
     }
 
     /// The chain that is found for one run of a contour, the only run that is worked.
@@ -131,6 +154,7 @@ impl Cruncher {
             score: f64::from_bits(report.score_bits),
             pairs: report.pairs,
             segments: self.chain.spans[..report.pieces].iter().map(|&[first, last]| (first, last)).collect(),
+            fallen: report.fallen,
         })
     }
 
@@ -140,12 +164,17 @@ impl Cruncher {
     /// Controls and score are compared as values: -0.0 equals 0.0, and a NaN equals a NaN. A chain with no
     /// piece is never accepted.
     pub fn check(&mut self, points: &[Point], run: usize, chain: &Chain) -> Result<bool, Refusal> {
+        self.verdict(points, run, chain).map(|verdict| verdict.accepted)
+    }
+
+    /// What [`Cruncher::check`] says, and how many lookups fell past the samples as the chain was measured.
+    pub fn verdict(&mut self, points: &[Point], run: usize, chain: &Chain) -> Result<Verdict, Refusal> {
         self.take_contour(points);
         self.take_chain(&chain.pieces);
         let report =
             entries::check(&self.contour, run, self.settings, &self.chain, chain.score, &mut self.scratch);
         unless_refused(report.number)?;
-        Ok(report.accepted != 0)
+        Ok(Verdict { accepted: report.accepted != 0, fallen: report.fallen })
     }
 
     /// Why the segment of that index, counted from 0, starts at a corner: all reasons that hold. Where there is

@@ -54,5 +54,5 @@ impl Cruncher {
 
 fn edition(report: CrunchReport, output: &Output) -> Result<Crunched, Refusal> {
     unless_refused(report.number)?;
-    Ok(Crunched { points: output.first(report.points), pairs: report.pairs })
+    Ok(Crunched::of(report, output))
 }

@@ -23,6 +23,7 @@ pub(crate) struct CrunchReport {
     pub number: u32,
     pub points: usize,
     pub pairs: usize,
+    pub fallen: usize,
 }
 
 #[repr(C)]
@@ -32,6 +33,7 @@ pub(crate) struct ChainReport {
     pub pieces: usize,
     pub pairs: usize,
     pub score_bits: u64,
+    pub fallen: usize,
 }
 
 #[repr(C)]
@@ -39,6 +41,7 @@ pub(crate) struct ChainReport {
 pub(crate) struct CheckReport {
     pub number: u32,
     pub accepted: u32,
+    pub fallen: usize,
 }
 
 extern "C" {

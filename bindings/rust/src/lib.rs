@@ -35,6 +35,10 @@
 //! last. Anyone can have a chain checked with [`Cruncher::check`], which measures it anew and seeks nothing, at
 //! the settings that it was made with.
 //!
+//! A piece is measured against the samples of its run, and some lookups may fall past their end, where the Rust
+//! which this follows takes (0, 0). [`Crunched::fallen`], [`Chain::fallen`] and [`Verdict::fallen`] count them; they
+//! change nothing else.
+//!
 //! [`Cruncher::why`] tells which tests make the start of a segment a corner.
 //!
 //! # Two editions
@@ -87,7 +91,7 @@ mod rows;
 mod settings;
 
 pub use cleaning::{clean, put_back, Cleaned, Dropped, Why};
-pub use cruncher::{Chain, Crunched, Cruncher, Piece, Point};
+pub use cruncher::{Chain, Crunched, Cruncher, Piece, Point, Verdict};
 pub use cubics::from_cubics;
 pub use editions::Editions;
 pub use explicit::explicit;

@@ -189,7 +189,7 @@ fn nans_are_equal_whatever_their_bits() {
 fn an_unchanged_run_has_no_chain() {
     let mut cruncher = as_recorded();
     let chain = cruncher.chain(&still(), 0).unwrap();
-    assert_eq!(chain, Chain { pieces: vec![], score: 0.0, pairs: 1, segments: vec![] });
+    assert_eq!(chain, Chain { pieces: vec![], score: 0.0, pairs: 1, segments: vec![], fallen: 0 });
     assert_eq!(chain.score.to_bits(), 0);
     assert_eq!(cruncher.check(&still(), 0, &chain), Ok(false));
 }

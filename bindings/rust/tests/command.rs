@@ -375,6 +375,37 @@ fn a_letter_is_drawn() {
     }
 }
 
+/// The pictures of the repository stand as they were drawn.
+#[test]
+fn the_letter_of_the_examples_is_drawn_as_it_stands_there() {
+    let top = concat!(env!("CARGO_MANIFEST_DIR"), "/../..");
+    let folder = folder("examples");
+    for (name, words) in [("letter.svg", &[][..]), ("closed.svg", &["--closed"])] {
+        let picture = path(&folder, name);
+        let words = [&["--svg", &picture, "examples/letter.txt"], words].concat();
+        assert!(command().current_dir(top).args(words).output().unwrap().status.success());
+        let drawn = fs::read_to_string(picture).unwrap();
+        assert!(drawn == fs::read_to_string(format!("{top}/examples/{name}")).unwrap(), "{name}");
+    }
+}
+
+/// The colour of runs whose lookups fell.
+const FALLEN: &str = "#8a3ffc";
+
+#[test]
+fn runs_whose_lookups_fell_are_marked() {
+    let svg = drawn_with(&HIGH, "fell", &format!("{FELL}\n{HILL}\n"));
+    assert_eq!(svg.matches(FALLEN).count(), 1);
+    for words in [
+        "3,641 pairs tried, 4 lookups fell in runs marked on the left",
+        "<title>run 0: 4 lookups fell past the samples, 0 of them in the chain that was found</title>",
+    ] {
+        assert_eq!(svg.matches(words).count(), 1, "{words}");
+    }
+    let refused = drawn_with(&HIGH, "fell", &format!("{REFUSED_8}\n{HILL}\n"));
+    assert!(refused.contains("refused 8") && !refused.contains(FALLEN) && !refused.contains(" fell "));
+}
+
 #[test]
 fn every_kind_of_contour_is_drawn() {
     let input: String = CASES.iter().map(|(line, _)| format!("{line}\n")).collect();
@@ -717,6 +748,88 @@ fn a_line_for_check_may_be_longer() {
     assert_eq!(answers_to(&["check", "0"], &longer), ["malformed"]);
 }
 
+// ---- lookups that fell
+
+// as the oracle answers, tools/oracle/cases.py
+const FELL: &str = "-1795 0 1 -1794 0 1 143 -4 0 -3 7 1 -1795 -900 1";
+const FELL_CRUNCHED: &str = "ok 3641 -1795 -900 1 -3 7 1 64 2 0 -297 0 1 -1795 0 1";
+const FELL_CHAIN: &str = "ok 3641 404c485cb033ceb5 2 \
+     0 1500 c090580000000000 0000000000000000 1500 1821 4050000000000000 4000000000000000";
+const FELL_BENT: &str = "40891b566b74f7c1 0 1821 4056800000000000 0000000000000000";
+const REFUSED_8: &str = "1858 4 1 1857 4 1 -154 5 0 9 3 1 1858 508 1";
+const HIGH: [&str; 3] = ["--whole-units", "--penalty", "256"];
+
+/// What a tool answers, with and without the number.
+fn answers_and_fallen(tool: &[&str], settings: &[&str], input: &str) -> (Vec<String>, Vec<String>) {
+    let words = [tool, settings].concat();
+    (answers_to(&words, input), answers_to(&[&words[..], &["--fallen"]].concat(), input))
+}
+
+#[test]
+fn each_answer_ends_with_the_lookups_that_fell() {
+    let input = format!("{FELL}\n{REFUSED_8}\n5 5 1 5 5 0 5 5 1\n7 9 1\n0 0 0\n1 2\n");
+    let (plain, told) = answers_and_fallen(&[], &HIGH, &input);
+    let still = "ok 1 5 5 1 5 5 1 5 5 0 5 5 1";
+    assert_eq!(plain, [FELL_CRUNCHED, "refused 8", still, "ok 0 7 9 1", "refused 4", "malformed"]);
+    let falls = [4, 0, 0, 0, 0].map(|number| format!(" fallen {number}")).into_iter().chain([String::new()]);
+    let expected: Vec<String> = plain.iter().zip(falls).map(|(answer, end)| answer.clone() + &end).collect();
+    assert_eq!(told, expected);
+    assert_eq!(answers_to(&["--fallen", "--fallen", "--penalty", "0"], "7 9 1"), ["refused 16 fallen 0"]);
+    // messages and the status stay
+    let words = |fallen: &[&'static str]| [&HIGH[..], fallen].concat();
+    let (without, with) = (run(&words(&[]), input.as_bytes()), run(&words(&["--fallen"]), input.as_bytes()));
+    assert_eq!((without.stderr, without.status), (with.stderr, with.status));
+}
+
+#[test]
+fn every_line_with_the_lookups_that_fell() {
+    let input: String = CASES.iter().map(|(line, _)| format!("{line}\n")).collect();
+    let told = answers_to(&["--penalty", "16", "--fallen"], &input);
+    let expected = CASES.map(|(_, answer)| match answer {
+        "malformed" => answer.to_owned(),
+        _ => format!("{answer} fallen 0"),
+    });
+    assert_eq!(told, expected);
+}
+
+#[test]
+fn a_chain_ends_with_the_lookups_of_its_run() {
+    let input = format!("{FELL}\n5 5 1 5 5 0 5 5 1\n{REFUSED_8}\n\nx\n");
+    let (plain, told) = answers_and_fallen(&["chain", "0"], &HIGH, &input);
+    assert_eq!(plain, [FELL_CHAIN, "unchanged 1", "refused 8", "refused 2", "malformed"]);
+    let ends = [" fallen 4", " fallen 0", " fallen 0", " fallen 0", ""];
+    assert_eq!(told, plain.iter().zip(ends).map(|(answer, end)| answer.clone() + end).collect::<Vec<_>>());
+    let segments = FELL_CHAIN.replace(" 1500 1821", " 0 1 1500 1821") + " 1 1 fallen 4";
+    assert_eq!(answers_and_fallen(&["chain", "0", "--segments"], &HIGH, FELL).1, [segments]);
+    assert_eq!(answers_and_fallen(&["chain", "1"], &HIGH, FELL).1, ["refused 10 fallen 0"]);
+}
+
+#[test]
+fn a_verdict_ends_with_the_lookups_of_its_chain() {
+    let (found, other) = (as_given(FELL_CHAIN), FELL_BENT.replacen("40891b", "40891c", 1));
+    let input = format!(
+        "{FELL} | {found}\n{FELL} | {FELL_BENT}\n{FELL} | {other}\n{FELL} | {short}\n| {found}\n{FELL}\n",
+        short = FELL_BENT.replace("1821", "1820")
+    );
+    let (plain, told) = answers_and_fallen(&["check", "0"], &HIGH, &input);
+    assert_eq!(plain, ["yes", "yes", "no", "no", "refused 2", "malformed"]);
+    let lines =
+        ["yes fallen 0", "yes fallen 2", "no fallen 2", "no fallen 0", "refused 2 fallen 0", "malformed"];
+    assert_eq!(told, lines);
+}
+
+#[test]
+fn each_edition_ends_with_its_own_lookups() {
+    let (plain, told) =
+        answers_and_fallen(&["editions"], &["--penalty=256", "--penalty=32", "--whole-units"], FELL);
+    assert_eq!(plain[0], format!("a {FELL_CRUNCHED}"));
+    assert_eq!(told, [format!("{} fallen 4", plain[0]), format!("{} fallen 8", plain[1])]);
+    let words = ["--penalty=256", "--penalty=257", "--whole-units"];
+    let lines = [&format!("a {FELL_CRUNCHED} fallen 4"), "b refused 16 fallen 0"];
+    assert_eq!(answers_and_fallen(&["editions"], &words, FELL).1, lines);
+    assert_eq!(answers_and_fallen(&["editions"], &words, "x").1, ["malformed"]);
+}
+
 // ---- jobs
 
 #[test]
@@ -729,7 +842,7 @@ fn the_same_for_any_number_of_threads() {
         &["--penalty", "16"][..],
         &["why"],
         &["clean", "--crunch"],
-        &["chain", "0", "--penalty", "16"],
+        &["chain", "0", "--penalty", "16", "--fallen"],
         &["glyph", "read"],
     ] {
         let with = |jobs: &str| {

@@ -6,7 +6,7 @@ use common::{as_recorded, hill, letter, points, still, zigzag};
 use fontcrunch::{Crunched, Point};
 
 fn crunched(contour: &[i16]) -> (Vec<Point>, usize) {
-    let Crunched { points: out, pairs } = as_recorded().crunch(&points(contour)).unwrap();
+    let Crunched { points: out, pairs, .. } = as_recorded().crunch(&points(contour)).unwrap();
     (out, pairs)
 }
 
@@ -59,7 +59,7 @@ fn the_most_points() {
     let mut reversed = zigzag(1024);
     let crunched = as_recorded().crunch(&reversed).unwrap();
     reversed.reverse();
-    assert_eq!(crunched, Crunched { points: reversed, pairs: 0 });
+    assert_eq!(crunched, Crunched { points: reversed, pairs: 0, fallen: 0 });
 }
 
 #[test]

@@ -20,7 +20,7 @@ use Rattle.crunch.specs.Laws.{points-within, forRoom, short, more-room}
 use Rattle.crunch.specs.declared.Crunched as C
 use Rattle.lines.specs.Text.{Put, decimalOf}
 use Rattle.lines.specs.Answer.{okWord, pointText, pointsText}
-use Rattle.answering.specs.Answer.{outcomeText, entryText, answerText}
+use Rattle.answering.specs.Answer.{fallenText, outcomeText, entryText, answerText}
 
 -- ---- the text
 
@@ -34,13 +34,13 @@ front-points s a t b u c (suc k) i hs ht hu =
     (ap (λ (text : List ℕ). pointText (getD s i (pos 0)) (getD t i (pos 0)) (getD u i 0) ++ text) (front-points s a t b u c k (i + 1) (omega arith) (omega arith) (omega arith)))
 
 -- what the entry hands back and leaves, as the text of the outcome
-told : (x : Outcome) (o : Outputs) → entryText (answerOf x) (outputsOf x o) ≡ outcomeText x
-told (refused k) o = refl
-told (crunched ps p) (outputs ox oy of) =
+same-text : (told : Bool) (x : Outcome) (o : Outputs) → entryText told (answerOf x) (outputsOf x o) ≡ outcomeText told x
+same-text told (refused k) o = refl
+same-text told (crunched ps t) (outputs ox oy of) =
     let lx : length (column 0 ps) ≡ length ps = length-map ps (λ (q : List ℤ). number q 0) in
     let ly : length (column 1 ps) ≡ length ps = length-map ps (λ (q : List ℤ). number q 1) in
     let lf : length (flags ps) ≡ length ps = length-map ps flagOf in
-    ap (λ (text : List ℕ). okWord ++ (decimalOf p ++ text))
+    ap (λ (text : List ℕ). (okWord ++ (decimalOf (t .pairs) ++ text)) ++ fallenText told (t .fallen))
     (front-points (column 0 ps) (drop (length (column 0 ps)) ox) (column 1 ps) (drop (length (column 1 ps)) oy) (flags ps) (drop (length (flags ps)) of) (length ps) 0 (omega arith) (omega arith) (omega arith))
 
 -- ---- the rows as they are lent, zero throughout
@@ -68,15 +68,15 @@ module _ (rooms : Rooms) (n : ℕ) (settings : Settings) (xs ys : List ℤ) (fs 
         (omega arith, omega arith, omega arith)
 
     -- what it says is the answer, where the full rooms' outcome is the same
-    pub says : {o : Outputs} {out out' : List ℕ} {at q : ℕ} → crunchOf fullRooms 16384 settings xs ys fs ≡ lentWhole →
-        o ≡ outputsOf lentWhole (lentRows rooms n .outs) → Put out at (entryText r o) out' q → Put out at (answerText settings xs ys fs) out' q
+    pub says : (told : Bool) {o : Outputs} {out out' : List ℕ} {at q : ℕ} → crunchOf fullRooms 16384 settings xs ys fs ≡ lentWhole →
+        o ≡ outputsOf lentWhole (lentRows rooms n .outs) → Put out at (entryText told r o) out' q → Put out at (answerText settings told xs ys fs) out' q
     unfolding answerText
-    says {out = out} {out' = out'} {at = at} {q = q} same rows p =
-        subst (λ (text : List ℕ). Put out at text out' q) ((λ i. entryText (e i) (rows i)) ∙ told lentWhole (lentRows rooms n .outs) ∙ ap outcomeText (sym same)) p
+    says told {out = out} {out' = out'} {at = at} {q = q} same rows p =
+        subst (λ (text : List ℕ). Put out at text out' q) ((λ i. entryText told (e i) (rows i)) ∙ same-text told lentWhole (lentRows rooms n .outs) ∙ ap (outcomeText told) (sym same)) p
 
 for-room : (x : Outcome) → short x ≡ forRoom (report (answerOf x) .number)
 for-room (refused k) = refl
-for-room (crunched ps p) = refl
+for-room (crunched ps t) = refl
 
 -- in a small contour's rows: what is not refused for want of room is the full rooms' outcome
 pub small-same : (settings : Settings) (xs ys : List ℤ) (fs : List ℕ) {r : C.Crunched} {t : Bool} → r ≡ answerOf (lentWhole smallRooms 1024 settings xs ys fs) → t ≡ forRoom (report r .number) → t ≡ false →

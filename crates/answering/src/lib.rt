@@ -8,7 +8,13 @@ ghost use Rattle.contour.specs.Output.{outputs};
 ghost use Rattle.crunch.specs.Entry.{report};
 ghost use Rattle.crunch.specs.Laws.{forRoom};
 ghost use Rattle.lines.specs.Text.{Put};
-ghost use Rattle.answering.specs.Answer.{Roomy, entryText, answerText, lineText, Tries};
+ghost use Rattle.answering.specs.Answer.{Roomy, fallenText, entryText, answerText, lineText, Tries};
+
+// How lines are answered: what the contours are worked with, and whether an answer tells the lookups that fell.
+pub struct Order {
+    pub settings: Settings,
+    pub told: bool,
+}
 
 // What becomes of a contour in rows that may be too short for it.
 pub enum Tried {
@@ -18,14 +24,39 @@ pub enum Tried {
     Short,
 }
 
+// The lookups that fell, where they are asked for.
+fn put_fallen(text: &mut [u8], at: usize, told: bool, n: usize) -> usize
+    ensures { λ r. ⌜ Put (now (text .entry)) at (fallenText told n) (now (text .exit)) r ⌝ }
+{
+    if told {
+        let a = lines::put_all(text, at, b" fallen ");
+        return lines::put_number(text, a, n as u64);
+    }
+    rows::least(at, text.len())
+}
+
 // What the crunch entry says, with the points that it left in the output rows.
-fn put_outcome(text: &mut [u8], at: usize, c: Crunched, ox: &[i16], oy: &[i16], of: &[u8]) -> usize
+fn put_outcome(
+    text: &mut [u8],
+    at: usize,
+    told: bool,
+    c: Crunched,
+    ox: &[i16],
+    oy: &[i16],
+    of: &[u8],
+) -> usize
     requires { ⌜ Roomy (report c .points) (outputs (now ox) (now oy) (now of)) ⌝ }
-    ensures { λ r. ⌜ Put (now (text .entry)) at (entryText c (outputs (now (ox .entry)) (now (oy .entry)) (now (of .entry)))) (now (text .exit)) r ⌝ }
+    ensures { λ r. ⌜ Put (now (text .entry)) at (entryText told c (outputs (now (ox .entry)) (now (oy .entry)) (now (of .entry)))) (now (text .exit)) r ⌝ }
 {
     match c {
-        Crunched::Refused(k) => lines::put_refused(text, at, k),
-        Crunched::Points(n, pairs) => lines::put_ok(text, at, pairs, ox, oy, of, n),
+        Crunched::Refused(k) => {
+            let a = lines::put_refused(text, at, k);
+            put_fallen(text, a, told, 0)
+        }
+        Crunched::Points(n, t) => {
+            let a = lines::put_ok(text, at, t.pairs, ox, oy, of, n);
+            put_fallen(text, a, told, t.fallen)
+        }
     }
 }
 
@@ -37,8 +68,9 @@ fn put_full(
     ys: &[i16],
     flags: &[u8],
     settings: Settings,
+    told: bool,
 ) -> usize
-    ensures { λ r. ⌜ Put (now (text .entry)) at (answerText settings (now (xs .entry)) (now (ys .entry)) (now (flags .entry))) (now (text .exit)) r ⌝ }
+    ensures { λ r. ⌜ Put (now (text .entry)) at (answerText settings told (now (xs .entry)) (now (ys .entry)) (now (flags .entry))) (now (text .exit)) r ⌝ }
 {
     let mut ox = [0i16; 16384];
     let mut oy = [0i16; 16384];
@@ -62,7 +94,7 @@ fn put_full(
         &mut links,
         &mut points,
     );
-    put_outcome(text, at, c, &ox, &oy, &of)
+    put_outcome(text, at, told, c, &ox, &oy, &of)
 }
 
 // Whether a contour was refused for want of room.
@@ -84,8 +116,9 @@ fn put_small(
     ys: &[i16],
     flags: &[u8],
     settings: Settings,
+    told: bool,
 ) -> Tried
-    ensures { λ r. ⌜ Tries (now (text .entry)) at (answerText settings (now (xs .entry)) (now (ys .entry)) (now (flags .entry))) (now (text .exit)) r ⌝ }
+    ensures { λ r. ⌜ Tries (now (text .entry)) at (answerText settings told (now (xs .entry)) (now (ys .entry)) (now (flags .entry))) (now (text .exit)) r ⌝ }
 {
     let mut ox = [0i16; 1024];
     let mut oy = [0i16; 1024];
@@ -112,7 +145,7 @@ fn put_small(
     if is_short(c) {
         return Tried::Short;
     }
-    Tried::Put(put_outcome(text, at, c, &ox, &oy, &of))
+    Tried::Put(put_outcome(text, at, told, c, &ox, &oy, &of))
 }
 
 fn gap(a: i16, b: i16) -> f64 {
@@ -148,20 +181,21 @@ fn put_crunched(
     ys: &[i16],
     flags: &[u8],
     settings: Settings,
+    told: bool,
 ) -> usize
-    ensures { λ r. ⌜ Put (now (text .entry)) at (answerText settings (now (xs .entry)) (now (ys .entry)) (now (flags .entry))) (now (text .exit)) r ⌝ }
+    ensures { λ r. ⌜ Put (now (text .entry)) at (answerText settings told (now (xs .entry)) (now (ys .entry)) (now (flags .entry))) (now (text .exit)) r ⌝ }
 {
     if !is_small(xs, ys) {
-        return put_full(text, at, xs, ys, flags, settings);
+        return put_full(text, at, xs, ys, flags, settings, told);
     }
-    match put_small(text, at, xs, ys, flags, settings) {
+    match put_small(text, at, xs, ys, flags, settings, told) {
         Tried::Put(end) => end,
-        Tried::Short => put_full(text, at, xs, ys, flags, settings),
+        Tried::Short => put_full(text, at, xs, ys, flags, settings, told),
     }
 }
 
-fn put_read(text: &mut [u8], at: usize, line: &[u8], settings: Settings) -> usize
-    ensures { λ r. ⌜ Put (now (text .entry)) at (lineText settings (now (line .entry))) (now (text .exit)) r ⌝ }
+fn put_read(text: &mut [u8], at: usize, line: &[u8], settings: Settings, told: bool) -> usize
+    ensures { λ r. ⌜ Put (now (text .entry)) at (lineText (record { settings = settings; told = told }) (now (line .entry))) (now (text .exit)) r ⌝ }
 {
     let mut xs = [0i16; 1025];
     let mut ys = [0i16; 1025];
@@ -170,15 +204,16 @@ fn put_read(text: &mut [u8], at: usize, line: &[u8], settings: Settings) -> usiz
         Parsed::Malformed => lines::put_all(text, at, b"malformed"),
         Parsed::Points(n) => {
             let m = rows::least(n, 1025);
-            put_crunched(text, at, &xs[..m], &ys[..m], &flags[..m], settings)
+            put_crunched(text, at, &xs[..m], &ys[..m], &flags[..m], settings, told)
         }
     }
 }
 
 // The answer to a line, which is given without its end, and a line end after it.
-pub fn put_answer(text: &mut [u8], at: usize, line: &[u8], settings: Settings) -> usize
-    ensures { λ r. ⌜ Put (now (text .entry)) at (lineText settings (now (line .entry)) ++ (10 ∷ [])) (now (text .exit)) r ⌝ }
+pub fn put_answer(text: &mut [u8], at: usize, line: &[u8], order: Order) -> usize
+    ensures { λ r. ⌜ Put (now (text .entry)) at (lineText order (now (line .entry)) ++ (10 ∷ [])) (now (text .exit)) r ⌝ }
 {
-    let a = put_read(text, at, line, settings);
+    let settings = order.settings;
+    let a = put_read(text, at, line, settings, order.told);
     lines::put_byte(text, a, b'\n')
 }

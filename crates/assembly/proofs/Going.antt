@@ -16,7 +16,9 @@ use Rattle.runs.specs.declared.Run.{Run}
 use Rattle.runs.specs.declared.Run.the-variants.{Between, Nothing}
 use Rattle.rows.specs.Rows.{work}
 use Rattle.settings.specs.declared.Settings.{Settings}
-use Rattle.optimize.specs.Laws.{mostPairs}
+use Rattle.optimize.specs.Fallen.{Upto, nothing-upto, upto-more}
+use Rattle.optimize.specs.Tally.{untried}
+use Rattle.optimize.specs.declared.Tally.{Tally}
 use Rattle.edition.specs.Edition.{Rooms}
 use Rattle.edition.specs.Scratch.{roomsOf}
 use Rattle.contour.specs.Points.{Points, pointAs, startPoint, unchangedIn}
@@ -25,7 +27,7 @@ use Rattle.contour.specs.Laws.{nothing-written}
 use Rattle.contour.specs.declared.Written.{Written}
 use Rattle.assembly.specs.Assembly.{State, refused, ended, going, closedUp, afterRun, crunchAll, crunchBetween, crunchRound, crunchIn, crunchRuns}
 use Rattle.assembly.specs.Laws.{stays-refused, stays-ended}
-use Rattle.assembly.specs.Stands.{Stands, stops, ends, goes, pairsIn, ClosesUp}
+use Rattle.assembly.specs.Stands.{Stands, stops, ends, goes, tallyIn, ClosesUp}
 use Rattle.assembly.specs.declared.Crunching as C
 use Rattle.assembly.specs.declared.Crunching.the-variants as Crunching
 use Rattle.assembly.specs.declared.Progress.{Progress}
@@ -34,33 +36,33 @@ use Rattle.assembly.specs.declared.Progress.{Progress}
 
 pub refused-for : {room : ℕ} {row : Points} {s : State} {r : C.Crunching} {n : ℕ} → Stands room row s r → r ≡ Crunching.Refused n → s ≡ refused n
 refused-for (stops e) h = cc
-refused-for (ends e wrote pairs) h = let z : _≡_ {A = ℕ} 0 1 = cc in absurd (omega arith)
-refused-for (goes e wrote pairs) h = let z : _≡_ {A = ℕ} 0 1 = cc in absurd (omega arith)
+refused-for (ends e wrote counted) h = let z : _≡_ {A = ℕ} 0 1 = cc in absurd (omega arith)
+refused-for (goes e wrote counted) h = let z : _≡_ {A = ℕ} 0 1 = cc in absurd (omega arith)
 
 -- the points written, where the work goes on or has ended
-pub record Standing (room : ℕ) (row : Points) (s : State) (state : Points → ℕ → State) (p : Progress) : Type 0 where
+pub record Standing (room : ℕ) (row : Points) (s : State) (state : Points → Tally → State) (p : Progress) : Type 0 where
   pub points : Points
-  pub is : s ≡ state points (p .pairs)
+  pub is : s ≡ state points (p .tally)
   pub wrote : Wrote row (p .w) (written room points)
 
-standing : {room : ℕ} {row : Points} {p q : Progress} {n : ℕ} (state : Points → ℕ → State) (ps : Points) → Wrote row (q .w) (written room ps) → q .pairs ≡ n → q ≡ p →
-    Standing room row (state ps n) state p
-standing {room} {row} state ps wrote pairs same =
+standing : {room : ℕ} {row : Points} {p q : Progress} {t : Tally} (state : Points → Tally → State) (ps : Points) → Wrote row (q .w) (written room ps) → q .tally ≡ t → q ≡ p →
+    Standing room row (state ps t) state p
+standing {room} {row} state ps wrote counted same =
     record {
       points = ps;
-      is = ap (state ps) (sym pairs ∙ ap (λ (x : Progress). x .pairs) same);
+      is = ap (state ps) (sym counted ∙ ap (λ (x : Progress). x .tally) same);
       wrote = subst (λ (x : Progress). Wrote row (x .w) (written room ps)) same wrote;
     }
 
 pub ended-for : {room : ℕ} {row : Points} {s : State} {r : C.Crunching} {p : Progress} → Stands room row s r → r ≡ Crunching.Ended p → Standing room row s ended p
 ended-for (stops e) h = let z : _≡_ {A = ℕ} 0 1 = cc in absurd (omega arith)
-ended-for (ends {ps = ps} e wrote pairs) h = standing ended ps wrote pairs cc
-ended-for (goes e wrote pairs) h = let z : _≡_ {A = ℕ} 0 1 = cc in absurd (omega arith)
+ended-for (ends {ps = ps} e wrote counted) h = standing ended ps wrote counted cc
+ended-for (goes e wrote counted) h = let z : _≡_ {A = ℕ} 0 1 = cc in absurd (omega arith)
 
 pub going-for : {room : ℕ} {row : Points} {s : State} {r : C.Crunching} {p : Progress} → Stands room row s r → r ≡ Crunching.Going p → Standing room row s going p
 going-for (stops e) h = let z : _≡_ {A = ℕ} 0 1 = cc in absurd (omega arith)
-going-for (ends e wrote pairs) h = let z : _≡_ {A = ℕ} 0 1 = cc in absurd (omega arith)
-going-for (goes {ps = ps} e wrote pairs) h = standing going ps wrote pairs cc
+going-for (ends e wrote counted) h = let z : _≡_ {A = ℕ} 0 1 = cc in absurd (omega arith)
+going-for (goes {ps = ps} e wrote counted) h = standing going ps wrote counted cc
 
 -- ---- the loop, from the rows' contents at its start to those of now
 
@@ -75,13 +77,13 @@ module _ (xs ys : List ℤ) (fs corners : List ℕ) (settings : Settings) (s₀ 
   unfolding crunchAll
   none-left s e = rw e refl
 
-  one-more : {rs rest : List Span} (r : Span) (ps : Points) (n : ℕ) → rs ≡ r ∷ rest → along rs (going ps n) ≡ along rest (afterRun rooms settings xs ys fs r ps n)
+  one-more : {rs rest : List Span} (r : Span) (ps : Points) (t : Tally) → rs ≡ r ∷ rest → along rs (going ps t) ≡ along rest (afterRun rooms settings xs ys fs r ps t)
   unfolding crunchAll
-  one-more r ps n e = rw e refl
+  one-more r ps t e = rw e refl
 
   -- all that there is to do, after the points ps
   abbrev whole : Points → State
-  whole ps = along (between corners) (going ps (p₀ .pairs))
+  whole ps = along (between corners) (going ps (p₀ .tally))
 
   abbrev Whole : Points → C.Crunching → Type 0
   Whole points c = (ps : Points) → Wrote points₀ (p₀ .w) (written (length points₀) ps) → Stands (length points₀) points (whole ps) c
@@ -90,7 +92,7 @@ module _ (xs ys : List ℤ) (fs corners : List ℕ) (settings : Settings) (s₀ 
   pub record Reached (points : Points) (p : Progress) (k : ℕ) (end : State) : Type 0 where
     pub sofar : Points
     pub wrote : Wrote points (p .w) (written (length points₀) sofar)
-    pub left : end ≡ along (drop k (between corners)) (going sofar (p .pairs))
+    pub left : end ≡ along (drop k (between corners)) (going sofar (p .tally))
 
   pub record Running (s b a : List (List Float)) (l : List ℕ) (points : Points) (p : Progress) (k : ℕ) : Type 0 where
     pub samples : length s ≡ length s₀
@@ -99,10 +101,10 @@ module _ (xs ys : List ℤ) (fs corners : List ℕ) (settings : Settings) (s₀ 
     pub links : length l ≡ length l₀
     pub long : length points ≡ length points₀
     pub upto : k ≤ length corners
-    pub few : p .pairs ≤ k * mostPairs
+    pub few : Upto k (p .tally)
     pub reach : (ps : Points) → Wrote points₀ (p₀ .w) (written (length points₀) ps) → Reached points p k (whole ps)
 
-  pub running-start : p₀ .pairs ≡ 0 → Running s₀ b₀ a₀ l₀ points₀ p₀ 0
+  pub running-start : p₀ .tally ≡ untried → Running s₀ b₀ a₀ l₀ points₀ p₀ 0
   running-start none =
       record {
         samples = refl;
@@ -111,19 +113,19 @@ module _ (xs ys : List ℤ) (fs corners : List ℕ) (settings : Settings) (s₀ 
         links = refl;
         long = refl;
         upto = omega arith;
-        few = omega arith;
+        few = rw none (nothing-upto 0);
         reach = λ ps wrote. record { sofar = ps; wrote = wrote; left = refl };
       }
 
   module _ {s b a : List (List Float)} {l : List ℕ} {points : Points} {p : Progress} {k : ℕ} (now : Running s b a l points p k) where
-    -- no sum of pairs is too large
-    pub running-few : k < length corners → length corners ≤ 1025 → p .pairs ≤ 4294967296
-    running-few h few = omega (arith, now .few)
+    -- no sum is too large
+    pub running-few : k < length corners → length corners ≤ 1025 → Upto 1024 (p .tally)
+    running-few h few = upto-more (omega arith) (now .few)
 
     finished : drop k (between corners) ≡ [] → Whole points (Crunching.Going p)
     finished e ps wrote =
         let there = now .reach ps wrote in
-        rw (there .left, none-left (going (there .sofar) (p .pairs)) e) (goes refl (there .wrote) refl)
+        rw (there .left, none-left (going (there .sofar) (p .tally)) e) (goes refl (there .wrote) refl)
 
     pub no-more : {r : Run} → r ≡ runAt (between corners) k → r ≡ Nothing → Whole points (Crunching.Going p)
     no-more is e = finished (run-none (between corners) k (sym is ∙ e))
@@ -134,7 +136,7 @@ module _ (xs ys : List ℤ) (fs corners : List ℕ) (settings : Settings) (s₀ 
     -- one run: what it leaves in the rows
     module _ {r : Run} (at : r ≡ runAt (between corners) k) {first count : ℕ} (is : r ≡ Between first count) {points' : Points} {c : C.Crunching}
         (then : (ps : Points) → Wrote points (p .w) (written (length points) ps) →
-        Stands (length points) points' (afterRun (roomsOf (work s b a l)) settings xs ys fs (record { first = first; count = count }) ps (p .pairs)) c) where
+        Stands (length points) points' (afterRun (roomsOf (work s b a l)) settings xs ys fs (record { first = first; count = count }) ps (p .tally)) c) where
       abbrev run : Span
       run = record { first = first; count = count }
 
@@ -146,15 +148,15 @@ module _ (xs ys : List ℤ) (fs corners : List ℕ) (settings : Settings) (s₀ 
         there = now .reach ps wrote
 
         abbrev after : State
-        after = afterRun rooms settings xs ys fs run (there .sofar) (p .pairs)
+        after = afterRun rooms settings xs ys fs run (there .sofar) (p .tally)
 
         after-left : whole ps ≡ along (drop (suc k) (between corners)) after
-        after-left = there .left ∙ one-more run (there .sofar) (p .pairs) (run-here (between corners) k (sym at ∙ is))
+        after-left = there .left ∙ one-more run (there .sofar) (p .tally) (run-here (between corners) k (sym at ∙ is))
 
         after-stands : Stands (length points₀) points' after c
         after-stands =
             subst (λ (n : ℕ). Stands n points' after c) (now .long)
-            (subst (λ (x : Rooms). Stands (length points) points' (afterRun x settings xs ys fs run (there .sofar) (p .pairs)) c) rooms-same
+            (subst (λ (x : Rooms). Stands (length points) points' (afterRun x settings xs ys fs run (there .sofar) (p .tally)) c) rooms-same
             (then (there .sofar) (subst (λ (n : ℕ). Wrote points (p .w) (written n (there .sofar))) (sym (now .long)) (there .wrote))))
 
       pub run-refused : {n : ℕ} → c ≡ Crunching.Refused n → Whole points' (Crunching.Refused n)
@@ -165,9 +167,9 @@ module _ (xs ys : List ℤ) (fs corners : List ℕ) (settings : Settings) (s₀ 
       pub run-ended : {q : Progress} → c ≡ Crunching.Ended q → Whole points' (Crunching.Ended q)
       run-ended {q} h ps wrote =
           let so = ended-for (after-stands ps wrote) h in
-          rw (after-left ps wrote, so .is, stays-ended rooms settings xs ys fs (drop (suc k) (between corners)) (so .points) (q .pairs)) (ends refl (so .wrote) refl)
+          rw (after-left ps wrote, so .is, stays-ended rooms settings xs ys fs (drop (suc k) (between corners)) (so .points) (q .tally)) (ends refl (so .wrote) refl)
 
-      pub run-on : {s' b' a' : List (List Float)} {l' : List ℕ} {q : Progress} → c ≡ Crunching.Going q → pairsIn c ≤ p .pairs + mostPairs → k < length corners →
+      pub run-on : {s' b' a' : List (List Float)} {l' : List ℕ} {q : Progress} → c ≡ Crunching.Going q → ((runs : ℕ) → Upto runs (p .tally) → Upto (runs + 1) (tallyIn c)) → k < length corners →
           length s' ≡ length s → length b' ≡ length b → length a' ≡ length a → length l' ≡ length l → length points' ≡ length points → Running s' b' a' l' points' q (k + 1)
       run-on {q = q} h few more ks kb ka kl kp =
           record {
@@ -177,7 +179,7 @@ module _ (xs ys : List ℤ) (fs corners : List ℕ) (settings : Settings) (s₀ 
             links = kl ∙ now .links;
             long = kp ∙ now .long;
             upto = omega arith;
-            few = omega (arith, few, now .few, ap pairsIn h);
+            few = subst (λ (x : C.Crunching). Upto (k + 1) (tallyIn x)) h (few k (now .few));
             reach = λ ps wrote.
                 let so = going-for (after-stands ps wrote) h in
                 record { sofar = so .points; wrote = so .wrote; left = rw add-one (after-left ps wrote ∙ ap (along (drop (suc k) (between corners))) (so .is)) };
@@ -192,27 +194,27 @@ pub ended-closes : (s : List ℤ) {row : Points} {c : C.Crunching} {p : Progress
 ended-closes s h x stands = let so = ended-for stands h in rw (so .is) (ends refl (so .wrote) refl)
 
 pub going-closes : (s : List ℤ) {old new : Points} {c : C.Crunching} {p : Progress} {w : Written} → c ≡ Crunching.Going p → Closed old (p .w) new w s →
-    ClosesUp old new c s (Crunching.Going (record { w = w; pairs = p .pairs }))
+    ClosesUp old new c s (Crunching.Going (record { w = w; tally = p .tally }))
 going-closes s h closed x stands = let so = going-for stands h in rw (so .is) (goes refl (closed (so .points) (so .wrote)) refl)
 
 module _ (rooms : Rooms) (settings : Settings) (xs ys : List ℤ) (fs : List ℕ) where
   -- ---- `crunch_round`
 
   pub no-stops : (list : List ℕ) → length list ≡ 0 → {row : Points} {room : ℕ} {w : Written} → Wrote row w (written room (unchangedIn xs ys fs (settings .closed))) →
-      Stands room row (crunchRound rooms settings xs ys fs list) (Crunching.Ended (record { w = w; pairs = 0 }))
+      Stands room row (crunchRound rooms settings xs ys fs list) (Crunching.Ended (record { w = w; tally = untried }))
   no-stops [] e wrote = ends refl wrote refl
   no-stops (a ∷ list) e wrote = absurd (omega (arith, e))
 
   pub round-stands : (list : List ℕ) → (length list ≡ 0 → ⊥) → {a : ℕ} {s : List ℤ} → a ≡ startOf fs (getD list 0 0) → s ≡ pointAs true xs ys a →
       {row row′ row″ : Points} {w : Written} {c r : C.Crunching} → w ≡ record { count = 0; over = false } →
-      ((ps : Points) → Wrote row w (written (length row) ps) → Stands (length row) row′ (crunchAll rooms settings xs ys fs (between list) (going ps 0)) c) →
+      ((ps : Points) → Wrote row w (written (length row) ps) → Stands (length row) row′ (crunchAll rooms settings xs ys fs (between list) (going ps untried)) c) →
       length row′ ≡ length row → ClosesUp row′ row″ c s r → Stands (length row) row″ (crunchRound rooms settings xs ys fs list) r
   round-stands [] some place start none then same closes = absurd (some refl)
   round-stands (b ∷ list) some {a} {s} place start {row} {row′} {row″} {w} {c} {r} none then same closes =
       let begun : Wrote row w (written (length row) []) = rw none (nothing-written row) in
-      let worked = subst (λ (n : ℕ). Stands n row′ (crunchAll rooms settings xs ys fs (between (b ∷ list)) (going [] 0)) c) (sym same) (then [] begun) in
-      let round = subst (λ (n : ℕ). Stands n row″ (closedUp s (crunchAll rooms settings xs ys fs (between (b ∷ list)) (going [] 0))) r) same (closes _ worked) in
-      subst (λ (q : List ℤ). Stands (length row) row″ (closedUp q (crunchAll rooms settings xs ys fs (between (b ∷ list)) (going [] 0))) r)
+      let worked = subst (λ (n : ℕ). Stands n row′ (crunchAll rooms settings xs ys fs (between (b ∷ list)) (going [] untried)) c) (sym same) (then [] begun) in
+      let round = subst (λ (n : ℕ). Stands n row″ (closedUp s (crunchAll rooms settings xs ys fs (between (b ∷ list)) (going [] untried))) r) same (closes _ worked) in
+      subst (λ (q : List ℤ). Stands (length row) row″ (closedUp q (crunchAll rooms settings xs ys fs (between (b ∷ list)) (going [] untried))) r)
       (start ∙ ap (pointAs true xs ys) place) round
 
   -- ---- `crunch_points`, by the mode
@@ -226,7 +228,7 @@ module _ (rooms : Rooms) (settings : Settings) (xs ys : List ℤ) (fs : List ℕ
 
     -- the crate's: the runs between the corners, after the start point
     pub points-stand : settings .closed ≡ false → {row : Points} {w : Written} → length row ≡ room → Wrote row w (written room (startPoint xs ys ∷ [])) →
-        ((ps : Points) → Wrote row w (written (length row) ps) → Stands (length row) row′ (crunchAll rooms settings xs ys fs (between list) (going ps 0)) c) →
+        ((ps : Points) → Wrote row w (written (length row) ps) → Stands (length row) row′ (crunchAll rooms settings xs ys fs (between list) (going ps untried)) c) →
         Stands room row′ (crunchRuns rooms settings xs ys fs) c
     unfolding crunchRuns
     points-stand mode {row} {w} long wrote then =

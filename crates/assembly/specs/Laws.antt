@@ -5,6 +5,7 @@ use mathlib.Core.Path.{_≡_, refl}
 use lib.IntN.{ℤ}
 use Rattle.runs.specs.Runs.{Span}
 use Rattle.settings.specs.declared.Settings.{Settings}
+use Rattle.optimize.specs.declared.Tally.{Tally}
 use Rattle.edition.specs.Edition.{Rooms}
 use Rattle.contour.specs.Points.{Points}
 use Rattle.assembly.specs.Assembly.{refused, ended, crunchAll}
@@ -15,7 +16,7 @@ module _ (rooms : Rooms) (settings : Settings) (xs ys : List ℤ) (fs : List ℕ
   stays-refused [] n = refl
   stays-refused (r ∷ rs) n = stays-refused rs n
 
-  pub stays-ended : (rs : List Span) (ps : Points) (n : ℕ) → crunchAll rooms settings xs ys fs rs (ended ps n) ≡ ended ps n
+  pub stays-ended : (rs : List Span) (ps : Points) (t : Tally) → crunchAll rooms settings xs ys fs rs (ended ps t) ≡ ended ps t
   unfolding crunchAll
-  stays-ended [] ps n = refl
-  stays-ended (r ∷ rs) ps n = stays-ended rs ps n
+  stays-ended [] ps t = refl
+  stays-ended (r ∷ rs) ps t = stays-ended rs ps t

@@ -8,7 +8,9 @@ use lib.ListN.{length, take}
 use Rattle.rows.specs.Lent.{Lent, before, after, room}
 use Rattle.contour.specs.Points.{Points}
 use Rattle.contour.specs.Writing.{Wrote, written}
-use Rattle.optimize.specs.Laws.{mostPairs}
+use Rattle.optimize.specs.Fallen.{Upto}
+use Rattle.optimize.specs.Tally.{untried}
+use Rattle.optimize.specs.declared.Tally.{Tally}
 use Rattle.survey.specs.Survey.{samplesUsed, breaksUsed}
 use Rattle.survey.specs.declared.Surveyed as Y
 use Rattle.survey.specs.declared.Surveyed.the-variants as Surveyed
@@ -20,19 +22,19 @@ use Rattle.assembly.specs.declared.Progress.{Progress}
 
 pub data Stands (room : ℕ) (row : Points) : State → C.Crunching → Type 0 where
   stops : {r : C.Crunching} {k : ℕ} → r ≡ Crunching.Refused k → Stands room row (refused k) r
-  ends : {r : C.Crunching} {p : Progress} {ps : Points} {n : ℕ} → r ≡ Crunching.Ended p → Wrote row (p .w) (written room ps) → p .pairs ≡ n →
-      Stands room row (ended ps n) r
-  goes : {r : C.Crunching} {p : Progress} {ps : Points} {n : ℕ} → r ≡ Crunching.Going p → Wrote row (p .w) (written room ps) → p .pairs ≡ n →
-      Stands room row (going ps n) r
+  ends : {r : C.Crunching} {p : Progress} {ps : Points} {t : Tally} → r ≡ Crunching.Ended p → Wrote row (p .w) (written room ps) → p .tally ≡ t →
+      Stands room row (ended ps t) r
+  goes : {r : C.Crunching} {p : Progress} {ps : Points} {t : Tally} → r ≡ Crunching.Going p → Wrote row (p .w) (written room ps) → p .tally ≡ t →
+      Stands room row (going ps t) r
 
-abbrev pub pairsIn : C.Crunching → ℕ
-pairsIn (Crunching.Refused k) = 0
-pairsIn (Crunching.Ended p) = p .pairs
-pairsIn (Crunching.Going p) = p .pairs
+abbrev pub tallyIn : C.Crunching → Tally
+tallyIn (Crunching.Refused k) = untried
+tallyIn (Crunching.Ended p) = p .tally
+tallyIn (Crunching.Going p) = p .tally
 
--- after whatever points stood in the row, with the pairs so far, a state
-abbrev pub Onward : (Points → ℕ → State) → Points → Points → Progress → ℕ → C.Crunching → Type 0
-Onward state old new p long r = (ps : Points) → Wrote old (p .w) (written long ps) → Stands long new (state ps (p .pairs)) r
+-- after whatever points stood in the row, with what was counted so far, a state
+abbrev pub Onward : (Points → Tally → State) → Points → Points → Progress → ℕ → C.Crunching → Type 0
+Onward state old new p long r = (ps : Points) → Wrote old (p .w) (written long ps) → Stands long new (state ps (p .tally)) r
 
 -- a survey and its rows, as an edition is lent them: so many samples and breaks stand there, and the breaks were found
 abbrev pub FoundIn : List (List Float) → Y.Surveyed → Type 0
@@ -46,9 +48,9 @@ pub record Sighted (samples breaks : List (List Float)) (s : Y.Surveyed) : Type 
   pub found : FoundIn breaks s
 
 -- what a function that adds one run's points to the row leaves
-pub record Adds (state : Points → ℕ → State) (row : Lent (List ℤ)) (p : Progress) (r : C.Crunching) : Type 0 where
+pub record Adds (state : Points → Tally → State) (row : Lent (List ℤ)) (p : Progress) (r : C.Crunching) : Type 0 where
   pub stands : Onward state (before row) (after row) p (room row) r
-  pub pairs : pairsIn r ≤ p .pairs + mostPairs
+  pub few : (runs : ℕ) → Upto runs (p .tally) → Upto (runs + 1) (tallyIn r)
 
 -- what stood for a state stands for the same one closed up
 abbrev pub ClosesUp : Points → Points → C.Crunching → List ℤ → C.Crunching → Type 0

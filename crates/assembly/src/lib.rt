@@ -1,6 +1,7 @@
 // A contour's runs, worked in order into the scratch row for points.
 use contour::Written;
 use edition::Worked;
+use optimize::Tally;
 use runs::Run;
 use settings::Settings;
 use survey::Surveyed;
@@ -12,15 +13,17 @@ ghost use Rattle.runs.specs.Runs.{between};
 ghost use Rattle.settings.specs.Settings.{penaltyOf};
 ghost use Rattle.contour.specs.Points.{unchangedIn};
 ghost use Rattle.survey.specs.Survey.{surveyIn};
+ghost use Rattle.optimize.specs.Tally.{untried};
+ghost use Rattle.optimize.specs.Fallen.{Upto};
 ghost use Rattle.edition.specs.Edition.{editionOf, afterSurvey, Found};
 ghost use Rattle.edition.specs.Scratch.{roomsIn};
 ghost use Rattle.assembly.specs.Assembly.{going, added, resultOf, afterRun, crunchAll, crunchRound, crunchRuns};
 ghost use Rattle.assembly.specs.Stands.{Stands, Sighted, Onward, Adds, ClosesUp};
 
-// The points written, and the pairs tried.
+// The points written, and what was counted: the pairs tried, and the lookups that fell in them.
 pub struct Progress {
     pub w: Written,
-    pub pairs: usize,
+    pub tally: Tally,
 }
 
 pub enum Crunching {
@@ -44,25 +47,22 @@ pub fn step(
     links: &mut [u32],
     points: &mut [[i16; 3]],
 ) -> Crunching
-    requires { ⌜ Found (now breaks) × (p .pairs ≤ 4294967296) ⌝ }
+    requires { ⌜ Found (now breaks) × Upto 1024 (p .tally) ⌝ }
     ensures { λ r. ⌜ Adds (added (unchangedIn (before xs) (before ys) (before flags) (settings .closed))
         (editionOf (room answers) (room links) (before samples) (before breaks) (penaltyOf settings))) points p r ⌝ }
 {
+    let sofar = p.tally;
     match edition::edition(samples, breaks, answers, links, settings.per_piece()) {
         Worked::Refused(k) => Crunching::Refused(k),
-        Worked::Unchanged(pairs) => {
+        Worked::Unchanged(t) => {
+            let tally = sofar.plus(t);
             let w = contour::unchanged_in(xs, ys, flags, settings.closed, points);
-            Crunching::Ended(Progress {
-                w,
-                pairs: p.pairs + pairs,
-            })
+            Crunching::Ended(Progress { w, tally })
         }
-        Worked::Done(n, k, pairs) => {
+        Worked::Done(n, k, t) => {
+            let tally = sofar.plus(t);
             let w = pieces::push_chain(&breaks[..n], answers, links, k, points, p.w);
-            Crunching::Going(Progress {
-                w,
-                pairs: p.pairs + pairs,
-            })
+            Crunching::Going(Progress { w, tally })
         }
     }
 }
@@ -81,15 +81,16 @@ pub fn after_survey(
     links: &mut [u32],
     points: &mut [[i16; 3]],
 ) -> Crunching
-    requires { ⌜ Sighted (now samples) (now breaks) s × (p .pairs ≤ 4294967296) ⌝ }
+    requires { ⌜ Sighted (now samples) (now breaks) s × Upto 1024 (p .tally) ⌝ }
     ensures { λ r. ⌜ Adds (added (unchangedIn (before xs) (before ys) (before flags) (settings .closed))
         (afterSurvey (room answers) (room links) (penaltyOf settings) (surveyIn (before samples) (before breaks) s))) points p r ⌝ }
 {
     match s {
         Surveyed::Refused(k) => Crunching::Refused(k),
         Surveyed::Past => {
+            let tally = p.tally;
             let w = contour::unchanged_in(xs, ys, flags, settings.closed, points);
-            Crunching::Ended(Progress { w, pairs: p.pairs })
+            Crunching::Ended(Progress { w, tally })
         }
         Surveyed::Rows(n, m) => {
             step(
@@ -123,7 +124,7 @@ fn work_run(
     links: &mut [u32],
     points: &mut [[i16; 3]],
 ) -> Crunching
-    requires { ⌜ p .pairs ≤ 4294967296 ⌝ }
+    requires { ⌜ Upto 1024 (p .tally) ⌝ }
     ensures { λ r. ⌜ Adds (added (unchangedIn (before xs) (before ys) (before flags) (settings .closed)) (resultOf (roomsIn samples breaks answers links) settings
         (before xs) (before ys) (before flags) (record { first = first; count = count }))) points p r ⌝ }
 {
@@ -167,14 +168,15 @@ fn crunch_run(
     links: &mut [u32],
     points: &mut [[i16; 3]],
 ) -> Crunching
-    requires { ⌜ p .pairs ≤ 4294967296 ⌝ }
+    requires { ⌜ Upto 1024 (p .tally) ⌝ }
     ensures { λ r. ⌜ Adds (afterRun (roomsIn samples breaks answers links) settings
         (before xs) (before ys) (before flags) (record { first = first; count = count })) points p r ⌝ }
 {
     let a = corners::start_of(flags, first);
     if runs::is_copied_from(xs, ys, flags, a, count) {
+        let tally = p.tally;
         let w = contour::push_seg(points, p.w, corners::read_from(xs, ys, flags, a));
-        return Crunching::Going(Progress { w, pairs: p.pairs });
+        return Crunching::Going(Progress { w, tally });
     }
     work_run(
         xs,
@@ -206,9 +208,9 @@ fn crunch_runs(
     links: &mut [u32],
     points: &mut [[i16; 3]],
 ) -> Crunching
-    requires { ⌜ (length (now stops) ≤ 1025) × (from .pairs ≡ 0) ⌝ }
-    ensures { λ r. ⌜ Onward (λ ps pairs. crunchAll (roomsIn samples breaks answers links) settings (before xs) (before ys) (before flags)
-        (between (before stops)) (going ps pairs)) (before points) (after points) from (room points) r ⌝ }
+    requires { ⌜ (length (now stops) ≤ 1025) × (from .tally ≡ untried) ⌝ }
+    ensures { λ r. ⌜ Onward (λ ps tally. crunchAll (roomsIn samples breaks answers links) settings (before xs) (before ys) (before flags)
+        (between (before stops)) (going ps tally)) (before points) (after points) from (room points) r ⌝ }
 {
     let mut p = from;
     let mut k = 0;
@@ -253,8 +255,9 @@ pub fn close_up(c: Crunching, points: &mut [[i16; 3]], s: [i16; 3]) -> Crunching
         Crunching::Refused(k) => Crunching::Refused(k),
         Crunching::Ended(p) => Crunching::Ended(p),
         Crunching::Going(p) => {
+            let tally = p.tally;
             let w = contour::close(points, p.w, s);
-            Crunching::Going(Progress { w, pairs: p.pairs })
+            Crunching::Going(Progress { w, tally })
         }
     }
 }
@@ -278,7 +281,13 @@ fn crunch_round(
 {
     if stops.len() == 0 {
         let w = contour::unchanged_in(xs, ys, flags, settings.closed, points);
-        return Crunching::Ended(Progress { w, pairs: 0 });
+        return Crunching::Ended(Progress {
+            w,
+            tally: Tally {
+                pairs: 0,
+                fallen: 0,
+            },
+        });
     }
     let s = contour::point_as(true, xs, ys, corners::start_of(flags, stops[0]));
     let c = crunch_runs(
@@ -289,7 +298,10 @@ fn crunch_round(
         settings,
         Progress {
             w: contour::nothing(),
-            pairs: 0,
+            tally: Tally {
+                pairs: 0,
+                fallen: 0,
+            },
         },
         samples,
         breaks,
@@ -338,7 +350,13 @@ pub fn crunch_points(
         flags,
         &list[..n],
         settings,
-        Progress { w, pairs: 0 },
+        Progress {
+            w,
+            tally: Tally {
+                pairs: 0,
+                fallen: 0,
+            },
+        },
         samples,
         breaks,
         answers,

@@ -1,5 +1,5 @@
 -- A chain in rows, piece by piece from place i on: its break numbers, its pieces and its sum. Assumes nothing.
-use Prim.Native.Nat.{ℕ, zero, suc, _+_, _-_, _≤_, _<_}
+use Prim.Native.Nat.{ℕ, zero, suc, _+_, _*_, _-_, _≤_, _<_}
 use native.Mathlib.Omega.{arith}
 use mathlib.Core.Bool.{Bool, true, false, _&&_, false≢true}
 use mathlib.Core.List.{List, [], _∷_}
@@ -12,10 +12,13 @@ use Rattle.geometry.specs.declared.Break.{Break}
 use Rattle.geometry.specs.declared.Quad.{Quad}
 use Rattle.breaks.specs.Breaks.{Row, breakAt}
 use Rattle.measure.specs.Measure.{measureOf}
+use Rattle.measure.specs.Fallen.{fallenOf}
+use Rattle.measure.proofs.Asked.{fallen-most}
 use Rattle.measure.specs.declared.Measure.{Measure}
 use Rattle.measure.specs.declared.Measured.the-variants as Measured
 use Rattle.float.specs.Numbers.{nil}
 use Rattle.chain.specs.Valid.{validPiece, leads, stays, joined, quadOf, validFrom, goodShape, jointOf, sumFrom, sumOf, pieceAt, piecesFrom, chainOf, evenRows}
+use Rattle.chain.specs.Fallen.{fallenOfPiece, fallenAlong, fallenOfSum}
 use Rattle.chain.specs.declared.Piece.{Piece}
 use Rattle.chain.specs.declared.Before.{Before}
 use Rattle.chain.specs.declared.Before.the-variants.{Start, After}
@@ -167,6 +170,29 @@ module _ (starts ends : List ℕ) (xs ys : List Float) where
       let same : 0 + j ≡ j = omega arith in
       rw same at (within (suc n) (length starts) 0 0 j h l)
 
+  -- ---- a chain that is joined has no more pieces than the run has breaks
+  leads-few : (n k i at : ℕ) → leads n at (piecesFrom starts ends xs ys k i) ≡ true → at ≤ n → k + at ≤ n
+  unfolding leads piecesFrom
+  leads-few n zero i at h l = omega (arith, l)
+  leads-few n (suc k) i at h l =
+      let first = both (eqb (getD starts i 0) at) _ h in
+      let second = both (ltb (getD starts i 0) (getD ends i 0)) _ (first .1) in
+      let third = both (leb (getD ends i 0) n) _ (second .1) in
+      let here = leads-few n k (i + 1) (getD ends i 0) (third .1) (leb-true _ _ (third .0)) in
+      let at-it = eqb-true (getD starts i 0) at (first .0) in
+      let rises = ltb-true (getD starts i 0) (getD ends i 0) (second .0) in
+      omega arith
+
+  stays-few : (k : ℕ) → stays (piecesFrom starts ends xs ys k 0) ≡ true → k ≤ 1
+  unfolding piecesFrom
+  stays-few zero h = omega arith
+  stays-few (suc zero) h = omega arith
+  stays-few (suc (suc k)) h = absurd (false≢true h)
+
+  pub joined-few : (n : ℕ) → joined n (chainOf starts ends xs ys) ≡ true → length starts ≤ n + 1
+  joined-few zero h = stays-few (length starts) h
+  joined-few (suc n) h = omega (arith, leads-few (suc n) (length starts) 0 0 h (omega arith))
+
   pub inside : (count j : ℕ) → 0 < count → joined (count - 1) (chainOf starts ends xs ys) ≡ true → j < length starts → (getD starts j 0 < count) × (getD ends j 0 < count)
   unfolding Within
   inside count j some h l =
@@ -269,3 +295,43 @@ module _ (samples : List (List Float)) (breaks : Row) (penalty : Float) (starts 
       pub sums-on : (m : Measure) (j : Float) → measureOf samples (a .s) (b .s) q ≡ Measured.At m → j ≡ jointOf before q →
           Summing samples breaks penalty starts ends xs ys (After q) (add binary64 (add binary64 s (mul binary64 penalty j)) (m .error)) (i + 1)
       sums-on m j h joint = turned ∙ adds samples breaks penalty before s p _ m (rw (from, to, drawn) at h) ∙ rw (joint, drawn)
+
+-- ---- the lookups that fell: so many in i pieces
+pub record Falling (samples : List (List Float)) (breaks : Row) (starts ends : List ℕ) (xs ys : List Float) (n i : ℕ) : Type 0 where
+  pub sofar : fallenAlong samples breaks (chainOf starts ends xs ys) ≡ n + fallenAlong samples breaks (piecesFrom starts ends xs ys (length starts - i) i)
+  pub few : n ≤ 80 * i
+
+module _ (samples : List (List Float)) (breaks : Row) (starts ends : List ℕ) (xs ys : List Float) where
+  pub falling : Falling samples breaks starts ends xs ys 0 0
+  falling =
+      let all : length starts - 0 ≡ length starts = omega arith in
+      record { sofar = rw all (omega arith); few = omega arith }
+
+  pub none-counted : (penalty : Float) → Summed.Last ≡ sumOf samples breaks penalty (chainOf starts ends xs ys) →
+      0 ≡ fallenOfSum samples breaks penalty (chainOf starts ends xs ys)
+  unfolding fallenOfSum
+  none-counted penalty e = rw (← e) refl
+
+  module _ {n i : ℕ} (so : Falling samples breaks starts ends xs ys n i) where
+    pub all-counted : length starts ≤ i → (penalty : Float) {s : Float} → Summed.At s ≡ sumOf samples breaks penalty (chainOf starts ends xs ys) →
+        n ≡ fallenOfSum samples breaks penalty (chainOf starts ends xs ys)
+    unfolding fallenOfSum fallenAlong
+    all-counted h penalty e = rw (← e) (sym (so .sofar ∙ rw (none starts ends xs ys i h) (omega arith)))
+
+    module _ (more : i < length starts) (p : Piece) (is : p ≡ pieceAt starts ends xs ys i) (q : Quad) (drawn : q ≡ quadOf breaks p)
+        (a b : Break) (from : a ≡ breakAt breaks (p .from)) (to : b ≡ breakAt breaks (p .to)) {k : ℕ} (fell : k ≡ fallenOf samples (a .s) (b .s) q) where
+      pub counted-few : k ≤ 80
+      counted-few = rw fell (fallen-most samples (a .s) (b .s) q)
+
+      one-more : fallenAlong samples breaks (piecesFrom starts ends xs ys (length starts - i) i)
+          ≡ k + fallenAlong samples breaks (piecesFrom starts ends xs ys (length starts - (i + 1)) (i + 1))
+      unfolding fallenAlong
+      one-more =
+          let rest = fallenAlong samples breaks (piecesFrom starts ends xs ys (length starts - (i + 1)) (i + 1)) in
+          let here : k ≡ fallenOfPiece samples breaks p = fell ∙ rw (from, to, drawn) refl in
+          ap (fallenAlong samples breaks) (next starts ends xs ys i more)
+          ∙ ap (λ (x : Piece). fallenOfPiece samples breaks x + rest) (sym is)
+          ∙ ap (λ (m : ℕ). m + rest) (sym here)
+
+      pub falls-on : Falling samples breaks starts ends xs ys (n + k) (i + 1)
+      falls-on = record { sofar = omega (arith, so .sofar, one-more); few = omega (arith, so .few, counted-few) }

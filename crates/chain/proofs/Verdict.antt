@@ -5,6 +5,7 @@ use mathlib.Core.List.{List}
 use mathlib.Core.Path.{_≡_}
 use lib.Ieee.{Float}
 use Rattle.breaks.specs.Breaks.{Row}
+use Rattle.chain.specs.Fallen.{fallenOfSum, fallenRows}
 use Rattle.chain.specs.Valid.{equals, goodShape, sumOf, checkOf, chainOf, evenRows, checkRows}
 use Rattle.chain.specs.declared.Summed.the-variants as Summed
 use Rattle.chain.specs.declared.Checked.the-variants as Checked
@@ -32,3 +33,20 @@ module _ (samples : List (List Float)) (breaks : Row) (penalty : Float) (starts 
         pub wrong : equals s score ≡ false → Checked.No ≡ checkRows samples breaks penalty starts ends xs ys score
         unfolding checkRows checkOf
         wrong h = rw (even, good, summed, h)
+
+-- ---- the lookups that fell in the measures that were made
+
+module _ (samples : List (List Float)) (breaks : Row) (penalty : Float) (starts ends : List ℕ) (xs ys : List Float) where
+  pub none-uneven : evenRows starts ends xs ys ≡ false → 0 ≡ fallenRows samples breaks penalty starts ends xs ys
+  unfolding fallenRows
+  none-uneven h = rw h
+
+  module _ (even : evenRows starts ends xs ys ≡ true) where
+    pub none-misshapen : goodShape breaks (chainOf starts ends xs ys) ≡ false → 0 ≡ fallenRows samples breaks penalty starts ends xs ys
+    unfolding fallenRows
+    none-misshapen h = rw (even, h)
+
+    pub all-fallen : goodShape breaks (chainOf starts ends xs ys) ≡ true → {n : ℕ} → n ≡ fallenOfSum samples breaks penalty (chainOf starts ends xs ys) →
+        n ≡ fallenRows samples breaks penalty starts ends xs ys
+    unfolding fallenRows
+    all-fallen h e = rw (even, h) e

@@ -7,9 +7,11 @@ mod valid;
 use geometry::Point;
 use geometry::Quad;
 ghost use mathlib.Core.Path.{_≡_};
-ghost use Prim.Native.Nat.{_<_};
+ghost use Prim.Native.Nat.{_<_, _≤_};
 ghost use lib.ListN.{length};
+ghost use Rattle.rows.specs.Lent.{before};
 ghost use Rattle.chain.specs.Valid.{checkRows};
+ghost use Rattle.chain.specs.Fallen.{fallenRows};
 
 // A piece: the numbers of the breaks where it starts and ends, and its control.
 pub struct Piece {
@@ -30,11 +32,23 @@ pub enum Summed {
     Last,
 }
 
+// A sum, and the lookups that fell in its measures.
+pub struct Total {
+    pub sum: Summed,
+    pub fallen: usize,
+}
+
 pub enum Checked {
     // refusal 8
     Last,
     Yes,
     No,
+}
+
+// What is said of a chain, and the lookups that fell in the measures made for it.
+pub struct Checking {
+    pub said: Checked,
+    pub fallen: usize,
 }
 
 pub fn check(
@@ -46,22 +60,41 @@ pub fn check(
     ys: &[f64],
     score: f64,
     penalty: f64,
-) -> Checked
-    requires { ⌜ 0 < length (now breaks) ⌝ }
-    ensures { λ r. ⌜ r ≡ checkRows (now (samples .entry)) (now (breaks .entry)) penalty (now (starts .entry)) (now (ends .entry)) (now (xs .entry)) (now (ys .entry)) score ⌝ }
+) -> Checking
+    requires { ⌜ (0 < length (now breaks)) × (length (now breaks) ≤ 2048) ⌝ }
+    ensures { λ r. ⌜ (r .said ≡ checkRows (before samples) (before breaks) penalty (before starts) (before ends) (before xs) (before ys) score)
+        × (r .fallen ≡ fallenRows (before samples) (before breaks) penalty (before starts) (before ends) (before xs) (before ys)) ⌝ }
 {
     if !shape::are_even(starts, ends, xs, ys) {
-        return Checked::No;
+        return Checking {
+            said: Checked::No,
+            fallen: 0,
+        };
     }
     if !shape::is_good(breaks, starts, ends, xs, ys) {
-        return Checked::No;
+        return Checking {
+            said: Checked::No,
+            fallen: 0,
+        };
     }
-    let Summed::At(s) = sum::sum(samples, breaks, starts, ends, xs, ys, penalty) else {
-        return Checked::Last;
+    let t = sum::sum(samples, breaks, starts, ends, xs, ys, penalty);
+    let fallen = t.fallen;
+    let sum = t.sum;
+    let Summed::At(s) = sum else {
+        return Checking {
+            said: Checked::Last,
+            fallen,
+        };
     };
     if valid::equals(s, score) {
-        Checked::Yes
+        Checking {
+            said: Checked::Yes,
+            fallen,
+        }
     } else {
-        Checked::No
+        Checking {
+            said: Checked::No,
+            fallen,
+        }
     }
 }

@@ -20,6 +20,7 @@ use Rattle.edition.specs.Scratch.{roomsOf}
 use Rattle.runs.specs.Runs.{numberedRun}
 use Rattle.optimize.specs.Answers.{Answer, scoreOf}
 use Rattle.optimize.specs.Optimize.{measureBy}
+use Rattle.optimize.specs.declared.Tally.{Tally}
 use Rattle.optimize.specs.Trace.{lastScores, Least}
 use Rattle.optimize.proofs.Good.{how-good}
 use Rattle.pieces.specs.Pieces.{piecesOf}
@@ -35,20 +36,20 @@ use Rattle.chains.specs.declared.Chained.the-variants as Chained
 
 abbrev isChained : Outcome → ℕ
 isChained (refused k) = 0
-isChained (unchanged p) = 0
-isChained (chained ps s p) = 1
+isChained (unchanged t) = 0
+isChained (chained ps s t) = 1
 
-module _ (rooms : Rooms) (room : ℕ) (settings : Settings) (xs ys : List ℤ) (fs : List ℕ) (k : ℕ) (ps : List Piece) (score : Float) (pairs : ℕ) where
+module _ (rooms : Rooms) (room : ℕ) (settings : Settings) (xs ys : List ℤ) (fs : List ℕ) (k : ℕ) (ps : List Piece) (score : Float) (tally : Tally) where
   abbrev GoodRun : Type 0
   GoodRun = Good rooms settings xs ys fs k score
 
   abbrev penalty : Float
   penalty = penaltyOf settings
 
-  solved-good : (first count : ℕ) → numberedRun (settings .closed) xs ys fs k ≡ Between first count → (a : Answer) (p : ℕ) → workOf rooms (gridOf settings) penalty xs ys fs first count ≡ Edition.solved a p →
+  solved-good : (first count : ℕ) → numberedRun (settings .closed) xs ys fs k ≡ Between first count → (a : Answer) (t : Tally) → workOf rooms (gridOf settings) penalty xs ys fs first count ≡ Edition.solved a t →
       scoreOf a ≡ score → GoodRun
-  solved-good first count run a p e s =
-      let o = work-solved rooms (gridOf settings) penalty xs ys fs first count a p e in
+  solved-good first count run a t e s =
+      let o = work-solved rooms (gridOf settings) penalty xs ys fs first count a t e in
       let measure = measureBy (o .samples) (o .breaks) in
       record {
         first = first;
@@ -59,45 +60,45 @@ module _ (rooms : Rooms) (room : ℕ) (settings : Settings) (xs ys : List ℤ) (
         survey = o .survey;
         scores = lastScores measure (o .breaks) penalty;
         are = refl;
-        least = λ n. subst (λ (x : Float). Least x (lastScores measure (o .breaks) penalty)) s (how-good measure (o .breaks) penalty a p (o .fine .some) (o .is) n);
+        least = λ n. subst (λ (x : Float). Least x (lastScores measure (o .breaks) penalty)) s (how-good measure (o .breaks) penalty a (t .pairs) (o .fine .some) (o .is) n);
       }
 
-  over-good : (first count : ℕ) → numberedRun (settings .closed) xs ys fs k ≡ Between first count → (a : Answer) (p : ℕ) → workOf rooms (gridOf settings) penalty xs ys fs first count ≡ Edition.solved a p →
-      (over : Bool) → overIf over (piecesOf a) (scoreOf a) p ≡ chained ps score pairs → GoodRun
-  over-good first count run a p e true h = absurd (omega (arith, ap isChained h))
-  over-good first count run a p e false h = let same : scoreOf a ≡ score = cc in solved-good first count run a p e same
+  over-good : (first count : ℕ) → numberedRun (settings .closed) xs ys fs k ≡ Between first count → (a : Answer) (t : Tally) → workOf rooms (gridOf settings) penalty xs ys fs first count ≡ Edition.solved a t →
+      (over : Bool) → overIf over (piecesOf a) (scoreOf a) t ≡ chained ps score tally → GoodRun
+  over-good first count run a t e true h = absurd (omega (arith, ap isChained h))
+  over-good first count run a t e false h = let same : scoreOf a ≡ score = cc in solved-good first count run a t e same
 
-  written-good : (first count : ℕ) → numberedRun (settings .closed) xs ys fs k ≡ Between first count → (x : Result) → workOf rooms (gridOf settings) penalty xs ys fs first count ≡ x → written room x ≡ chained ps score pairs → GoodRun
+  written-good : (first count : ℕ) → numberedRun (settings .closed) xs ys fs k ≡ Between first count → (x : Result) → workOf rooms (gridOf settings) penalty xs ys fs first count ≡ x → written room x ≡ chained ps score tally → GoodRun
   written-good first count run (Edition.refused n) e h = absurd (omega (arith, ap isChained h))
-  written-good first count run (Edition.unchanged p) e h = absurd (omega (arith, ap isChained h))
-  written-good first count run (Edition.solved a p) e h = over-good first count run a p e (ltb room (length (piecesOf a))) h
+  written-good first count run (Edition.unchanged t) e h = absurd (omega (arith, ap isChained h))
+  written-good first count run (Edition.solved a t) e h = over-good first count run a t e (ltb room (length (piecesOf a))) h
 
-  run-good : (r : Run) → numberedRun (settings .closed) xs ys fs k ≡ r → ofRun rooms room settings xs ys fs r ≡ chained ps score pairs → GoodRun
+  run-good : (r : Run) → numberedRun (settings .closed) xs ys fs k ≡ r → ofRun rooms room settings xs ys fs r ≡ chained ps score tally → GoodRun
   run-good Nothing e h = absurd (omega (arith, ap isChained h))
   run-good (Between first count) e h = written-good first count e _ refl h
 
-  judged-good : (j : Judged) → afterJudging j (ofRun rooms room settings xs ys fs (numberedRun (settings .closed) xs ys fs k)) ≡ chained ps score pairs → GoodRun
+  judged-good : (j : Judged) → afterJudging j (ofRun rooms room settings xs ys fs (numberedRun (settings .closed) xs ys fs k)) ≡ chained ps score tally → GoodRun
   judged-good (Judged.Refused n) h = absurd (omega (arith, ap isChained h))
   judged-good Judged.Fine h = run-good _ refl h
 
 pub chain-good : ChainGood
 unfolding chainOf
-chain-good rooms room settings xs ys fs k ps score pairs e = judged-good rooms room settings xs ys fs k ps score pairs (judgedFor settings xs ys fs) e
+chain-good rooms room settings xs ys fs k ps score tally e = judged-good rooms room settings xs ys fs k ps score tally (judgedFor settings xs ys fs) e
 
 -- ---- the answer of the entry
 
 abbrev isPieces : C.Chained → ℕ
 isPieces (Chained.Refused k) = 0
-isPieces (Chained.Unchanged p) = 0
-isPieces (Chained.Pieces n s p) = 1
+isPieces (Chained.Unchanged t) = 0
+isPieces (Chained.Pieces n s t) = 1
 
-module _ (xs ys : List ℤ) (fs : List ℕ) (settings : Settings) (k : ℕ) (c : Rows) (w : Work) (n : ℕ) (score : Float) (pairs : ℕ) where
-  answer-good : (o : Outcome) → wholeOf (inputs xs ys fs) settings k c w ≡ o → answerOf o ≡ Chained.Pieces n score pairs → Good (roomsOf w) settings xs ys fs k score
+module _ (xs ys : List ℤ) (fs : List ℕ) (settings : Settings) (k : ℕ) (c : Rows) (w : Work) (n : ℕ) (score : Float) (tally : Tally) where
+  answer-good : (o : Outcome) → wholeOf (inputs xs ys fs) settings k c w ≡ o → answerOf o ≡ Chained.Pieces n score tally → Good (roomsOf w) settings xs ys fs k score
   answer-good (refused m) e h = absurd (omega (arith, ap isPieces h))
-  answer-good (unchanged p) e h = absurd (omega (arith, ap isPieces h))
-  answer-good (chained ps s p) e h =
+  answer-good (unchanged t) e h = absurd (omega (arith, ap isPieces h))
+  answer-good (chained ps s t) e h =
       let same : s ≡ score = cc in
-      subst (Good (roomsOf w) settings xs ys fs k) same (chain-good (roomsOf w) (roomIn c) settings xs ys fs k ps s p e)
+      subst (Good (roomsOf w) settings xs ys fs k) same (chain-good (roomsOf w) (roomIn c) settings xs ys fs k ps s t e)
 
 pub reports-good : ReportsGood
-reports-good xs ys fs settings k c w n score pairs e = answer-good xs ys fs settings k c w n score pairs _ refl e
+reports-good xs ys fs settings k c w n score tally e = answer-good xs ys fs settings k c w n score tally _ refl e

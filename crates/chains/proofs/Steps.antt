@@ -27,8 +27,10 @@ use Rattle.survey.specs.declared.Surveyed as Y
 use Rattle.optimize.specs.Answers.{Answer, scoreOf}
 use Rattle.optimize.specs.Stored.{Anywhere, Holds, starts, follows}
 use Rattle.chain.specs.declared.Piece.{Piece}
+use Rattle.optimize.specs.declared.Tally.{Tally}
 use Rattle.edition.specs.Edition as E
 use Rattle.edition.specs.Edition.{Result, Rooms, Works, workOf}
+use Rattle.edition.specs.Laws.{tallyIn}
 use Rattle.edition.specs.declared.Worked as W
 use Rattle.edition.specs.declared.Worked.the-variants as Worked
 use Rattle.pieces.specs.Pieces.{piecesOf}
@@ -106,9 +108,9 @@ has-room most a st en xs ys c' e is =
     let many = f .many in
     (omega (arith, fit, many), omega (arith, fit, many), omega (arith, fit, many))
 
-module _ (a : Answer) (breaks : Row) (c : Chain) (spans : List (List ℕ)) (p : ℕ) where
+module _ (a : Answer) (breaks : Row) (c : Chain) (spans : List (List ℕ)) (t : Tally) where
   pub put-nothing : (c' : Chain) {r : D.Put} → putOf (length spans) (piecesOf a) c ≡ P.left r c' → r ≡ Put.Over →
-      handed (Chained.Refused 9) (rows c' spans) ≡ handing (written (roomIn (rows c spans)) (E.solved a p)) breaks (rows c spans)
+      handed (Chained.Refused 9) (rows c' spans) ≡ handing (written (roomIn (rows c spans)) (E.solved a t)) breaks (rows c spans)
   put-nothing c' e is =
       let o = over (length spans) (piecesOf a) c c' e is in
       rw (o .0, o .1) refl
@@ -116,7 +118,7 @@ module _ (a : Answer) (breaks : Row) (c : Chain) (spans : List (List ℕ)) (p : 
   pub put-pieces : (st en : List ℕ) (xs ys : List Float) {spans' : List (List ℕ)} {r : D.Put} {n : ℕ} {s : Float} →
       putOf (length spans) (piecesOf a) c ≡ P.left r (P.chain st en xs ys) → r ≡ Put.Pieces n →
       spans' ≡ front (spansFrom breaks (take n st) (take n en)) spans → s ≡ scoreOf a →
-      handed (Chained.Pieces n s p) (rows (P.chain st en xs ys) spans') ≡ handing (written (roomIn (rows c spans)) (E.solved a p)) breaks (rows c spans)
+      handed (Chained.Pieces n s t) (rows (P.chain st en xs ys) spans') ≡ handing (written (roomIn (rows c spans)) (E.solved a t)) breaks (rows c spans)
   put-pieces st en xs ys e is put score =
       let f = fits (length spans) (piecesOf a) c (P.chain st en xs ys) e is in
       rw (f .room, score, put, f .many, places c st en xs ys (f .is), f .is) refl
@@ -133,21 +135,16 @@ module _ (a : Answer) (breaks : Row) (c : Chain) (spans : List (List ℕ)) (p : 
 -- no two kinds of result are one
 abbrev kind : W.Worked → ℕ
 kind (Worked.Refused k) = 0
-kind (Worked.Unchanged p) = 1
-kind (Worked.Done n k p) = 2
+kind (Worked.Unchanged t) = 1
+kind (Worked.Done n k t) = 2
 
 abbrev slotIn : W.Worked → ℕ
 slotIn (Worked.Refused k) = 0
-slotIn (Worked.Unchanged p) = 0
-slotIn (Worked.Done n k p) = k
-
-abbrev numberIn : W.Worked → ℕ
-numberIn (Worked.Refused k) = k
-numberIn (Worked.Unchanged p) = p
-numberIn (Worked.Done n k p) = p
+slotIn (Worked.Unchanged t) = 0
+slotIn (Worked.Done n k t) = k
 
 module _ {penalty : Float} {breaks : Row} {answers : List (List Float)} {links : List ℕ} where
-  works-held : {x : Result} {w : W.Worked} {n k p : ℕ} → Works penalty breaks answers links x w → w ≡ Worked.Done n k p → Held answers links k
+  works-held : {x : Result} {w : W.Worked} {n k : ℕ} {t : Tally} → Works penalty breaks answers links x w → w ≡ Worked.Done n k t → Held answers links k
   works-held (E.no e) is = absurd (omega (arith, ap kind (sym e ∙ is)))
   works-held (E.stays e) is = absurd (omega (arith, ap kind (sym e ∙ is)))
   works-held (E.holds {n = m} {p = q} {a = a} samples e few fine by held) is = record {
@@ -161,16 +158,16 @@ module _ {penalty : Float} {breaks : Row} {answers : List (List Float)} {links :
   }
 
   -- what is handed on of each answer that the rows may hold is handed on of the run's
-  pub works-handed : (room : ℕ) (row : Row) (c : Rows) {x : Result} {w : W.Worked} {n k p : ℕ} {h : Handed} → Works penalty breaks answers links x w →
-      w ≡ Worked.Done n k p → ((b : Row) (a : Answer) → Holds Anywhere b answers links k a → h ≡ handing (written room (E.solved a p)) row c) →
+  pub works-handed : (room : ℕ) (row : Row) (c : Rows) {x : Result} {w : W.Worked} {n k : ℕ} {t : Tally} {h : Handed} → Works penalty breaks answers links x w →
+      w ≡ Worked.Done n k t → ((b : Row) (a : Answer) → Holds Anywhere b answers links k a → h ≡ handing (written room (E.solved a t)) row c) →
       h ≡ handing (written room x) row c
   works-handed room row c (E.no e) is each = absurd (omega (arith, ap kind (sym e ∙ is)))
   works-handed room row c (E.stays e) is each = absurd (omega (arith, ap kind (sym e ∙ is)))
   works-handed room row c (E.holds {n = m} {a = a} samples e few fine by held) is each =
       each (take m breaks) a (subst (λ (j : ℕ). Holds Anywhere (take m breaks) answers links j a) (ap slotIn (sym e ∙ is)) held)
-      ∙ ap (λ (q : ℕ). handing (written room (E.solved a q)) row c) (sym (ap numberIn (sym e ∙ is)))
+      ∙ ap (λ (q : Tally). handing (written room (E.solved a q)) row c) (sym (ap tallyIn (sym e ∙ is)))
 
-pub readable-held : {answers : List (List Float)} {links : List ℕ} {w : W.Worked} {n k p : ℕ} → Readable answers links w → w ≡ Worked.Done n k p → Held answers links k
+pub readable-held : {answers : List (List Float)} {links : List ℕ} {w : W.Worked} {n k : ℕ} {t : Tally} → Readable answers links w → w ≡ Worked.Done n k t → Held answers links k
 readable-held r is = works-held (r .works) is
 
 -- ---- a run, and a contour

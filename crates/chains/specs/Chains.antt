@@ -14,26 +14,27 @@ use Rattle.runs.specs.Runs.{numberedRun}
 use Rattle.settings.specs.Settings.{gridOf, penaltyOf, judgedFor}
 use Rattle.settings.specs.declared.Settings.{Settings}
 use Rattle.optimize.specs.Answers.{scoreOf}
+use Rattle.optimize.specs.declared.Tally.{Tally}
 use Rattle.chain.specs.declared.Piece.{Piece}
 use Rattle.edition.specs.Edition.{Result, Rooms, workOf}
 use Rattle.edition.specs.Edition as Edition
 use Rattle.pieces.specs.Pieces.{piecesOf}
 
--- the number of a refusal; a run that leaves the contour unchanged, after so many pairs; or the chain, its score and the pairs tried
+-- the number of a refusal; a run that leaves the contour unchanged; or the chain and its score. With the pairs tried and the lookups that fell in them
 pub data Outcome : Type 0 where
   refused : ℕ → Outcome
-  unchanged : ℕ → Outcome
-  chained : List Piece → Float → ℕ → Outcome
+  unchanged : Tally → Outcome
+  chained : List Piece → Float → Tally → Outcome
 
 -- refusal 9 last: the pieces exceed the shortest chain row
-abbrev pub overIf : Bool → List Piece → Float → ℕ → Outcome
-overIf true ps score pairs = refused 9
-overIf false ps score pairs = chained ps score pairs
+abbrev pub overIf : Bool → List Piece → Float → Tally → Outcome
+overIf true ps score t = refused 9
+overIf false ps score t = chained ps score t
 
 abbrev pub written : ℕ → Result → Outcome
 written room (Edition.refused k) = refused k
-written room (Edition.unchanged p) = unchanged p
-written room (Edition.solved a p) = overIf (ltb room (length (piecesOf a))) (piecesOf a) (scoreOf a) p
+written room (Edition.unchanged t) = unchanged t
+written room (Edition.solved a t) = overIf (ltb room (length (piecesOf a))) (piecesOf a) (scoreOf a) t
 
 -- refusals 1 to 5, and then 16, first
 abbrev pub afterJudging : Judged → Outcome → Outcome

@@ -14,6 +14,7 @@ use Rattle.settings.specs.declared.Settings.{Settings}
 use Rattle.edition.specs.Edition.{Rooms}
 use Rattle.edition.specs.Laws.{same-cleared}
 use Rattle.edition.specs.Scratch.{Scratch, roomsOf, cleared}
+use Rattle.optimize.specs.declared.Tally.{Tally}
 use Rattle.breaks.specs.Breaks.{Row}
 use Rattle.pieces.specs.Slots.{chain}
 use Rattle.chains.specs.Chains.{Outcome, refused, unchanged, chainOf}
@@ -58,12 +59,12 @@ placesOf n (rows (chain st en cx cy) sp) = rows (chain (take n st) (take n en) (
 pub front-places : {A : Type 0} (f : Piece → A) (ps : List Piece) (row : List A) → take (length ps) (front (map f ps) row) ≡ map f ps
 front-places f ps row = subst (λ (n : ℕ). take n (front (map f ps) row) ≡ map f ps) (length-map ps f) (take-append-seam (map f ps) _)
 
-pub chained-places : (ps : List Piece) (s : Float) (p : ℕ) (breaks : Row) (c : Rows) →
-    placesOf (length ps) (rowsOf (Chains.chained ps s p) breaks c)
+pub chained-places : (ps : List Piece) (s : Float) (t : Tally) (breaks : Row) (c : Rows) →
+    placesOf (length ps) (rowsOf (Chains.chained ps s t) breaks c)
     ≡ rows
     (chain (map (λ (p : Piece). p .from) ps) (map (λ (p : Piece). p .to) ps) (map (λ (p : Piece). p .control .x) ps) (map (λ (p : Piece). p .control .y) ps))
     (map (spanOf breaks) ps)
-chained-places ps s p breaks (rows (chain st en cx cy) sp) =
+chained-places ps s t breaks (rows (chain st en cx cy) sp) =
     rw (
       front-places (λ (p : Piece). p .from) ps st,
       front-places (λ (p : Piece). p .to) ps en,
@@ -76,8 +77,8 @@ chained-places ps s p breaks (rows (chain st en cx cy) sp) =
 pub same-places : (o : Outcome) (breaks : Row) (c c' : Rows) →
     placesOf (report (answerOf o) .pieces) (rowsOf o breaks c) ≡ placesOf (report (answerOf o) .pieces) (rowsOf o breaks c')
 same-places (refused k) breaks (rows (chain st en cx cy) sp) (rows (chain st' en' cx' cy') sp') = refl
-same-places (unchanged p) breaks (rows (chain st en cx cy) sp) (rows (chain st' en' cx' cy') sp') = refl
-same-places (Chains.chained ps s p) breaks c c' = chained-places ps s p breaks c ∙ sym (chained-places ps s p breaks c')
+same-places (unchanged t) breaks (rows (chain st en cx cy) sp) (rows (chain st' en' cx' cy') sp') = refl
+same-places (Chains.chained ps s t) breaks c c' = chained-places ps s t breaks c ∙ sym (chained-places ps s t breaks c')
 
 pub record Equal (r r' : C.Chained) (c c' : Rows) (w w' : Work) : Type 0 where
   pub answer : r ≡ r'

@@ -19,22 +19,24 @@ use Rattle.chains.specs.Spans.{spanOf, breaksAt}
 use Rattle.chains.specs.declared.Chained as C
 use Rattle.chains.specs.declared.Chained.the-variants as Chained
 
--- document 01's values for each answer: its number, which is 0 where nothing is refused, the pieces written, the score and the pairs tried
+-- document 01's values for each answer: its number, which is 0 where nothing is refused, the pieces written, the score and the pairs tried;
+-- and document 02's lookups that fell
 pub record Report : Type 0 where
   pub number : ℕ
   pub pieces : ℕ
   pub score : Float
   pub pairs : ℕ
+  pub fallen : ℕ
 
 abbrev pub report : C.Chained → Report
-report (Chained.Refused k) = record { number = k; pieces = 0; score = nil; pairs = 0 }
-report (Chained.Unchanged p) = record { number = 0; pieces = 0; score = nil; pairs = p }
-report (Chained.Pieces n s p) = record { number = 0; pieces = n; score = s; pairs = p }
+report (Chained.Refused k) = record { number = k; pieces = 0; score = nil; pairs = 0; fallen = 0 }
+report (Chained.Unchanged t) = record { number = 0; pieces = 0; score = nil; pairs = t .pairs; fallen = t .fallen }
+report (Chained.Pieces n s t) = record { number = 0; pieces = n; score = s; pairs = t .pairs; fallen = t .fallen }
 
 abbrev pub answerOf : Outcome → C.Chained
 answerOf (refused k) = Chained.Refused k
-answerOf (unchanged p) = Chained.Unchanged p
-answerOf (Chains.chained ps s p) = Chained.Pieces (length ps) s p
+answerOf (unchanged t) = Chained.Unchanged t
+answerOf (Chains.chained ps s t) = Chained.Pieces (length ps) s t
 
 -- ---- the rows
 
@@ -49,8 +51,8 @@ roomIn (rows c spans) = min (length spans) (roomOf c)
 -- a refusal and an unchanged run write no place; else the first places are written and no others
 abbrev pub rowsOf : Outcome → Row → Rows → Rows
 rowsOf (refused k) breaks c = c
-rowsOf (unchanged p) breaks c = c
-rowsOf (Chains.chained ps s p) breaks (rows c spans) = rows (chained ps c) (front (map (spanOf breaks) ps) spans)
+rowsOf (unchanged t) breaks c = c
+rowsOf (Chains.chained ps s t) breaks (rows c spans) = rows (chained ps c) (front (map (spanOf breaks) ps) spans)
 
 -- the chain's rows, lent and handed back
 abbrev pub LentChain : Type 0

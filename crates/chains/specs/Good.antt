@@ -16,6 +16,7 @@ use Rattle.edition.specs.Edition.{Rooms}
 use Rattle.edition.specs.Scratch.{roomsOf}
 use Rattle.runs.specs.Runs.{numberedRun}
 use Rattle.optimize.specs.Optimize.{measureBy}
+use Rattle.optimize.specs.declared.Tally.{Tally}
 use Rattle.optimize.specs.Trace.{lastScores, Least}
 use Rattle.rows.specs.Lent.{inputs}
 use Rattle.rows.specs.Rows.{Work}
@@ -39,10 +40,10 @@ pub record Good (rooms : Rooms) (settings : Settings) (xs ys : List ℤ) (fs : L
 
 abbrev pub ChainGood : Type 0
 ChainGood =
-    (rooms : Rooms) (room : ℕ) (settings : Settings) (xs ys : List ℤ) (fs : List ℕ) (k : ℕ) (ps : List Piece) (score : Float) (pairs : ℕ) →
-    chainOf rooms room settings xs ys fs k ≡ chained ps score pairs → Good rooms settings xs ys fs k score
+    (rooms : Rooms) (room : ℕ) (settings : Settings) (xs ys : List ℤ) (fs : List ℕ) (k : ℕ) (ps : List Piece) (score : Float) (tally : Tally) →
+    chainOf rooms room settings xs ys fs k ≡ chained ps score tally → Good rooms settings xs ys fs k score
 
 abbrev pub ReportsGood : Type 0
 ReportsGood =
-    (xs ys : List ℤ) (fs : List ℕ) (settings : Settings) (k : ℕ) (c : Rows) (w : Work) (n : ℕ) (score : Float) (pairs : ℕ) →
-    answerOf (wholeOf (inputs xs ys fs) settings k c w) ≡ Chained.Pieces n score pairs → Good (roomsOf w) settings xs ys fs k score
+    (xs ys : List ℤ) (fs : List ℕ) (settings : Settings) (k : ℕ) (c : Rows) (w : Work) (n : ℕ) (score : Float) (tally : Tally) →
+    answerOf (wholeOf (inputs xs ys fs) settings k c w) ≡ Chained.Pieces n score tally → Good (roomsOf w) settings xs ys fs k score

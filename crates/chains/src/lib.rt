@@ -2,6 +2,7 @@
 // rows, start break, end break, control x, control y, and the segments that hold both breaks; and four
 // scratch rows, which are left zero throughout whatever they held.
 use edition::Worked;
+use optimize::Tally;
 use pieces::Put;
 use refusals::Judged;
 use runs::Run;
@@ -31,10 +32,10 @@ ghost use Rattle.chains.specs.Steps.{Hands, Readable};
 pub enum Chained {
     // the number of a refusal
     Refused(u8),
-    // the run leaves the contour unchanged, after so many pairs: no piece
-    Unchanged(usize),
-    // pieces written, the score, and pairs tried
-    Pieces(usize, f64, usize),
+    // the run leaves the contour unchanged: no piece; the pairs tried and the lookups that fell in them
+    Unchanged(Tally),
+    // pieces written, the score, and the same
+    Pieces(usize, f64, Tally),
 }
 
 // The segments of n pieces, of which starts and ends tell the breaks.
@@ -57,7 +58,7 @@ fn put_solved(
     answers: &[[f64; 3]],
     links: &[u32],
     k: usize,
-    pairs: usize,
+    tally: Tally,
     starts: &mut [u32],
     ends: &mut [u32],
     cxs: &mut [f64],
@@ -66,13 +67,13 @@ fn put_solved(
 ) -> Chained
     requires { ⌜ Held (now answers) (now links) k ⌝ }
     ensures { λ r. ⌜ ((b : Row) (a : Answer) → Holds Anywhere b (before answers) (before links) k a →
-        Hands (written (roomIn (chainIn starts ends cxs cys spans .entry)) (solved a pairs)) (before breaks) (chainIn starts ends cxs cys spans) r) ⌝ }
+        Hands (written (roomIn (chainIn starts ends cxs cys spans .entry)) (solved a tally)) (before breaks) (chainIn starts ends cxs cys spans) r) ⌝ }
 {
     match pieces::put_chain(answers, links, k, spans.len(), starts, ends, cxs, cys) {
         Put::Over => Chained::Refused(9),
         Put::Pieces(n) => {
             put_spans(breaks, starts, ends, n, spans);
-            Chained::Pieces(n, answers[k][0], pairs)
+            Chained::Pieces(n, answers[k][0], tally)
         }
     }
 }
@@ -94,14 +95,14 @@ fn put_worked(
 {
     match worked {
         Worked::Refused(n) => Chained::Refused(n),
-        Worked::Unchanged(pairs) => Chained::Unchanged(pairs),
-        Worked::Done(_, k, pairs) => {
+        Worked::Unchanged(tally) => Chained::Unchanged(tally),
+        Worked::Done(_, k, tally) => {
             put_solved(
                 breaks,
                 answers,
                 links,
                 k,
-                pairs,
+                tally,
                 starts,
                 ends,
                 cxs,
@@ -186,7 +187,10 @@ fn chain_run(
         breaks,
     ) {
         Surveyed::Refused(k) => Chained::Refused(k),
-        Surveyed::Past => Chained::Unchanged(0),
+        Surveyed::Past => Chained::Unchanged(Tally {
+            pairs: 0,
+            fallen: 0,
+        }),
         Surveyed::Rows(n, m) => {
             chain_surveyed(
                 xs,

@@ -16,16 +16,25 @@ use Rattle.settings.specs.declared.Settings.{Settings}
 use Rattle.survey.specs.Survey.{Survey, surveyOf}
 use Rattle.survey.specs.Survey as Survey
 use Rattle.chain.specs.Valid.{checkRows}
+use Rattle.chain.specs.Fallen.{fallenRows}
 use Rattle.chain.specs.declared.Checked.{Checked}
 use Rattle.chain.specs.declared.Checked.the-variants as Checked
 use Rattle.edition.specs.Edition.{Rooms, answerRoom}
 use Rattle.checks.specs.declared.Verdict as D
 use Rattle.checks.specs.declared.Verdict.the-variants as Verdict
+use Rattle.checks.specs.declared.Ruling.{Ruling}
 
 abbrev pub verdictOf : Checked → D.Verdict
 verdictOf Checked.Last = Verdict.Refused 8
 verdictOf Checked.Yes = Verdict.Yes
 verdictOf Checked.No = Verdict.No
+
+-- a verdict, and the lookups that fell in measuring the chain
+abbrev pub ruling : D.Verdict → ℕ → Ruling
+ruling verdict fallen = record { verdict = verdict; fallen = fallen }
+
+abbrev pub refusing : ℕ → Ruling
+refusing k = ruling (Verdict.Refused k) 0
 
 -- a chain: its four rows and its score
 pub record Given : Type 0 where
@@ -35,31 +44,33 @@ pub record Given : Type 0 where
   pub ys : List Float
   pub score : Float
 
-abbrev pub unlessShort : Bool → D.Verdict → D.Verdict
-unlessShort true v = Verdict.Refused 7
+abbrev pub unlessShort : Bool → Ruling → Ruling
+unlessShort true v = refusing 7
 unlessShort false v = v
 
 -- half: half the shortest answer row, a room for breaks. After 6 and 7 the chain is judged. A length past the samples is never met
 -- (survey/specs/Never); it would be 8
-abbrev pub ofSurvey : ℕ → Float → Given → Survey → D.Verdict
-ofSurvey half penalty c (Survey.refused k) = Verdict.Refused k
-ofSurvey half penalty c Survey.past = Verdict.Refused 8
+abbrev pub ofSurvey : ℕ → Float → Given → Survey → Ruling
+ofSurvey half penalty c (Survey.refused k) = refusing k
+ofSurvey half penalty c Survey.past = refusing 8
 ofSurvey half penalty c (Survey.surveyed samples breaks) =
-    unlessShort (ltb half (length breaks)) (verdictOf (checkRows samples breaks penalty (c .starts) (c .ends) (c .xs) (c .ys) (c .score)))
+    unlessShort (ltb half (length breaks))
+    (ruling (verdictOf (checkRows samples breaks penalty (c .starts) (c .ends) (c .xs) (c .ys) (c .score)))
+    (fallenRows samples breaks penalty (c .starts) (c .ends) (c .xs) (c .ys)))
 
 -- refusal 10: no such run, or the run is one copied line
-abbrev pub ofRun : ℕ → Settings → Given → ℕ → ℕ → List ℤ → List ℤ → List ℕ → Run → D.Verdict
-ofRun half settings c sampleRow breakRow xs ys fs Nothing = Verdict.Refused 10
+abbrev pub ofRun : ℕ → Settings → Given → ℕ → ℕ → List ℤ → List ℤ → List ℕ → Run → Ruling
+ofRun half settings c sampleRow breakRow xs ys fs Nothing = refusing 10
 ofRun half settings c sampleRow breakRow xs ys fs (Between first count) =
     ofSurvey half (penaltyOf settings) c (surveyOf sampleRow breakRow xs ys fs first count (gridOf settings))
 
 -- refusals 1 to 5, and then 16, first
-abbrev pub afterJudging : Judged → D.Verdict → D.Verdict
-afterJudging (Judged.Refused k) v = Verdict.Refused k
+abbrev pub afterJudging : Judged → Ruling → Ruling
+afterJudging (Judged.Refused k) v = refusing k
 afterJudging Judged.Fine v = v
 
 -- of a chain for run k
-unfoldable pub checkOf : Rooms → Settings → List ℤ → List ℤ → List ℕ → Given → ℕ → D.Verdict
+unfoldable pub checkOf : Rooms → Settings → List ℤ → List ℤ → List ℕ → Given → ℕ → Ruling
 checkOf rooms settings xs ys fs c k =
     afterJudging (judgedFor settings xs ys fs)
     (ofRun (answerRoom (rooms .answers) (rooms .links)) settings c (rooms .samples) (rooms .breaks) xs ys fs (numberedRun (settings .closed) xs ys fs k))

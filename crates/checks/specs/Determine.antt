@@ -35,6 +35,7 @@ use Rattle.checks.specs.Checks.{Given, verdictOf, unlessShort, ofSurvey,
 use Rattle.checks.specs.Entry.{wholeOf, Promise}
 use Rattle.checks.specs.declared.Verdict as D
 use Rattle.checks.specs.declared.Verdict.the-variants as Verdict
+use Rattle.checks.specs.declared.Ruling.{Ruling}
 
 -- ---- equal orders
 
@@ -44,21 +45,21 @@ pub same-whole : (i : Inputs) (settings : Settings) (k : ℕ) (c : Given) (w w' 
 same-whole (inputs xs ys fs) settings k c w w' e = ap (λ (rooms : Rooms). checkOf rooms settings xs ys fs c k) e
 
 -- all that is handed back and left is equal
-pub record Same (r r' : D.Verdict) (w w' : Work) : Type 0 where
-  pub verdict : r ≡ r'
+pub record Same (r r' : Ruling) (w w' : Work) : Type 0 where
+  pub ruling : r ≡ r'
   pub left : w ≡ w'
 
 -- two orders of one contour, run, chain and score, in scratch rows of equal lengths
-pub equal-orders : {i : Inputs} {settings : Settings} {k : ℕ} {c : Given} {w w' : Scratch} {r r' : D.Verdict} → roomsOf (w .entry) ≡ roomsOf (w' .entry) →
+pub equal-orders : {i : Inputs} {settings : Settings} {k : ℕ} {c : Given} {w w' : Scratch} {r r' : Ruling} → roomsOf (w .entry) ≡ roomsOf (w' .entry) →
     Promise i settings k c w r → Promise i settings k c w' r' → Same r r' (w .exit) (w' .exit)
 equal-orders {i} {settings} {k} {c} {w} {w'} rooms p p' =
     record {
-      verdict = p .verdict ∙ same-whole i settings k c (w .entry) (w' .entry) rooms ∙ sym (p' .verdict);
+      ruling = p .ruling ∙ same-whole i settings k c (w .entry) (w' .entry) rooms ∙ sym (p' .ruling);
       left = p .left ∙ same-cleared (w .entry) (w' .entry) rooms ∙ sym (p' .left);
     }
 
 -- two outcomes of one order are one
-pub determined : {i : Inputs} {settings : Settings} {k : ℕ} {c : Given} {w w' : Scratch} {r r' : D.Verdict} → w .entry ≡ w' .entry →
+pub determined : {i : Inputs} {settings : Settings} {k : ℕ} {c : Given} {w w' : Scratch} {r r' : Ruling} → w .entry ≡ w' .entry →
     Promise i settings k c w r → Promise i settings k c w' r' → Same r r' (w .exit) (w' .exit)
 determined same = equal-orders (ap roomsOf same)
 
@@ -96,14 +97,14 @@ yes-of Checked.Last e = absurd (omega (arith, ap isYes e))
 yes-of Checked.Yes e = refl
 yes-of Checked.No e = absurd (omega (arith, ap isYes e))
 
-tested-yes : (short : Bool) (v : D.Verdict) → unlessShort short v ≡ Verdict.Yes → (short ≡ false) × (v ≡ Verdict.Yes)
+tested-yes : (short : Bool) (v : Ruling) → unlessShort short v .verdict ≡ Verdict.Yes → (short ≡ false) × (v .verdict ≡ Verdict.Yes)
 tested-yes true v e = absurd (omega (arith, ap isYes e))
 tested-yes false v e = (refl, e)
 
 module _ (rooms : Rooms) (settings : Settings) (xs ys : List ℤ) (fs : List ℕ) (k : ℕ) (c : Given) where
   surveyed-yes : (first count : ℕ) → judgedFor settings xs ys fs ≡ Judged.Fine → numberedRun (settings .closed) xs ys fs k ≡ Between first count → (s : Survey) →
       surveyOf (rooms .samples) (rooms .breaks) xs ys fs first count (gridOf settings) ≡ s →
-      ofSurvey (half rooms) (penaltyOf settings) c s ≡ Verdict.Yes → Accepted rooms settings xs ys fs k c
+      ofSurvey (half rooms) (penaltyOf settings) c s .verdict ≡ Verdict.Yes → Accepted rooms settings xs ys fs k c
   surveyed-yes first count fine run (Survey.refused n) survey e = absurd (omega (arith, ap isYes e))
   surveyed-yes first count fine run Survey.past survey e = absurd (omega (arith, ap isYes e))
   surveyed-yes first count fine run (Survey.surveyed samples breaks) survey e =
@@ -121,19 +122,19 @@ module _ (rooms : Rooms) (settings : Settings) (xs ys : List ℤ) (fs : List ℕ
       }
 
   run-yes : judgedFor settings xs ys fs ≡ Judged.Fine → (r : Run) → numberedRun (settings .closed) xs ys fs k ≡ r →
-      ofRun (half rooms) settings c (rooms .samples) (rooms .breaks) xs ys fs r ≡ Verdict.Yes → Accepted rooms settings xs ys fs k c
+      ofRun (half rooms) settings c (rooms .samples) (rooms .breaks) xs ys fs r .verdict ≡ Verdict.Yes → Accepted rooms settings xs ys fs k c
   run-yes fine Nothing run e = absurd (omega (arith, ap isYes e))
   run-yes fine (Between first count) run e = surveyed-yes first count fine run _ refl e
 
   judged-yes : (j : Judged) → judgedFor settings xs ys fs ≡ j →
-      afterJudging j (ofRun (half rooms) settings c (rooms .samples) (rooms .breaks) xs ys fs (numberedRun (settings .closed) xs ys fs k)) ≡ Verdict.Yes →
+      afterJudging j (ofRun (half rooms) settings c (rooms .samples) (rooms .breaks) xs ys fs (numberedRun (settings .closed) xs ys fs k)) .verdict ≡ Verdict.Yes →
       Accepted rooms settings xs ys fs k c
   judged-yes (Judged.Refused n) fine e = absurd (omega (arith, ap isYes e))
   judged-yes Judged.Fine fine e = run-yes fine _ refl e
 
 -- yes exactly then
 pub accepts-exactly : (xs ys : List ℤ) (fs : List ℕ) (settings : Settings) (k : ℕ) (c : Given) (w : Work) →
-    (wholeOf (inputs xs ys fs) settings k c w ≡ Verdict.Yes) ↔ Accepted (roomsOf w) settings xs ys fs k c
+    (wholeOf (inputs xs ys fs) settings k c w .verdict ≡ Verdict.Yes) ↔ Accepted (roomsOf w) settings xs ys fs k c
 unfolding checkOf
 accepts-exactly xs ys fs settings k c w = (
   judged-yes (roomsOf w) settings xs ys fs k c _ refl,

@@ -10,26 +10,31 @@ use Rattle.edition.specs.Scratch.{Scratch, roomsOf, cleared}
 use Rattle.checks.specs.Checks.{Given, checkOf}
 use Rattle.checks.specs.declared.Verdict as D
 use Rattle.checks.specs.declared.Verdict.the-variants as Verdict
+use Rattle.checks.specs.declared.Ruling.{Ruling}
 
--- document 01's values for each answer: its number, which is 0 where nothing is refused, and whether the chain is accepted
+-- document 01's values for each answer: its number, which is 0 where nothing is refused, whether the chain is accepted, and document 02's lookups that fell
 pub record Report : Type 0 where
   pub number : ℕ
   pub accepted : Bool
+  pub fallen : ℕ
 
-abbrev pub report : D.Verdict → Report
-report (Verdict.Refused k) = record { number = k; accepted = false }
-report Verdict.Yes = record { number = 0; accepted = true }
-report Verdict.No = record { number = 0; accepted = false }
+abbrev pub reportOf : D.Verdict → ℕ → Report
+reportOf (Verdict.Refused k) n = record { number = k; accepted = false; fallen = 0 }
+reportOf Verdict.Yes n = record { number = 0; accepted = true; fallen = n }
+reportOf Verdict.No n = record { number = 0; accepted = false; fallen = n }
+
+abbrev pub report : Ruling → Report
+report r = reportOf (r .verdict) (r .fallen)
 
 -- a chain as it is lent, to be read
 abbrev pub given : Lent ℕ → Lent ℕ → Lent Float → Lent Float → Float → Given
 given starts ends cxs cys score = record { starts = before starts; ends = before ends; xs = before cxs; ys = before cys; score = score }
 
 -- a chain for run k of a contour
-abbrev pub wholeOf : Inputs → Settings → ℕ → Given → Work → D.Verdict
+abbrev pub wholeOf : Inputs → Settings → ℕ → Given → Work → Ruling
 wholeOf (inputs xs ys fs) settings k c w = checkOf (roomsOf w) settings xs ys fs c k
 
 -- the entry's contract: what it hands back, and what it leaves in the scratch rows w
-pub record Promise (i : Inputs) (settings : Settings) (k : ℕ) (c : Given) (w : Scratch) (r : D.Verdict) : Type 0 where
-  pub verdict : r ≡ wholeOf i settings k c (w .entry)
+pub record Promise (i : Inputs) (settings : Settings) (k : ℕ) (c : Given) (w : Scratch) (r : Ruling) : Type 0 where
+  pub ruling : r ≡ wholeOf i settings k c (w .entry)
   pub left : w .exit ≡ cleared (w .entry)

@@ -7,14 +7,14 @@ use runs::Run;
 use settings::Settings;
 use survey::Surveyed;
 ghost use mathlib.Core.Path.{_≡_};
-ghost use Prim.Native.Nat.{_<_};
+ghost use Prim.Native.Nat.{_<_, _≤_};
 ghost use lib.ListN.{length};
 ghost use Rattle.rows.specs.Lent.{before, room, contour};
 ghost use Rattle.runs.specs.Runs.{numberedRun};
 ghost use Rattle.settings.specs.Settings.{gridOf, penaltyOf, judgedFor};
 ghost use Rattle.survey.specs.Survey.{surveyed, surveyOf};
 ghost use Rattle.edition.specs.Scratch.{scratch};
-ghost use Rattle.checks.specs.Checks.{ofSurvey, ofRun, afterJudging};
+ghost use Rattle.checks.specs.Checks.{refusing, verdictOf, ofSurvey, ofRun, afterJudging};
 ghost use Rattle.checks.specs.Entry.{given, Promise};
 
 pub enum Verdict {
@@ -22,6 +22,31 @@ pub enum Verdict {
     Refused(u8),
     Yes,
     No,
+}
+
+// The verdict, and the lookups that fell in measuring the chain; none where it is refused.
+pub struct Ruling {
+    pub verdict: Verdict,
+    pub fallen: usize,
+}
+
+fn refused(k: u8) -> Ruling
+    ensures { λ r. ⌜ r ≡ refusing k ⌝ }
+{
+    Ruling {
+        verdict: Verdict::Refused(k),
+        fallen: 0,
+    }
+}
+
+fn verdict_of(c: Checked) -> Verdict
+    ensures { λ r. ⌜ r ≡ verdictOf c ⌝ }
+{
+    match c {
+        Checked::Last => Verdict::Refused(8),
+        Checked::Yes => Verdict::Yes,
+        Checked::No => Verdict::No,
+    }
 }
 
 // A surveyed run; half: half the shortest answer row, a room for breaks.
@@ -35,15 +60,15 @@ fn check_surveyed(
     cxs: &[f64],
     cys: &[f64],
     score: f64,
-) -> Verdict
-    requires { ⌜ 0 < length (now breaks) ⌝ }
+) -> Ruling
+    requires { ⌜ (0 < length (now breaks)) × (length (now breaks) ≤ 2048) ⌝ }
     ensures { λ r. ⌜ r ≡ ofSurvey half (penaltyOf settings) (given starts ends cxs cys score)
         (surveyed (before samples) (before breaks)) ⌝ }
 {
     if half < breaks.len() {
-        return Verdict::Refused(7);
+        return refused(7);
     }
-    match chain::check(
+    let c = chain::check(
         samples,
         breaks,
         starts,
@@ -52,10 +77,11 @@ fn check_surveyed(
         cys,
         score,
         settings.per_piece(),
-    ) {
-        Checked::Last => Verdict::Refused(8),
-        Checked::Yes => Verdict::Yes,
-        Checked::No => Verdict::No,
+    );
+    let said = c.said;
+    Ruling {
+        verdict: verdict_of(said),
+        fallen: c.fallen,
     }
 }
 
@@ -75,7 +101,7 @@ fn check_run(
     settings: Settings,
     samples: &mut [[f64; 4]],
     breaks: &mut [[f64; 6]],
-) -> Verdict
+) -> Ruling
     ensures { λ r. ⌜ r ≡ ofSurvey half (penaltyOf settings) (given starts ends cxs cys score)
         (surveyOf (room samples) (room breaks) (before xs) (before ys) (before flags) first count (gridOf settings)) ⌝ }
 {
@@ -89,8 +115,8 @@ fn check_run(
         samples,
         breaks,
     ) {
-        Surveyed::Refused(n) => Verdict::Refused(n),
-        Surveyed::Past => Verdict::Refused(8),
+        Surveyed::Refused(n) => refused(n),
+        Surveyed::Past => refused(8),
         Surveyed::Rows(n, m) => {
             check_surveyed(
                 &samples[..n],
@@ -122,12 +148,12 @@ fn check_fine(
     settings: Settings,
     samples: &mut [[f64; 4]],
     breaks: &mut [[f64; 6]],
-) -> Verdict
+) -> Ruling
     ensures { λ r. ⌜ r ≡ ofRun half settings (given starts ends cxs cys score)
         (room samples) (room breaks) (before xs) (before ys) (before flags) (numberedRun (settings .closed) (before xs) (before ys) (before flags) k) ⌝ }
 {
     match runs::numbered_run(xs, ys, flags, settings.closed, k) {
-        Run::Nothing => Verdict::Refused(10),
+        Run::Nothing => refused(10),
         Run::Between(first, count) => {
             check_run(
                 xs,
@@ -163,12 +189,12 @@ fn check_judged(
     settings: Settings,
     samples: &mut [[f64; 4]],
     breaks: &mut [[f64; 6]],
-) -> Verdict
+) -> Ruling
     ensures { λ r. ⌜ r ≡ afterJudging (judgedFor settings (before xs) (before ys) (before flags)) (ofRun half settings (given starts ends cxs cys score)
         (room samples) (room breaks) (before xs) (before ys) (before flags) (numberedRun (settings .closed) (before xs) (before ys) (before flags) k)) ⌝ }
 {
     match settings.judge(xs, ys, flags) {
-        Judged::Refused(n) => Verdict::Refused(n),
+        Judged::Refused(n) => refused(n),
         Judged::Fine => {
             check_fine(
                 xs,
@@ -204,7 +230,7 @@ pub fn check_chain(
     breaks: &mut [[f64; 6]],
     answers: &mut [[f64; 3]],
     links: &mut [u32],
-) -> Verdict
+) -> Ruling
     ensures { λ r. ⌜ Promise (contour xs ys flags) settings k (given starts ends cxs cys score) (scratch samples breaks answers links) r ⌝ }
 {
     let half = rows::least(answers.len(), links.len()) / 2;

@@ -14,6 +14,7 @@ use Rattle.contour.specs.Writing.{Writing, so, over, unlessOver, written, Wrote
 use Rattle.contour.specs.Implied.{finished}
 use Rattle.contour.specs.Laws.{holds-count}
 use Rattle.contour.specs.Output.{Outputs, outputs, given}
+use Rattle.optimize.specs.declared.Tally.{Tally}
 use Rattle.assembly.specs.Assembly.{State}
 use Rattle.assembly.specs.Stands.{Stands, stops, ends, goes}
 use Rattle.assembly.specs.declared.Crunching as C
@@ -32,7 +33,7 @@ pub over-gives : (closed : Bool) (row : Points) {row' : Points} (p : Progress) �
 over-gives closed row p h = rw h (no refl)
 
 pub all-gives : (closed : Bool) (row : Points) (p : Progress) → p .w .over ≡ false → {row' : Points} {n : ℕ} → Holds row' n (finished closed (take (p .w .count) row)) →
-    Gives row' (outcomeBy closed row p) (Crunched.Points n (p .pairs))
+    Gives row' (outcomeBy closed row p) (Crunched.Points n (p .tally))
 all-gives closed row p h held = rw h (yes refl held)
 
 -- ---- `finish`, whose answer is one of three
@@ -47,31 +48,31 @@ counted-by row e h = subst (Counted row) e h
 
 pub counted : {room : ℕ} {row : Points} {s : State} {c : C.Crunching} → Stands room row s c → Counted row c
 counted {row = row} (stops e) = subst (Counted row) (sym e) tt
-counted {row = row} (ends e wrote pairs) = subst (Counted row) (sym e) (wrote .within)
-counted {row = row} (goes e wrote pairs) = subst (Counted row) (sym e) (wrote .within)
+counted {row = row} (ends e wrote tally) = subst (Counted row) (sym e) (wrote .within)
+counted {row = row} (goes e wrote tally) = subst (Counted row) (sym e) (wrote .within)
 
 module _ (closed : Bool) where
-  abbrev byWriting : ℕ → Writing → Outcome
-  byWriting pairs (so ps) = crunched (finished closed ps) pairs
-  byWriting pairs over = refused 9
+  abbrev byWriting : Tally → Writing → Outcome
+  byWriting tally (so ps) = crunched (finished closed ps) tally
+  byWriting tally over = refused 9
 
-  by-writing : (b : Bool) (ps : Points) (pairs : ℕ) → overIf closed b ps pairs ≡ byWriting pairs (unlessOver b ps)
-  by-writing true ps pairs = refl
-  by-writing false ps pairs = refl
+  by-writing : (b : Bool) (ps : Points) (tally : Tally) → overIf closed b ps tally ≡ byWriting tally (unlessOver b ps)
+  by-writing true ps tally = refl
+  by-writing false ps tally = refl
 
-  written-is : (room : ℕ) {row : Points} {p : Progress} (ps : Points) (n : ℕ) → Wrote row (p .w) (written room ps) → p .pairs ≡ n →
-      outcomeBy closed row p ≡ S.written closed room ps n
+  written-is : (room : ℕ) {row : Points} {p : Progress} (ps : Points) (t : Tally) → Wrote row (p .w) (written room ps) → p .tally ≡ t →
+      outcomeBy closed row p ≡ S.written closed room ps t
   unfolding written
-  written-is room {row} {p} ps n wrote pairs =
-      by-writing (p .w .over) (take (p .w .count) row) (p .pairs)
-      ∙ ap (byWriting (p .pairs)) (wrote .is)
-      ∙ sym (by-writing (ltb room (length ps)) ps (p .pairs))
-      ∙ ap (overIf closed (ltb room (length ps)) ps) pairs
+  written-is room {row} {p} ps t wrote tally =
+      by-writing (p .w .over) (take (p .w .count) row) (p .tally)
+      ∙ ap (byWriting (p .tally)) (wrote .is)
+      ∙ sym (by-writing (ltb room (length ps)) ps (p .tally))
+      ∙ ap (overIf closed (ltb room (length ps)) ps) tally
 
   outcome-is : {room : ℕ} {row : Points} {s : State} {c : C.Crunching} → Stands room row s c → outcomeIn closed row c ≡ outcomeOf closed room s
   outcome-is {row = row} (stops e) = ap (outcomeIn closed row) e
-  outcome-is {room} {row} (ends {ps = ps} {n = n} e wrote pairs) = ap (outcomeIn closed row) e ∙ written-is room ps n wrote pairs
-  outcome-is {room} {row} (goes {ps = ps} {n = n} e wrote pairs) = ap (outcomeIn closed row) e ∙ written-is room ps n wrote pairs
+  outcome-is {room} {row} (ends {ps = ps} {t = t} e wrote tally) = ap (outcomeIn closed row) e ∙ written-is room ps t wrote tally
+  outcome-is {room} {row} (goes {ps = ps} {t = t} e wrote tally) = ap (outcomeIn closed row) e ∙ written-is room ps t wrote tally
 
   pub gives-outcome : {room : ℕ} {row row' : Points} {s : State} {c : C.Crunching} {r : D.Crunched} → Stands room row s c →
       Gives row' (outcomeIn closed row c) r → Gives row' (outcomeOf closed room s) r
@@ -82,10 +83,10 @@ module _ (closed : Bool) where
 pub refused-out : (row : Points) (o : Outputs) {c : D.Crunched} {k : ℕ} → c ≡ Crunched.Refused k → o ≡ copied c row o
 refused-out row o e = rw e refl
 
-pub points-out : (row : Points) (o : Outputs) {o' : Outputs} {c : D.Crunched} {n p : ℕ} → c ≡ Crunched.Points n p → o' ≡ given (take n row) o → o' ≡ copied c row o
+pub points-out : (row : Points) (o : Outputs) {o' : Outputs} {c : D.Crunched} {n : ℕ} {t : Tally} → c ≡ Crunched.Points n t → o' ≡ given (take n row) o → o' ≡ copied c row o
 points-out row o e h = rw e h
 
-pub fits-out : (row : Points) (ox oy : List ℤ) (of : List ℕ) {c : D.Crunched} {n p : ℕ} → c ≡ Crunched.Points n p → Fits row (outputs ox oy of) c →
+pub fits-out : (row : Points) (ox oy : List ℤ) (of : List ℕ) {c : D.Crunched} {n : ℕ} {t : Tally} → c ≡ Crunched.Points n t → Fits row (outputs ox oy of) c →
     (n ≤ length row) × (n ≤ length ox) × (n ≤ length oy) × (n ≤ length of)
 fits-out row ox oy of e h = subst (Fits row (outputs ox oy of)) e h
 
@@ -103,7 +104,7 @@ module _ {sub : Points} (rest : Points) where
 
   pub gives-answer : {x : Outcome} {r : D.Crunched} → Gives sub x r → r ≡ answerOf x
   gives-answer (no e) = e
-  gives-answer (yes {n = n} {p = p} e h) = e ∙ ap (λ (k : ℕ). Crunched.Points k p) (sym (holds-count h))
+  gives-answer (yes {n = n} {t = t} e h) = e ∙ ap (λ (k : ℕ). Crunched.Points k t) (sym (holds-count h))
 
   pub gives-outs : {x : Outcome} {r : D.Crunched} (o : Outputs) → Gives sub x r → copied r (sub ++ rest) o ≡ outputsOf x o
   gives-outs o (no e) = rw e refl

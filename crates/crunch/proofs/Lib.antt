@@ -2,3 +2,4 @@
 pub mod End
 pub mod Whole
 pub mod Cause
+pub mod Uncounted

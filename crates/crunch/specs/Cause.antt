@@ -11,6 +11,7 @@ use Rattle.settings.specs.declared.Settings.{Settings}
 use Rattle.contour.specs.Points.{Points}
 use Rattle.runs.specs.Runs.{Span, runsOf, isCopied}
 use Rattle.runs.specs.declared.Run.the-variants.{Between}
+use Rattle.optimize.specs.declared.Tally.{Tally}
 use Rattle.edition.specs.Causes.{Unanswered}
 use Rattle.edition.specs.Edition.{Rooms}
 use Rattle.edition.specs.Edition as Edition
@@ -36,18 +37,18 @@ module _ (rooms : Rooms) (settings : Settings) (xs ys : List ℤ) (fs : List ℕ
     later : {r : Span} {rs : List Span} → (Refused r → ⊥) → Stuck rs → Stuck (r ∷ rs)
 
   -- the work ends with the contour itself, after so many pairs
-  abbrev pub LeftUnchanged : ℕ → Type 0
-  LeftUnchanged pairs = crunchRuns rooms settings xs ys fs ≡ ended (itself rooms settings xs ys fs) pairs
+  abbrev pub LeftUnchanged : Tally → Type 0
+  LeftUnchanged tally = crunchRuns rooms settings xs ys fs ≡ ended (itself rooms settings xs ys fs) tally
 
   -- work that ends with any points ends with these, and they are what comes of a contour that is not refused 1 to 5
   abbrev pub EndsUnchanged : Type 0
-  EndsUnchanged = (ps : Points) (pairs : ℕ) → crunchRuns rooms settings xs ys fs ≡ ended ps pairs → LeftUnchanged pairs
+  EndsUnchanged = (ps : Points) (tally : Tally) → crunchRuns rooms settings xs ys fs ≡ ended ps tally → LeftUnchanged tally
 
   abbrev pub ComesOut : Type 0
   ComesOut =
-      (room pairs : ℕ) → judgedFor settings xs ys fs ≡ Judged.Fine → LeftUnchanged pairs →
-      crunchOf rooms room settings xs ys fs ≡ written (settings .closed) room (itself rooms settings xs ys fs) pairs
+      (room : ℕ) (tally : Tally) → judgedFor settings xs ys fs ≡ Judged.Fine → LeftUnchanged tally →
+      crunchOf rooms room settings xs ys fs ≡ written (settings .closed) room (itself rooms settings xs ys fs) tally
 
   -- in the crate's mode
   abbrev pub OneCause : Type 0
-  OneCause = settings .closed ≡ false → Sixteen xs → Sixteen ys → ((pairs : ℕ) × LeftUnchanged pairs) ↔ Stuck (runsOf false xs ys fs)
+  OneCause = settings .closed ≡ false → Sixteen xs → Sixteen ys → ((tally : Tally) × LeftUnchanged tally) ↔ Stuck (runsOf false xs ys fs)

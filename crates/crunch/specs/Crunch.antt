@@ -9,31 +9,32 @@ use Rattle.refusals.specs.declared.Judged.{Judged}
 use Rattle.refusals.specs.declared.Judged.the-variants as Judged
 use Rattle.settings.specs.Settings.{judgedFor}
 use Rattle.settings.specs.declared.Settings.{Settings}
+use Rattle.optimize.specs.declared.Tally.{Tally}
 use Rattle.edition.specs.Edition.{Rooms}
 use Rattle.contour.specs.Points.{Points}
 use Rattle.contour.specs.Implied.{finished}
 use Rattle.assembly.specs.Assembly.{State, crunchRuns}
 use Rattle.assembly.specs.Assembly as State
 
--- the number of a refusal; or the points out, and the pairs tried
+-- the number of a refusal; or the points out, the pairs tried and the lookups that fell in them
 pub data Outcome : Type 0 where
   refused : ℕ → Outcome
-  crunched : Points → ℕ → Outcome
+  crunched : Points → Tally → Outcome
 
 -- ---- the end: refusal 9 last, counted before implied points are dropped
 
 module _ (closed : Bool) where
-  abbrev pub overIf : Bool → Points → ℕ → Outcome
-  overIf true ps pairs = refused 9
-  overIf false ps pairs = crunched (finished closed ps) pairs
+  abbrev pub overIf : Bool → Points → Tally → Outcome
+  overIf true ps tally = refused 9
+  overIf false ps tally = crunched (finished closed ps) tally
 
-  abbrev pub written : ℕ → Points → ℕ → Outcome
-  written room ps pairs = overIf (ltb room (length ps)) ps pairs
+  abbrev pub written : ℕ → Points → Tally → Outcome
+  written room ps tally = overIf (ltb room (length ps)) ps tally
 
   abbrev pub outcomeOf : ℕ → State → Outcome
   outcomeOf room (State.refused k) = refused k
-  outcomeOf room (State.ended ps pairs) = written room ps pairs
-  outcomeOf room (State.going ps pairs) = written room ps pairs
+  outcomeOf room (State.ended ps tally) = written room ps tally
+  outcomeOf room (State.going ps tally) = written room ps tally
 
 -- ---- the whole: refusals 1 to 5, and then 16, first
 

@@ -16,24 +16,26 @@ use Rattle.crunch.specs.Crunch.{Outcome, refused, crunched, crunchOf}
 use Rattle.crunch.specs.declared.Crunched as C
 use Rattle.crunch.specs.declared.Crunched.the-variants as Crunched
 
--- document 01's values for each answer: its number, which is 0 where nothing is refused, the points written and the pairs tried
+-- document 01's values for each answer: its number, which is 0 where nothing is refused, the points written and the pairs tried; and
+-- document 02's lookups that fell
 pub record Report : Type 0 where
   pub number : ℕ
   pub points : ℕ
   pub pairs : ℕ
+  pub fallen : ℕ
 
 abbrev pub report : C.Crunched → Report
-report (Crunched.Refused k) = record { number = k; points = 0; pairs = 0 }
-report (Crunched.Points n p) = record { number = 0; points = n; pairs = p }
+report (Crunched.Refused k) = record { number = k; points = 0; pairs = 0; fallen = 0 }
+report (Crunched.Points n t) = record { number = 0; points = n; pairs = t .pairs; fallen = t .fallen }
 
 abbrev pub answerOf : Outcome → C.Crunched
 answerOf (refused k) = Crunched.Refused k
-answerOf (crunched ps p) = Crunched.Points (length ps) p
+answerOf (crunched ps t) = Crunched.Points (length ps) t
 
 -- a refusal writes no point; success writes the first points and no others
 abbrev pub outputsOf : Outcome → Outputs → Outputs
 outputsOf (refused k) o = o
-outputsOf (crunched ps p) o = given ps o
+outputsOf (crunched ps t) o = given ps o
 
 -- ---- the rows
 

@@ -18,6 +18,7 @@ use Rattle.runs.specs.declared.Run.the-variants.{Between}
 use Rattle.refusals.specs.Refusals.{judged}
 use Rattle.settings.specs.Settings.{gridOf, penaltyOf, thenSettings, judgedFor}
 use Rattle.settings.specs.declared.Settings.{Settings}
+use Rattle.optimize.specs.declared.Tally.{Tally}
 use Rattle.edition.specs.Edition.{Result, Rooms}
 use Rattle.edition.specs.Edition as Edition
 use Rattle.edition.specs.Laws.{Within, work-same}
@@ -35,14 +36,14 @@ abbrev pub pointsIn : Outcome → ℕ
 pointsIn x = report (answerOf x) .points
 
 module _ (closed : Bool) where
-  over-within : (room : ℕ) (ps : Points) (pairs : ℕ) (b : Bool) → ltb room (length ps) ≡ b → pointsIn (overIf closed b ps pairs) ≤ room
-  over-within room ps pairs true e = omega arith
-  over-within room ps pairs false e = le-trans (finished-shorter closed ps) (ltb-false room (length ps) e)
+  over-within : (room : ℕ) (ps : Points) (tally : Tally) (b : Bool) → ltb room (length ps) ≡ b → pointsIn (overIf closed b ps tally) ≤ room
+  over-within room ps tally true e = omega arith
+  over-within room ps tally false e = le-trans (finished-shorter closed ps) (ltb-false room (length ps) e)
 
   state-within : (room : ℕ) (s : State) → pointsIn (outcomeOf closed room s) ≤ room
   state-within room (State.refused k) = omega arith
-  state-within room (ended ps pairs) = over-within room ps pairs (ltb room (length ps)) refl
-  state-within room (going ps pairs) = over-within room ps pairs (ltb room (length ps)) refl
+  state-within room (ended ps tally) = over-within room ps tally (ltb room (length ps)) refl
+  state-within room (going ps tally) = over-within room ps tally (ltb room (length ps)) refl
 
 judged-within : (room : ℕ) (j : Judged) (x : Outcome) → pointsIn x ≤ room → pointsIn (afterJudging j x) ≤ room
 judged-within room (Judged.Refused k) x few = omega arith
@@ -77,33 +78,33 @@ forRoom k = eqb k 6 || eqb k 7 || eqb k 9
 -- an outcome that is refused so
 abbrev pub short : Outcome → Bool
 short (Outcome.refused k) = forRoom k
-short (crunched ps pairs) = false
+short (crunched ps tally) = false
 
 abbrev shortState : State → Bool
 shortState (State.refused k) = forRoom k
-shortState (ended ps pairs) = false
-shortState (going ps pairs) = false
+shortState (ended ps tally) = false
+shortState (going ps tally) = false
 
 module _ (rooms rooms' : Rooms) (within : Within rooms rooms') (settings : Settings) (xs ys : List ℤ) (fs : List ℕ) where
-  not-short : (ps : Points) (pairs : ℕ) (x : Result) → shortState (added (itself rooms settings xs ys fs) x ps pairs) ≡ false →
+  not-short : (ps : Points) (tally : Tally) (x : Result) → shortState (added (itself rooms settings xs ys fs) x ps tally) ≡ false →
       (k : ℕ) → forRoom k ≡ true → x ≡ Edition.refused k → ⊥
-  not-short ps pairs x e k lacking h = let z : _≡_ {A = ℕ} 0 1 = cc in omega arith
+  not-short ps tally x e k lacking h = let z : _≡_ {A = ℕ} 0 1 = cc in omega arith
 
-  run-same : (copied : Bool) (r : Span) (ps : Points) (pairs : ℕ) → shortState (runIf rooms settings xs ys fs copied r ps pairs) ≡ false →
-      runIf rooms' settings xs ys fs copied r ps pairs ≡ runIf rooms settings xs ys fs copied r ps pairs
-  run-same true r ps pairs e = refl
-  run-same false r ps pairs e =
-      let fits = not-short ps pairs (resultOf rooms settings xs ys fs r) e in
-      ap (λ (x : Result). added (itself rooms settings xs ys fs) x ps pairs)
+  run-same : (copied : Bool) (r : Span) (ps : Points) (tally : Tally) → shortState (runIf rooms settings xs ys fs copied r ps tally) ≡ false →
+      runIf rooms' settings xs ys fs copied r ps tally ≡ runIf rooms settings xs ys fs copied r ps tally
+  run-same true r ps tally e = refl
+  run-same false r ps tally e =
+      let fits = not-short ps tally (resultOf rooms settings xs ys fs r) e in
+      ap (λ (x : Result). added (itself rooms settings xs ys fs) x ps tally)
       (work-same rooms rooms' within (gridOf settings) (penaltyOf settings) xs ys fs (r .first) (r .count) (fits 6 refl) (fits 7 refl))
 
   onward-same : (r : Span) (s s' : State) → (shortState s ≡ false → s' ≡ s) → shortState (onward rooms settings xs ys fs r s) ≡ false →
       onward rooms' settings xs ys fs r s' ≡ onward rooms settings xs ys fs r s
   unfolding afterRun
   onward-same r (State.refused k) s' same e = ap (onward rooms' settings xs ys fs r) (same e)
-  onward-same r (ended ps pairs) s' same e = ap (onward rooms' settings xs ys fs r) (same refl)
-  onward-same r (going ps pairs) s' same e =
-      ap (onward rooms' settings xs ys fs r) (same refl) ∙ run-same (isCopied xs ys fs (Between (r .first) (r .count))) r ps pairs e
+  onward-same r (ended ps tally) s' same e = ap (onward rooms' settings xs ys fs r) (same refl)
+  onward-same r (going ps tally) s' same e =
+      ap (onward rooms' settings xs ys fs r) (same refl) ∙ run-same (isCopied xs ys fs (Between (r .first) (r .count))) r ps tally e
 
   all-same : (rs : List Span) (s s' : State) → (shortState s ≡ false → s' ≡ s) → shortState (crunchAll rooms settings xs ys fs rs s) ≡ false →
       crunchAll rooms' settings xs ys fs rs s' ≡ crunchAll rooms settings xs ys fs rs s
@@ -114,8 +115,8 @@ module _ (rooms rooms' : Rooms) (within : Within rooms rooms') (settings : Setti
   -- closing up refuses nothing
   closed-same : (p : List ℤ) (x x' : State) → (shortState x ≡ false → x' ≡ x) → shortState (closedUp p x) ≡ false → closedUp p x' ≡ closedUp p x
   closed-same p (State.refused k) x' same e = ap (closedUp p) (same e)
-  closed-same p (ended ps pairs) x' same e = ap (closedUp p) (same refl)
-  closed-same p (going ps pairs) x' same e = ap (closedUp p) (same refl)
+  closed-same p (ended ps tally) x' same e = ap (closedUp p) (same refl)
+  closed-same p (going ps tally) x' same e = ap (closedUp p) (same refl)
 
   round-same : (stops : List ℕ) → shortState (crunchRound rooms settings xs ys fs stops) ≡ false →
       crunchRound rooms' settings xs ys fs stops ≡ crunchRound rooms settings xs ys fs stops
@@ -132,17 +133,17 @@ module _ (rooms rooms' : Rooms) (within : Within rooms rooms') (settings : Setti
   runs-same e = mode-same (settings .closed) (stopsOf (settings .closed) xs ys fs) e
 
 module _ (closed : Bool) (room room' : ℕ) (more : room ≤ room') where
-  over-same : (ps : Points) (pairs : ℕ) (over : Bool) → ltb room (length ps) ≡ over → short (overIf closed over ps pairs) ≡ false →
-      overIf closed (ltb room' (length ps)) ps pairs ≡ overIf closed over ps pairs
-  over-same ps pairs true t e = let z : _≡_ {A = ℕ} 0 1 = cc in absurd (omega arith)
-  over-same ps pairs false t e =
+  over-same : (ps : Points) (tally : Tally) (over : Bool) → ltb room (length ps) ≡ over → short (overIf closed over ps tally) ≡ false →
+      overIf closed (ltb room' (length ps)) ps tally ≡ overIf closed over ps tally
+  over-same ps tally true t e = let z : _≡_ {A = ℕ} 0 1 = cc in absurd (omega arith)
+  over-same ps tally false t e =
       let few : length ps ≤ room = ltb-false room (length ps) t in
       rw (le-ltb room' (length ps) (omega arith)) refl
 
   outcome-same : (s s' : State) → (shortState s ≡ false → s' ≡ s) → short (outcomeOf closed room s) ≡ false → outcomeOf closed room' s' ≡ outcomeOf closed room s
   outcome-same (State.refused k) s' same e = ap (outcomeOf closed room') (same e)
-  outcome-same (ended ps pairs) s' same e = ap (outcomeOf closed room') (same refl) ∙ over-same ps pairs _ refl e
-  outcome-same (going ps pairs) s' same e = ap (outcomeOf closed room') (same refl) ∙ over-same ps pairs _ refl e
+  outcome-same (ended ps tally) s' same e = ap (outcomeOf closed room') (same refl) ∙ over-same ps tally _ refl e
+  outcome-same (going ps tally) s' same e = ap (outcomeOf closed room') (same refl) ∙ over-same ps tally _ refl e
 
 judged-same : (j : Judged) (x x' : Outcome) → (short x ≡ false → x' ≡ x) → short (afterJudging j x) ≡ false → afterJudging j x' ≡ afterJudging j x
 judged-same (Judged.Refused k) x x' same e = refl

@@ -5,3 +5,4 @@ pub mod Steps
 pub mod Determine
 pub mod Laws
 pub mod Cause
+pub mod Uncounted

@@ -13,7 +13,7 @@ use Rattle.crunch.specs.declared.Crunched.the-variants as Crunched
 -- the points that an answer counts, in the first places of the output rows
 abbrev pub copied : D.Crunched → Points → Outputs → Outputs
 copied (Crunched.Refused k) row o = o
-copied (Crunched.Points n p) row o = given (take n row) o
+copied (Crunched.Points n t) row o = given (take n row) o
 
 -- the answer and the output rows, before the scratch rows are cleared
 pub record Answered (i : Inputs) (settings : Settings) (t : LentRows) (r : D.Crunched) : Type 0 where

@@ -3,6 +3,7 @@
 // points, and copying out.
 use assembly::Crunching;
 use assembly::Progress;
+use optimize::Tally;
 use refusals::Judged;
 use settings::Settings;
 ghost use mathlib.Core.Path.{_≡_};
@@ -19,8 +20,8 @@ ghost use Rattle.crunch.specs.Steps.{copied, Answered};
 pub enum Crunched {
     // the number of a refusal
     Refused(u8),
-    // points written, and pairs tried
-    Points(usize, usize),
+    // points written, the pairs tried and the lookups that fell in them
+    Points(usize, Tally),
 }
 
 // Reversed in the crate's mode, without implied points; or there were more points than the room.
@@ -29,11 +30,12 @@ fn finish_points(p: Progress, closed: bool, points: &mut [[i16; 3]]) -> Crunched
     ensures { λ r. ⌜ Gives (after points) (outcomeBy closed (before points) p) r ⌝ }
 {
     let w = p.w;
+    let tally = p.tally;
     if w.over {
         return Crunched::Refused(9);
     }
     let n = contour::finish(points, w, closed);
-    Crunched::Points(n, p.pairs)
+    Crunched::Points(n, tally)
 }
 
 // What the work comes to.

@@ -17,13 +17,14 @@ use Rattle.samples.specs.Samples.{thetasOf, quadsOf}
 use Rattle.samples.specs.Samples as Samples
 use Rattle.optimize.specs.Optimize.{Optimised, measureBy}
 use Rattle.optimize.specs.Optimize as O
+use Rattle.optimize.specs.declared.Tally.{Tally}
 use Rattle.optimize.specs.Unchanged.{Ends, refuses, leaves, answers}
 use Rattle.optimize.proofs.Unchanged.{ends, unchanged-by}
 use Rattle.survey.specs.Survey.{Survey, sampleRoom, breakRoom, searched, afterSampling, surveyOf}
 use Rattle.survey.specs.Never.{Sixteen, Finds}
 use Rattle.survey.proofs.Never.{finds-exactly}
 use Rattle.edition.specs.Edition.{Result, refused, unchanged, solved, answerRoom, resultOf, unlessShort, editionOf, afterSurvey, Rooms, workOf}
-use Rattle.edition.specs.Causes.{SampledRun, leastRoom, optimised, Unanswered, Cause, long, many, measuring, unanswered, answered, HasCause, SevenExactly, EightExactly, UnchangedExactly}
+use Rattle.edition.specs.Causes.{SampledRun, leastRoom, optimised, fell, Left, Cause, long, many, measuring, unanswered, answered, HasCause, SevenExactly, EightExactly, UnchangedExactly}
 
 module _ (rooms : Rooms) (g : Grid) (penalty : Float) (xs ys : List ℤ) (fs : List ℕ) (first count : ℕ) (sx : Sixteen xs) (sy : Sixteen ys) where
   abbrev work : Result
@@ -73,18 +74,18 @@ module _ (rooms : Rooms) (g : Grid) (penalty : Float) (xs ys : List ℤ) (fs : L
         by (yes more) = short-work more
         by (no fits) =
             searched-work (omega arith)
-            ∙ ap (λ (t : Bool). unlessShort t (resultOf (optimised rooms g penalty xs ys fs first count r))) (lt-ltb (answerRoom (rooms .answers) (rooms .links)) (length (r .row)) (omega arith))
+            ∙ ap (λ (t : Bool). unlessShort t (resultOf (fell rooms g penalty xs ys fs first count r) (optimised rooms g penalty xs ys fs first count r))) (lt-ltb (answerRoom (rooms .answers) (rooms .links)) (length (r .row)) (omega arith))
 
-    fits-work : length (r .row) ≤ leastRoom rooms → work ≡ resultOf (optimised rooms g penalty xs ys fs first count r)
+    fits-work : length (r .row) ≤ leastRoom rooms → work ≡ resultOf (fell rooms g penalty xs ys fs first count r) (optimised rooms g penalty xs ys fs first count r)
     unfolding editionOf
     fits-work h =
         searched-work (omega arith)
-        ∙ ap (λ (t : Bool). unlessShort t (resultOf (optimised rooms g penalty xs ys fs first count r))) (le-ltb (answerRoom (rooms .answers) (rooms .links)) (length (r .row)) (omega arith))
+        ∙ ap (λ (t : Bool). unlessShort t (resultOf (fell rooms g penalty xs ys fs first count r) (optimised rooms g penalty xs ys fs first count r))) (le-ltb (answerRoom (rooms .answers) (rooms .links)) (length (r .row)) (omega arith))
 
   -- ---- the cause
 
   optimised-cause : (r : Runs) → length (r .row) ≤ leastRoom rooms → (o : Optimised) → optimised rooms g penalty xs ys fs first count r ≡ o →
-      Ends (measureBy (r .samples) (r .row)) (r .row) penalty o → Cause rooms g penalty xs ys fs first count (resultOf o)
+      Ends (measureBy (r .samples) (r .row)) (r .row) penalty o → Cause rooms g penalty xs ys fs first count (resultOf (fell rooms g penalty xs ys fs first count r) o)
   optimised-cause r fits o e refuses = measuring r fits e
   optimised-cause r fits o e (leaves n) = unanswered (record { run = r; fits = fits; nothing = n })
   optimised-cause r fits o e (answers a p) = answered r fits a p e
@@ -109,23 +110,23 @@ module _ (rooms : Rooms) (g : Grid) (penalty : Float) (xs ys : List ℤ) (fs : L
 
 abbrev number : Result → ℕ
 number (refused k) = k
-number (unchanged p) = 0
+number (unchanged t) = 0
 number (solved a p) = 0
 
 abbrev left : Result → ℕ
 left (refused k) = 0
-left (unchanged p) = p + 1
+left (unchanged t) = 1
 left (solved a p) = 0
 
-not-seven : (o : Optimised) → resultOf o ≡ refused 7 → ⊥
-not-seven O.refused8 e = omega (arith, ap number e)
-not-seven (O.unchanged p) e = omega (arith, ap number e)
-not-seven (O.solved a p) e = omega (arith, ap number e)
+not-seven : (c : ℕ) (o : Optimised) → resultOf c o ≡ refused 7 → ⊥
+not-seven c O.refused8 e = omega (arith, ap number e)
+not-seven c (O.unchanged p) e = omega (arith, ap number e)
+not-seven c (O.solved a p) e = omega (arith, ap number e)
 
-is-eight : (o : Optimised) → resultOf o ≡ refused 8 → o ≡ O.refused8
-is-eight O.refused8 e = refl
-is-eight (O.unchanged p) e = absurd (omega (arith, ap number e))
-is-eight (O.solved a p) e = absurd (omega (arith, ap number e))
+is-eight : (c : ℕ) (o : Optimised) → resultOf c o ≡ refused 8 → o ≡ O.refused8
+is-eight c O.refused8 e = refl
+is-eight c (O.unchanged p) e = absurd (omega (arith, ap number e))
+is-eight c (O.solved a p) e = absurd (omega (arith, ap number e))
 
 module _ (rooms : Rooms) (g : Grid) (penalty : Float) (xs ys : List ℤ) (fs : List ℕ) (first count : ℕ) where
   pub causes : HasCause rooms g penalty xs ys fs first count
@@ -136,12 +137,12 @@ module _ (rooms : Rooms) (g : Grid) (penalty : Float) (xs ys : List ℤ) (fs : L
     where
       by : workOf rooms g penalty xs ys fs first count ≡ refused 7 → Dec (leastRoom rooms < length (r .row)) → leastRoom rooms < length (r .row)
       by e (yes more) = more
-      by e (no fits) = absurd (not-seven (optimised rooms g penalty xs ys fs first count r) (sym (fits-work rooms g penalty xs ys fs first count sx sy r (omega arith)) ∙ e))
+      by e (no fits) = absurd (not-seven _ (optimised rooms g penalty xs ys fs first count r) (sym (fits-work rooms g penalty xs ys fs first count sx sy r (omega arith)) ∙ e))
 
   pub eight-exactly : EightExactly rooms g penalty xs ys fs first count
   eight-exactly sx sy r = (
     λ e. by e (decLt (leastRoom rooms) (length (r .row))),
-    λ h. fits-work rooms g penalty xs ys fs first count sx sy r (h .0) ∙ ap resultOf (h .1),
+    λ h. fits-work rooms g penalty xs ys fs first count sx sy r (h .0) ∙ ap (resultOf (fell rooms g penalty xs ys fs first count r)) (h .1),
   )
     where
       by : workOf rooms g penalty xs ys fs first count ≡ refused 8 → Dec (leastRoom rooms < length (r .row)) →
@@ -149,21 +150,22 @@ module _ (rooms : Rooms) (g : Grid) (penalty : Float) (xs ys : List ℤ) (fs : L
       by e (yes more) = absurd (omega (arith, ap number (sym (many-work rooms g penalty xs ys fs first count sx sy r more) ∙ e)))
       by e (no fits) =
           let h : length (r .row) ≤ leastRoom rooms = omega arith in
-          (h, is-eight (optimised rooms g penalty xs ys fs first count r) (sym (fits-work rooms g penalty xs ys fs first count sx sy r h) ∙ e))
+          (h, is-eight _ (optimised rooms g penalty xs ys fs first count r) (sym (fits-work rooms g penalty xs ys fs first count sx sy r h) ∙ e))
 
-  left-cause : {x : Result} → Cause rooms g penalty xs ys fs first count x → (pairs : ℕ) → x ≡ unchanged pairs → (pairs ≡ 1) × Unanswered rooms g penalty xs ys fs first count
-  left-cause (long h) pairs e = absurd (omega (arith, ap left e))
-  left-cause (many r h) pairs e = absurd (omega (arith, ap left e))
-  left-cause (measuring r h o) pairs e = absurd (omega (arith, ap left e))
-  left-cause (unanswered u) pairs e = (omega (arith, ap left e), u)
-  left-cause (answered r h a p o) pairs e = absurd (omega (arith, ap left e))
+  left-cause : {x : Result} → Cause rooms g penalty xs ys fs first count x → (t : Tally) → x ≡ unchanged t → Left rooms g penalty xs ys fs first count t
+  left-cause (long h) t e = absurd (omega (arith, ap left e))
+  left-cause (many r h) t e = absurd (omega (arith, ap left e))
+  left-cause (measuring r h o) t e = absurd (omega (arith, ap left e))
+  left-cause (unanswered u) t e = record { cause = u; is = cc }
+  left-cause (answered r h a p o) t e = absurd (omega (arith, ap left e))
 
   pub unchanged-exactly : UnchangedExactly rooms g penalty xs ys fs first count
-  unchanged-exactly sx sy pairs = (
-    left-cause (causes sx sy) pairs,
+  unchanged-exactly sx sy t = (
+    left-cause (causes sx sy) t,
     λ h.
-        let u = h .1 in
+        let u = h .cause in
         let r = u .run in
-        fits-work rooms g penalty xs ys fs first count sx sy r (u .fits) ∙ ap resultOf (unchanged-by (measureBy (r .samples) (r .row)) (r .row) penalty (u .nothing))
-        ∙ ap unchanged (sym (h .0)),
+        fits-work rooms g penalty xs ys fs first count sx sy r (u .fits)
+        ∙ ap (resultOf (fell rooms g penalty xs ys fs first count r)) (unchanged-by (measureBy (r .samples) (r .row)) (r .row) penalty (u .nothing))
+        ∙ ap unchanged (sym (h .is)),
   )

@@ -1,3 +1,4 @@
 -- What the proofs share.
 mod Steps
 pub mod Causes
+pub mod Uncounted

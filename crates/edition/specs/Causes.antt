@@ -18,7 +18,9 @@ use Rattle.optimize.specs.Optimize as O
 use Rattle.optimize.specs.Unchanged.{NoAnswer}
 use Rattle.survey.specs.Survey.{sampleRoom, breakRoom}
 use Rattle.survey.specs.Never.{Sixteen, allBreaks}
-use Rattle.edition.specs.Edition.{Result, refused, unchanged, solved, answerRoom, Rooms, workOf}
+use Rattle.optimize.specs.Tally.{tally}
+use Rattle.optimize.specs.declared.Tally.{Tally}
+use Rattle.edition.specs.Edition.{Result, refused, unchanged, solved, answerRoom, fellIn, Rooms, workOf}
 
 module _ (rooms : Rooms) (g : Grid) (xs ys : List ℤ) (fs : List ℕ) (first count : ℕ) where
   -- a run that is sampled, not given 6, and all its breaks
@@ -37,6 +39,9 @@ module _ (rooms : Rooms) (g : Grid) (penalty : Float) (xs ys : List ℤ) (fs : L
   abbrev pub optimised : SampledRun rooms g xs ys fs first count → Optimised
   optimised r = optimizeOf (measureBy (r .samples) (r .row)) (r .row) penalty
 
+  abbrev pub fell : SampledRun rooms g xs ys fs first count → ℕ
+  fell r = fellIn (r .samples) (r .row) penalty
+
   -- the breaks are no more than the least room, and after the first pair no answer stands at the last of them
   pub record Unanswered : Type 0 where
     pub run : SampledRun rooms g xs ys fs first count
@@ -47,9 +52,14 @@ module _ (rooms : Rooms) (g : Grid) (penalty : Float) (xs ys : List ℤ) (fs : L
     long : thetasOf (sampleRoom (rooms .samples)) (quadsOf xs ys fs first count) ≡ Samples.refused → Cause (refused 6)
     many : (r : SampledRun rooms g xs ys fs first count) → leastRoom rooms < length (r .row) → Cause (refused 7)
     measuring : (r : SampledRun rooms g xs ys fs first count) → length (r .row) ≤ leastRoom rooms → optimised r ≡ O.refused8 → Cause (refused 8)
-    unanswered : Unanswered → Cause (unchanged 1)
+    unanswered : (u : Unanswered) → Cause (unchanged (tally 1 (fell (u .run))))
     answered : (r : SampledRun rooms g xs ys fs first count) → length (r .row) ≤ leastRoom rooms → (a : Answer) (pairs : ℕ) → optimised r ≡ O.solved a pairs →
-        Cause (solved a pairs)
+        Cause (solved a (tally pairs (fell r)))
+
+  -- no answer after one pair, and the lookups that fell in it
+  pub record Left (t : Tally) : Type 0 where
+    pub cause : Unanswered
+    pub is : t ≡ tally 1 (fell (cause .run))
 
   -- of a contour in 16 bits
   abbrev pub In16 : Type 0 → Type 0
@@ -72,4 +82,4 @@ module _ (rooms : Rooms) (g : Grid) (penalty : Float) (xs ys : List ℤ) (fs : L
 
   -- no change: no answer at the last break after the first pair
   abbrev pub UnchangedExactly : Type 0
-  UnchangedExactly = In16 ((pairs : ℕ) → (workOf rooms g penalty xs ys fs first count ≡ unchanged pairs) ↔ ((pairs ≡ 1) × Unanswered))
+  UnchangedExactly = In16 ((t : Tally) → (workOf rooms g penalty xs ys fs first count ≡ unchanged t) ↔ Left t)

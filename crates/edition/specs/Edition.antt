@@ -13,26 +13,33 @@ use Rattle.samples.specs.Samples.{Sample}
 use Rattle.optimize.specs.Answers.{Answer}
 use Rattle.optimize.specs.Optimize.{Optimised, measureBy, optimizeOf}
 use Rattle.optimize.specs.Optimize as O
+use Rattle.optimize.specs.Fallen.{fallenBetween, fellOf}
 use Rattle.optimize.specs.Stored.{Anywhere, Holds}
+use Rattle.optimize.specs.Tally.{tally, untried}
+use Rattle.optimize.specs.declared.Tally.{Tally}
 use Rattle.survey.specs.Survey.{Survey, surveyOf}
 use Rattle.survey.specs.Survey as Survey
 use Rattle.edition.specs.declared.Worked as W
 use Rattle.edition.specs.declared.Worked.the-variants as Worked
 
--- what becomes of a run: the number of a refusal; no answer at the last break, after so many pairs; or the answer and the pairs tried
+-- what becomes of a run: the number of a refusal; no answer at the last break; or the answer. With the pairs tried and the lookups that fell in them
 pub data Result : Type 0 where
   refused : ℕ → Result
-  unchanged : ℕ → Result
-  solved : Answer → ℕ → Result
+  unchanged : Tally → Result
+  solved : Answer → Tally → Result
 
 -- half the shortest answer row: answers and links
 abbrev pub answerRoom : ℕ → ℕ → ℕ
 answerRoom answers links = min answers links / 2
 
-abbrev pub resultOf : Optimised → Result
-resultOf O.refused8 = refused 8
-resultOf (O.unchanged p) = unchanged p
-resultOf (O.solved a p) = solved a p
+abbrev pub resultOf : ℕ → Optimised → Result
+resultOf fell O.refused8 = refused 8
+resultOf fell (O.unchanged p) = unchanged (tally p fell)
+resultOf fell (O.solved a p) = solved a (tally p fell)
+
+-- how many lookups fell in a surveyed run
+abbrev pub fellIn : List Sample → Row → Float → ℕ
+fellIn samples breaks penalty = fellOf (measureBy samples breaks) (fallenBetween samples breaks) breaks penalty
 
 abbrev pub unlessShort : Bool → Result → Result
 unlessShort true r = refused 7
@@ -41,11 +48,12 @@ unlessShort false r = r
 -- an edition of a surveyed run, with so many places in the answer rows
 unfoldable pub editionOf : ℕ → ℕ → List Sample → Row → Float → Result
 editionOf answers links samples breaks penalty =
-    unlessShort (ltb (answerRoom answers links) (length breaks)) (resultOf (optimizeOf (measureBy samples breaks) breaks penalty))
+    unlessShort (ltb (answerRoom answers links) (length breaks))
+    (resultOf (fellIn samples breaks penalty) (optimizeOf (measureBy samples breaks) breaks penalty))
 
 abbrev pub afterSurvey : ℕ → ℕ → Float → Survey → Result
 afterSurvey answers links penalty (Survey.refused k) = refused k
-afterSurvey answers links penalty Survey.past = unchanged 0
+afterSurvey answers links penalty Survey.past = unchanged untried
 afterSurvey answers links penalty (Survey.surveyed samples breaks) = editionOf answers links samples breaks penalty
 
 -- how many places the scratch rows have
@@ -72,7 +80,7 @@ pub record Found (breaks : Row) : Type 0 where
 -- the breaks are the first n of their row, and the answer is the optimiser's for them
 pub data Works (penalty : Float) (breaks : Row) (answers : List (List Float)) (links : List ℕ) : Result → W.Worked → Type 0 where
   no : {r : W.Worked} {k : ℕ} → r ≡ Worked.Refused k → Works penalty breaks answers links (refused k) r
-  stays : {r : W.Worked} {p : ℕ} → r ≡ Worked.Unchanged p → Works penalty breaks answers links (unchanged p) r
-  holds : {r : W.Worked} {n k p : ℕ} {a : Answer} (samples : List Sample) → r ≡ Worked.Done n k p → n ≤ length breaks → Found (take n breaks) →
+  stays : {r : W.Worked} {t : Tally} → r ≡ Worked.Unchanged t → Works penalty breaks answers links (unchanged t) r
+  holds : {r : W.Worked} {n k p c : ℕ} {a : Answer} (samples : List Sample) → r ≡ Worked.Done n k (tally p c) → n ≤ length breaks → Found (take n breaks) →
       optimizeOf (measureBy samples (take n breaks)) (take n breaks) penalty ≡ O.solved a p → Holds Anywhere (take n breaks) answers links k a →
-      Works penalty breaks answers links (solved a p) r
+      Works penalty breaks answers links (solved a (tally p c)) r

@@ -15,7 +15,9 @@ use Rattle.breaks.specs.declared.Grid.{Grid}
 use Rattle.rows.specs.Rows.{Work, work, zeroWork}
 use Rattle.samples.specs.Samples.{Sample}
 use Rattle.optimize.specs.Answers.{Answer}
-use Rattle.optimize.specs.Laws.{mostPairs, pairs-few, pairs-few-unchanged}
+use Rattle.optimize.specs.Laws.{pairs-few, pairs-few-unchanged}
+use Rattle.optimize.specs.Fallen.{mostFallen, Upto, nothing-upto}
+use Rattle.optimize.proofs.FewFall.{few-fall}
 use Rattle.optimize.specs.Optimize.{Optimised, measureBy, optimizeOf}
 use Rattle.optimize.specs.Optimize as O
 use Rattle.survey.specs.Laws.{surveyed-some, surveyed-few, surveyed-fit, survey-same}
@@ -23,7 +25,9 @@ use Rattle.survey.specs.Survey.{Survey, surveyOf, surveyIn}
 use Rattle.survey.specs.Survey as Survey
 use Rattle.survey.specs.declared.Surveyed as Y
 use Rattle.survey.specs.declared.Surveyed.the-variants as Surveyed
-use Rattle.edition.specs.Edition.{Result, refused, unchanged, solved, answerRoom, resultOf, unlessShort, editionOf}
+use Rattle.optimize.specs.Tally.{untried}
+use Rattle.optimize.specs.declared.Tally.{Tally}
+use Rattle.edition.specs.Edition.{Result, refused, unchanged, solved, answerRoom, resultOf, fellIn, unlessShort, editionOf}
 use Rattle.edition.specs.Edition.{afterSurvey, Rooms, workOf, Found, Works, no, stays, holds}
 use Rattle.edition.specs.Scratch.{roomsOf, cleared}
 use Rattle.edition.specs.declared.Worked as W
@@ -50,98 +54,98 @@ in-row used e h kept = omega (arith, h, ap used e, kept)
 -- ---- a solved run
 
 -- the answer is the optimiser's for the survey, and the answer rows had room for its breaks
-pub record Optimal (rooms : Rooms) (g : Grid) (penalty : Float) (xs ys : List ℤ) (fs : List ℕ) (first count : ℕ) (a : Answer) (p : ℕ) : Type 0 where
+pub record Optimal (rooms : Rooms) (g : Grid) (penalty : Float) (xs ys : List ℤ) (fs : List ℕ) (first count : ℕ) (a : Answer) (t : Tally) : Type 0 where
   pub samples : List Sample
   pub breaks : Row
   pub survey : surveyOf (rooms .samples) (rooms .breaks) xs ys fs first count g ≡ Survey.surveyed samples breaks
   pub room : length breaks ≤ answerRoom (rooms .answers) (rooms .links)
-  pub is : optimizeOf (measureBy samples breaks) breaks penalty ≡ O.solved a p
+  pub is : optimizeOf (measureBy samples breaks) breaks penalty ≡ O.solved a (t .pairs)
+  pub fell : t .fallen ≡ fellIn samples breaks penalty
   pub fine : Found breaks
 
 -- no two kinds of result are one
 abbrev isSolved : Result → ℕ
 isSolved (refused k) = 0
-isSolved (unchanged p) = 0
-isSolved (solved a p) = 1
+isSolved (unchanged t) = 0
+isSolved (solved a t) = 1
 
-solved-is : (o : Optimised) {a : Answer} {p : ℕ} → resultOf o ≡ solved a p → o ≡ O.solved a p
-solved-is O.refused8 e = absurd (omega (arith, ap isSolved e))
-solved-is (O.unchanged q) e = absurd (omega (arith, ap isSolved e))
-solved-is (O.solved b q) e = cc
+abbrev pub tallyOf : Result → Tally
+tallyOf (refused k) = untried
+tallyOf (unchanged t) = t
+tallyOf (solved a t) = t
 
-module _ (rooms : Rooms) (g : Grid) (penalty : Float) (xs ys : List ℤ) (fs : List ℕ) (first count : ℕ) (a : Answer) (p : ℕ) where
+-- the answer and the counts
+solved-is : (c : ℕ) (o : Optimised) {a : Answer} {t : Tally} → resultOf c o ≡ solved a t → (o ≡ O.solved a (t .pairs)) × (t .fallen ≡ c)
+solved-is c O.refused8 e = absurd (omega (arith, ap isSolved e))
+solved-is c (O.unchanged q) e = absurd (omega (arith, ap isSolved e))
+solved-is c (O.solved b q) {a} {t} e =
+    let same : b ≡ a = cc in
+    (rw (same, ← ap tallyOf e) refl, sym (ap (λ (t : Tally). t .fallen) (ap tallyOf e)))
+
+module _ (rooms : Rooms) (g : Grid) (penalty : Float) (xs ys : List ℤ) (fs : List ℕ) (first count : ℕ) (a : Answer) (t : Tally) where
   abbrev Solved : Type 0
-  Solved = Optimal rooms g penalty xs ys fs first count a p
+  Solved = Optimal rooms g penalty xs ys fs first count a t
 
   tested-solved : (samples : List Sample) (breaks : Row) → surveyOf (rooms .samples) (rooms .breaks) xs ys fs first count g ≡ Survey.surveyed samples breaks →
       (short : Bool) → ltb (answerRoom (rooms .answers) (rooms .links)) (length breaks) ≡ short →
-      unlessShort short (resultOf (optimizeOf (measureBy samples breaks) breaks penalty)) ≡ solved a p → Solved
-  tested-solved samples breaks s true t e = absurd (omega (arith, ap isSolved e))
-  tested-solved samples breaks s false t e = record {
+      unlessShort short (resultOf (fellIn samples breaks penalty) (optimizeOf (measureBy samples breaks) breaks penalty)) ≡ solved a t → Solved
+  tested-solved samples breaks s true k e = absurd (omega (arith, ap isSolved e))
+  tested-solved samples breaks s false k e = record {
     samples = samples;
     breaks = breaks;
     survey = s;
-    room = ltb-false (answerRoom (rooms .answers) (rooms .links)) (length breaks) t;
-    is = solved-is _ e;
+    room = ltb-false (answerRoom (rooms .answers) (rooms .links)) (length breaks) k;
+    is = solved-is (fellIn samples breaks penalty) _ e .0;
+    fell = solved-is (fellIn samples breaks penalty) (optimizeOf (measureBy samples breaks) breaks penalty) e .1;
     fine = surveyed-found (rooms .samples) (rooms .breaks) xs ys fs first count g samples breaks s;
   }
 
   after-solved : (s : Survey) → surveyOf (rooms .samples) (rooms .breaks) xs ys fs first count g ≡ s →
-      afterSurvey (rooms .answers) (rooms .links) penalty s ≡ solved a p → Solved
+      afterSurvey (rooms .answers) (rooms .links) penalty s ≡ solved a t → Solved
   unfolding editionOf
   after-solved (Survey.refused k) s e = absurd (omega (arith, ap isSolved e))
   after-solved Survey.past s e = absurd (omega (arith, ap isSolved e))
   after-solved (Survey.surveyed samples breaks) s e = tested-solved samples breaks s _ refl e
 
-  pub work-solved : workOf rooms g penalty xs ys fs first count ≡ solved a p → Solved
+  pub work-solved : workOf rooms g penalty xs ys fs first count ≡ solved a t → Solved
   unfolding workOf
   work-solved e = after-solved _ refl e
 
--- ---- the pairs of a run
-
-abbrev pub pairsOf : Result → ℕ
-pairsOf (refused k) = 0
-pairsOf (unchanged p) = p
-pairsOf (solved a p) = p
+-- ---- what a run counts
 
 -- none of a refused run
-abbrev pub pairsIn : W.Worked → ℕ
-pairsIn (Worked.Refused k) = 0
-pairsIn (Worked.Unchanged p) = p
-pairsIn (Worked.Done n k p) = p
+abbrev pub tallyIn : W.Worked → Tally
+tallyIn (Worked.Refused k) = untried
+tallyIn (Worked.Unchanged t) = t
+tallyIn (Worked.Done n k t) = t
 
 module _ (samples : List Sample) (breaks : Row) (penalty : Float) (fine : Found breaks) where
-  optimised-few : (o : Optimised) → optimizeOf (measureBy samples breaks) breaks penalty ≡ o → pairsOf (resultOf o) ≤ mostPairs
-  optimised-few O.refused8 e = omega arith
-  optimised-few (O.unchanged p) e = pairs-few-unchanged (measureBy samples breaks) breaks penalty (fine .few) e
-  optimised-few (O.solved a p) e = pairs-few (measureBy samples breaks) breaks penalty (fine .few) e
+  abbrev fell : ℕ
+  fell = fellIn samples breaks penalty
 
-  tested-few : (short : Bool) → pairsOf (unlessShort short (resultOf (optimizeOf (measureBy samples breaks) breaks penalty))) ≤ mostPairs
-  tested-few true = omega arith
+  fell-few : fell ≤ mostFallen
+  fell-few = few-fall samples breaks penalty (fine .few)
+
+  optimised-few : (o : Optimised) → optimizeOf (measureBy samples breaks) breaks penalty ≡ o → Upto 1 (tallyOf (resultOf fell o))
+  optimised-few O.refused8 e = nothing-upto 1
+  optimised-few (O.unchanged p) e =
+      record { pairs-in = omega (arith, pairs-few-unchanged (measureBy samples breaks) breaks penalty (fine .few) e); fallen-in = omega (arith, fell-few) }
+  optimised-few (O.solved a p) e =
+      record { pairs-in = omega (arith, pairs-few (measureBy samples breaks) breaks penalty (fine .few) e); fallen-in = omega (arith, fell-few) }
+
+  tested-few : (short : Bool) → Upto 1 (tallyOf (unlessShort short (resultOf fell (optimizeOf (measureBy samples breaks) breaks penalty))))
+  tested-few true = nothing-upto 1
   tested-few false = optimised-few _ refl
 
-  pub edition-pairs : (answers links : ℕ) → pairsOf (editionOf answers links samples breaks penalty) ≤ mostPairs
+  pub edition-few : (answers links : ℕ) → Upto 1 (tallyOf (editionOf answers links samples breaks penalty))
   unfolding editionOf
-  edition-pairs answers links = tested-few (ltb (answerRoom answers links) (length breaks))
+  edition-few answers links = tested-few (ltb (answerRoom answers links) (length breaks))
 
-module _ (rooms : Rooms) (g : Grid) (penalty : Float) (xs ys : List ℤ) (fs : List ℕ) (first count : ℕ) where
-  after-few : (s : Survey) → surveyOf (rooms .samples) (rooms .breaks) xs ys fs first count g ≡ s →
-      pairsOf (afterSurvey (rooms .answers) (rooms .links) penalty s) ≤ mostPairs
-  after-few (Survey.refused k) s = omega arith
-  after-few Survey.past s = omega arith
-  after-few (Survey.surveyed samples breaks) s =
-      edition-pairs samples breaks penalty (surveyed-found (rooms .samples) (rooms .breaks) xs ys fs first count g samples breaks s) (rooms .answers)
-      (rooms .links)
-
-  pub work-pairs : pairsOf (workOf rooms g penalty xs ys fs first count) ≤ mostPairs
-  unfolding workOf
-  work-pairs = after-few _ refl
-
-pub works-pairs : {penalty : Float} {breaks : Row} {answers : List (List Float)} {links : List ℕ} {x : Result} {r : W.Worked} →
-    Works penalty breaks answers links x r → pairsOf x ≡ pairsIn r
-works-pairs (no e) = sym (ap pairsIn e)
-works-pairs (stays e) = sym (ap pairsIn e)
-works-pairs (holds samples e few fine is held) = sym (ap pairsIn e)
+pub works-tally : {penalty : Float} {breaks : Row} {answers : List (List Float)} {links : List ℕ} {x : Result} {r : W.Worked} →
+    Works penalty breaks answers links x r → tallyOf x ≡ tallyIn r
+works-tally (no e) = sym (ap tallyIn e)
+works-tally (stays e) = sym (ap tallyIn e)
+works-tally (holds samples e few fine is held) = sym (ap tallyIn e)
 
 -- what the answer of the work says of its result
 module _ {penalty : Float} {breaks : Row} {answers : List (List Float)} {links : List ℕ} where
@@ -150,7 +154,7 @@ module _ {penalty : Float} {breaks : Row} {answers : List (List Float)} {links :
   works-refused (stays e) h = let z : _≡_ {A = ℕ} 0 1 = cc in absurd (omega arith)
   works-refused (holds samples e few fine is held) h = let z : _≡_ {A = ℕ} 0 1 = cc in absurd (omega arith)
 
-  pub works-unchanged : {x : Result} {r : W.Worked} {p : ℕ} → Works penalty breaks answers links x r → r ≡ Worked.Unchanged p → x ≡ unchanged p
+  pub works-unchanged : {x : Result} {r : W.Worked} {t : Tally} → Works penalty breaks answers links x r → r ≡ Worked.Unchanged t → x ≡ unchanged t
   works-unchanged (no e) h = let z : _≡_ {A = ℕ} 0 1 = cc in absurd (omega arith)
   works-unchanged (stays e) h = cc
   works-unchanged (holds samples e few fine is held) h = let z : _≡_ {A = ℕ} 0 1 = cc in absurd (omega arith)
@@ -166,7 +170,7 @@ pub record Within (rooms rooms' : Rooms) : Type 0 where
 
 module _ (rooms rooms' : Rooms) (h : Within rooms rooms') (g : Grid) (penalty : Float) where
   edition-same : (samples : List Sample) (breaks : Row) (short : Bool) → ltb (answerRoom (rooms .answers) (rooms .links)) (length breaks) ≡ short →
-      let r = resultOf (optimizeOf (measureBy samples breaks) breaks penalty) in
+      let r = resultOf (fellIn samples breaks penalty) (optimizeOf (measureBy samples breaks) breaks penalty) in
       (unlessShort short r ≡ refused 7 → ⊥) → editionOf (rooms' .answers) (rooms' .links) samples breaks penalty ≡ unlessShort short r
   unfolding editionOf
   edition-same samples breaks true e seven = absurd (seven refl)

@@ -1,6 +1,7 @@
 // An edition of a surveyed run. The survey's rows are lent to it to be read alone; it has answers and links of
 // its own.
 use optimize::Solved;
+use optimize::Tally;
 ghost use mathlib.Core.Path.{_≡_};
 ghost use lib.ListN.{length};
 ghost use Rattle.edition.specs.Edition.{editionOf, Found, Works};
@@ -9,9 +10,9 @@ pub enum Worked {
     // 6, 7 or 8
     Refused(u8),
     // the contour is unchanged, after so many pairs
-    Unchanged(usize),
+    Unchanged(Tally),
     // so many breaks, the stored answer at the last one, and the pairs tried
-    Done(usize, usize, usize),
+    Done(usize, usize, Tally),
 }
 
 // Two stored answers a break: half the shortest answer row is a room for breaks.
@@ -32,7 +33,7 @@ pub fn edition(
     }
     match optimize::optimize(samples, breaks, answers, links, penalty) {
         Solved::Last => Worked::Refused(8),
-        Solved::Unchanged(pairs) => Worked::Unchanged(pairs),
-        Solved::Done(k, pairs) => Worked::Done(n, k, pairs),
+        Solved::Unchanged(t) => Worked::Unchanged(t),
+        Solved::Done(k, t) => Worked::Done(n, k, t),
     }
 }

@@ -18,9 +18,10 @@ use Rattle.contour.specs.Points.{Points, pointAs, startPoint, unchangedIn}
 use Rattle.contour.specs.Writing.{Wrote, written}
 use Rattle.contour.specs.Laws.{nothing-written}
 use Rattle.contour.specs.declared.Written.{Written}
+use Rattle.optimize.specs.Tally.{untried}
 use Rattle.assembly.specs.Assembly.{State, refused, going, closedUp, crunchAll, crunchIn, crunchRuns}
 use Rattle.assembly.specs.Laws.{stays-refused, stays-ended}
-use Rattle.assembly.specs.Stands.{Stands, goes, pairsIn, ClosesUp}
+use Rattle.assembly.specs.Stands.{Stands, goes, ClosesUp}
 use Rattle.assembly.specs.Stands as S
 use Rattle.assembly.specs.declared.Crunching as C
 use Rattle.assembly.specs.declared.Crunching.the-variants as Crunching
@@ -48,28 +49,28 @@ module _ (settings : Settings) (xs ys : List ℤ) (fs stops : List ℕ) {room : 
 
   pub begins-start : {fine : Bool} → fine ≡ settingsFine settings → fine ≡ true → settings .closed ≡ false → {w : Written} →
       Wrote row w (written room (startPoint xs ys ∷ [])) →
-      Begins room row (begins settings xs ys fs (settingsFine settings) stops) (Crunching.Going (record { w = w; pairs = 0 }))
+      Begins room row (begins settings xs ys fs (settingsFine settings) stops) (Crunching.Going (record { w = w; tally = untried }))
   begins-start is e mode wrote = fine-begins is e mode (record { stands = goes refl wrote refl; none = refl })
 
 module _ (settings : Settings) (xs ys : List ℤ) (fs : List ℕ) where
   ends-closed : (stops : List ℕ) → length stops ≡ 0 → {room : ℕ} {row : Points} {w : Written} → Wrote row w (written room (unchangedIn xs ys fs (settings .closed))) →
-      Begins room row (beginsIn settings xs ys fs true stops) (Crunching.Ended (record { w = w; pairs = 0 }))
+      Begins room row (beginsIn settings xs ys fs true stops) (Crunching.Ended (record { w = w; tally = untried }))
   ends-closed [] e wrote = record { stands = S.ends refl wrote refl; none = refl }
   ends-closed (a ∷ stops) e wrote = absurd (omega (arith, e))
 
   pub begins-ended : (stops : List ℕ) {fine : Bool} → fine ≡ settingsFine settings → fine ≡ true → settings .closed ≡ true → length stops ≡ 0 →
       {room : ℕ} {row : Points} {w : Written} → Wrote row w (written room (unchangedIn xs ys fs (settings .closed))) →
-      Begins room row (begins settings xs ys fs (settingsFine settings) stops) (Crunching.Ended (record { w = w; pairs = 0 }))
+      Begins room row (begins settings xs ys fs (settingsFine settings) stops) (Crunching.Ended (record { w = w; tally = untried }))
   begins-ended stops is e mode none wrote = fine-begins settings xs ys fs stops is e mode (ends-closed stops none wrote)
 
   goes-closed : (stops : List ℕ) → (length stops ≡ 0 → ⊥) → {row : Points} {w : Written} → w ≡ record { count = 0; over = false } →
-      Begins (length row) row (beginsIn settings xs ys fs true stops) (Crunching.Going (record { w = w; pairs = 0 }))
+      Begins (length row) row (beginsIn settings xs ys fs true stops) (Crunching.Going (record { w = w; tally = untried }))
   goes-closed [] some e = absurd (some refl)
-  goes-closed (a ∷ stops) some {row} {w} e = record { stands = goes {p = record { w = w; pairs = 0 }} {ps = []} refl (rw e (nothing-written row)) refl; none = refl }
+  goes-closed (a ∷ stops) some {row} {w} e = record { stands = goes {p = record { w = w; tally = untried }} {ps = []} refl (rw e (nothing-written row)) refl; none = refl }
 
   pub begins-round : (stops : List ℕ) {fine : Bool} → fine ≡ settingsFine settings → fine ≡ true → settings .closed ≡ true → (length stops ≡ 0 → ⊥) →
       {row : Points} {w : Written} → w ≡ record { count = 0; over = false } →
-      Begins (length row) row (begins settings xs ys fs (settingsFine settings) stops) (Crunching.Going (record { w = w; pairs = 0 }))
+      Begins (length row) row (begins settings xs ys fs (settingsFine settings) stops) (Crunching.Going (record { w = w; tally = untried }))
   begins-round stops is e mode some nothing = fine-begins settings xs ys fs stops is e mode (goes-closed stops some nothing)
 
 -- ---- `end`
@@ -125,7 +126,7 @@ module _ (rooms : Rooms) (settings : Settings) (xs ys : List ℤ) (fs : List ℕ
 
   round-is : (stops : List ℕ) → ends xs ys fs true stops (crunchAll rooms settings xs ys fs (between stops) (beginsIn settings xs ys fs true stops)) ≡
       crunchIn rooms settings xs ys fs true stops
-  round-is [] = stays-ended rooms settings xs ys fs (between []) (unchangedIn xs ys fs (settings .closed)) 0
+  round-is [] = stays-ended rooms settings xs ys fs (between []) (unchangedIn xs ys fs (settings .closed)) untried
   round-is (a ∷ stops) = refl
 
   by-mode : (mode : Bool) (stops : List ℕ) → ends xs ys fs mode stops (crunchAll rooms settings xs ys fs (between stops) (beginsIn settings xs ys fs mode stops)) ≡

@@ -1,5 +1,5 @@
 -- The runs in order, of one edition: what the loop keeps, one turn of it, and its ends. The other edition's is the same law. Assumes nothing.
-use Prim.Native.Nat.{ℕ, suc, _+_, _*_, _≤_, _<_}
+use Prim.Native.Nat.{ℕ, suc, _+_, _≤_, _<_}
 use native.Mathlib.Numerals.{add-one}
 use native.Mathlib.Omega.{arith}
 use mathlib.Core.List.{List, [], _∷_}
@@ -13,12 +13,13 @@ use Rattle.runs.specs.declared.Run.{Run}
 use Rattle.runs.specs.declared.Run.the-variants.{Between, Nothing}
 use Rattle.rows.specs.Rows.{work}
 use Rattle.settings.specs.declared.Settings.{Settings}
-use Rattle.optimize.specs.Laws.{mostPairs}
+use Rattle.optimize.specs.Fallen.{Upto, nothing-upto, upto-more}
+use Rattle.optimize.specs.Tally.{untried}
 use Rattle.edition.specs.Edition.{Rooms}
 use Rattle.edition.specs.Scratch.{roomsOf}
 use Rattle.contour.specs.Points.{Points}
 use Rattle.assembly.specs.Assembly.{State, onward, crunchAll}
-use Rattle.assembly.specs.Stands.{Stands, pairsIn}
+use Rattle.assembly.specs.Stands.{Stands, tallyIn}
 use Rattle.assembly.specs.declared.Crunching as C
 use Rattle.editions.specs.Stands.{Carries, Moves}
 
@@ -55,10 +56,10 @@ module _ (xs ys : List ℤ) (fs corners : List ℕ) (settings : Settings) (s₀ 
     pub links : length l ≡ length l₀
     pub long : length points ≡ length points₀
     pub upto : k ≤ length corners
-    pub few : pairsIn c ≤ k * mostPairs
+    pub few : Upto k (tallyIn c)
     pub reach : (x : State) → Stands (length points₀) points₀ x c₀ → Reached points c k (along (between corners) x)
 
-  pub running-start : pairsIn c₀ ≡ 0 → Running s₀ b₀ a₀ l₀ points₀ c₀ 0
+  pub running-start : tallyIn c₀ ≡ untried → Running s₀ b₀ a₀ l₀ points₀ c₀ 0
   running-start none =
       record {
         samples = refl;
@@ -67,14 +68,14 @@ module _ (xs ys : List ℤ) (fs corners : List ℕ) (settings : Settings) (s₀ 
         links = refl;
         long = refl;
         upto = omega arith;
-        few = omega arith;
+        few = rw none (nothing-upto 0);
         reach = λ x stands. record { sofar = x; stands = stands; left = refl };
       }
 
   module _ {s b a : List (List Float)} {l : List ℕ} {points : Points} {c : C.Crunching} {k : ℕ} (now : Running s b a l points c k) where
-    -- no sum of pairs is too large
-    pub running-few : k < length corners → length corners ≤ 1025 → pairsIn c ≤ 4294967296
-    running-few h few = omega (arith, now .few)
+    -- no sum is too large
+    pub running-few : k < length corners → length corners ≤ 1025 → Upto 1024 (tallyIn c)
+    running-few h few = upto-more (omega arith) (now .few)
 
     finished : drop k (between corners) ≡ [] → Whole points c
     finished e x stands =
@@ -120,6 +121,6 @@ module _ (xs ys : List ℤ) (fs corners : List ℕ) (settings : Settings) (s₀ 
             links = kl ∙ now .links;
             long = kp ∙ now .long;
             upto = omega arith;
-            few = omega (arith, then .pairs, now .few);
+            few = then .few k (now .few);
             reach = λ x stands. next (now .reach x stands);
           }

@@ -24,7 +24,8 @@ use Rattle.survey.specs.Survey.{Survey, sampleRoom, breakRoom, searched, afterS
 use Rattle.survey.specs.Survey as Survey
 use Rattle.optimize.specs.Optimize.{Optimised, measureBy, optimizeOf}
 use Rattle.optimize.specs.Optimize as O
-use Rattle.edition.specs.Edition.{Result, Rooms, answerRoom, unlessShort, editionOf, afterSurvey}
+use Rattle.optimize.specs.declared.Tally.{Tally}
+use Rattle.edition.specs.Edition.{Result, Rooms, answerRoom, unlessShort, editionOf, afterSurvey, fellIn}
 use Rattle.edition.specs.Edition as Edition
 use Rattle.edition.specs.Scratch.{roomsOf}
 use Rattle.contour.specs.Points.{Points, unchangedIn}
@@ -64,10 +65,10 @@ module _ (rooms : Rooms) (settings : Settings) (xs ys : List ℤ) (fs : List ℕ
   no-run x = refl
 
   -- a run that is worked
-  run-worked : (r : Span) (ps : Points) (pairs : ℕ) → isCopied xs ys fs (Between (r .first) (r .count)) ≡ false →
-      afterRun rooms settings xs ys fs r ps pairs ≡ added (unchangedIn xs ys fs (settings .closed)) (resultOf rooms settings xs ys fs r) ps pairs
+  run-worked : (r : Span) (ps : Points) (tally : Tally) → isCopied xs ys fs (Between (r .first) (r .count)) ≡ false →
+      afterRun rooms settings xs ys fs r ps tally ≡ added (unchangedIn xs ys fs (settings .closed)) (resultOf rooms settings xs ys fs r) ps tally
   unfolding afterRun
-  run-worked r ps pairs e = ap (λ (b : Bool). runIf rooms settings xs ys fs b r ps pairs) e
+  run-worked r ps tally e = ap (λ (b : Bool). runIf rooms settings xs ys fs b r ps tally) e
 
   abbrev surveyAt : Span → Survey
   surveyAt r = surveyOf (rooms .samples) (rooms .breaks) xs ys fs (r .first) (r .count) (gridOf settings)
@@ -80,13 +81,13 @@ module _ (rooms : Rooms) (settings : Settings) (xs ys : List ℤ) (fs : List ℕ
       editionOf (rooms .answers) (rooms .links) samples breaks p ≡ Edition.refused 7
   unfolding editionOf
   short-edition samples breaks p h =
-      ap (λ (b : Bool). unlessShort b (Edition.resultOf (optimizeOf (measureBy samples breaks) breaks p))) (lt-ltb (answerRoom (rooms .answers) (rooms .links)) (length breaks) h)
+      ap (λ (b : Bool). unlessShort b (Edition.resultOf (fellIn samples breaks p) (optimizeOf (measureBy samples breaks) breaks p))) (lt-ltb (answerRoom (rooms .answers) (rooms .links)) (length breaks) h)
 
   long-edition : (samples : List Sample) (breaks : Row) (p : Float) → length breaks ≤ answerRoom (rooms .answers) (rooms .links) →
-      editionOf (rooms .answers) (rooms .links) samples breaks p ≡ Edition.resultOf (optimizeOf (measureBy samples breaks) breaks p)
+      editionOf (rooms .answers) (rooms .links) samples breaks p ≡ Edition.resultOf (fellIn samples breaks p) (optimizeOf (measureBy samples breaks) breaks p)
   unfolding editionOf
   long-edition samples breaks p h =
-      ap (λ (b : Bool). unlessShort b (Edition.resultOf (optimizeOf (measureBy samples breaks) breaks p))) (le-ltb (answerRoom (rooms .answers) (rooms .links)) (length breaks) h)
+      ap (λ (b : Bool). unlessShort b (Edition.resultOf (fellIn samples breaks p) (optimizeOf (measureBy samples breaks) breaks p))) (le-ltb (answerRoom (rooms .answers) (rooms .links)) (length breaks) h)
 
   abbrev stopsHere : List ℕ
   stopsHere = stopsOf (settings .closed) xs ys fs
@@ -120,16 +121,16 @@ module _ (rooms : Rooms) (settings : Settings) (xs ys : List ℤ) (fs : List ℕ
           refused-so
           (ap (λ (b : Bool). along (between stopsHere) (begins settings xs ys fs b stopsHere)) e ∙ stays-refused rooms settings xs ys fs (between stopsHere) 16)
 
-      nine-so : (through : Bool) (ps : Points) (pairs : ℕ) → workedOn rooms settings xs ys fs stopsHere ≡ atEnd through ps pairs →
-          answer ≡ answerOf (overIf (settings .closed) (ltb room (length ps)) ps pairs)
-      nine-so true ps pairs e = whole-so ∙ ap (λ (x : State). answerOf (outcomeOf (settings .closed) room x)) e
-      nine-so false ps pairs e = whole-so ∙ ap (λ (x : State). answerOf (outcomeOf (settings .closed) room x)) e
+      nine-so : (through : Bool) (ps : Points) (tally : Tally) → workedOn rooms settings xs ys fs stopsHere ≡ atEnd through ps tally →
+          answer ≡ answerOf (overIf (settings .closed) (ltb room (length ps)) ps tally)
+      nine-so true ps tally e = whole-so ∙ ap (λ (x : State). answerOf (outcomeOf (settings .closed) room x)) e
+      nine-so false ps tally e = whole-so ∙ ap (λ (x : State). answerOf (outcomeOf (settings .closed) room x)) e
 
-      nine-both : (through : Bool) (ps : Points) (pairs : ℕ) → workedOn rooms settings xs ys fs stopsHere ≡ atEnd through ps pairs →
-          (room < length ps → answer ≡ Crunched.Refused 9) × (length ps ≤ room → answer ≡ Crunched.Points (length (finished (settings .closed) ps)) pairs)
-      nine-both through ps pairs e =
-          let by : Bool → D.Crunched = λ (b : Bool). answerOf (overIf (settings .closed) b ps pairs) in
-          (λ h. nine-so through ps pairs e ∙ ap by (lt-ltb room (length ps) h), λ h. nine-so through ps pairs e ∙ ap by (le-ltb room (length ps) h))
+      nine-both : (through : Bool) (ps : Points) (tally : Tally) → workedOn rooms settings xs ys fs stopsHere ≡ atEnd through ps tally →
+          (room < length ps → answer ≡ Crunched.Refused 9) × (length ps ≤ room → answer ≡ Crunched.Points (length (finished (settings .closed) ps)) tally)
+      nine-both through ps tally e =
+          let by : Bool → D.Crunched = λ (b : Bool). answerOf (overIf (settings .closed) b ps tally) in
+          (λ h. nine-so through ps tally e ∙ ap by (lt-ltb room (length ps) h), λ h. nine-so through ps tally e ∙ ap by (le-ltb room (length ps) h))
 
       -- ---- at a run
 
@@ -144,26 +145,26 @@ module _ (rooms : Rooms) (settings : Settings) (xs ys : List ℤ) (fs : List ℕ
         keeps-refused : (k : ℕ) → along earlier start ≡ refused k → answer ≡ Crunched.Refused k
         keeps-refused k e = refused-so (at-run e ∙ stays-refused rooms settings xs ys fs later k)
 
-        keeps-ended : (ps : Points) (pairs : ℕ) → along earlier start ≡ ended ps pairs → EndsWith (ended ps pairs)
-        keeps-ended ps pairs e = ends-so (at-run e ∙ stays-ended rooms settings xs ys fs later ps pairs)
+        keeps-ended : (ps : Points) (tally : Tally) → along earlier start ≡ ended ps tally → EndsWith (ended ps tally)
+        keeps-ended ps tally e = ends-so (at-run e ∙ stays-ended rooms settings xs ys fs later ps tally)
 
-        module _ (worked : isCopied xs ys fs (Between (run .first) (run .count)) ≡ false) (ps : Points) (pairs : ℕ) (goes : along earlier start ≡ going ps pairs) where
+        module _ (worked : isCopied xs ys fs (Between (run .first) (run .count)) ≡ false) (ps : Points) (tally : Tally) (goes : along earlier start ≡ going ps tally) where
           met : {k : ℕ} → resultOf rooms settings xs ys fs run ≡ Edition.refused k → answer ≡ Crunched.Refused k
           met {k} e =
               refused-so
               (at-run goes
-              ∙ ap (along later) (run-worked run ps pairs worked ∙ ap (λ (x : Result). added (unchangedIn xs ys fs (settings .closed)) x ps pairs) e)
+              ∙ ap (along later) (run-worked run ps tally worked ∙ ap (λ (x : Result). added (unchangedIn xs ys fs (settings .closed)) x ps tally) e)
               ∙ stays-refused rooms settings xs ys fs later k)
 
           goes-on : {x : Result} → resultOf rooms settings xs ys fs run ≡ x →
-              along (earlier ++ run ∷ []) start ≡ added (unchangedIn xs ys fs (settings .closed)) x ps pairs
+              along (earlier ++ run ∷ []) start ≡ added (unchangedIn xs ys fs (settings .closed)) x ps tally
           goes-on e =
               along-append earlier (run ∷ []) start
               ∙ ap (along (run ∷ [])) goes
               ∙ one-run run [] _
               ∙ no-run _
-              ∙ run-worked run ps pairs worked
-              ∙ ap (λ (x : Result). added (unchangedIn xs ys fs (settings .closed)) x ps pairs) e
+              ∙ run-worked run ps tally worked
+              ∙ ap (λ (x : Result). added (unchangedIn xs ys fs (settings .closed)) x ps tally) e
 
 -- ---- the survey, which both editions share
 
@@ -196,8 +197,8 @@ module _ (xs ys : List ℤ) (fs : List ℕ) (o : Order) (t : LentRows) (r : Edit
   -- what the survey refuses goes to each that goes on
   each-going : Promise (inputs xs ys fs) o t r → judged xs ys fs ≡ Judged.Fine → (w : AtRun xs ys fs o t r) {k : ℕ} → Refused.surveyAt xs ys fs o t r w ≡ Survey.refused k → ToEachGoing xs ys fs o t r w k
   each-going p fine w e = (
-    ((λ ps pairs goes. met (roomsOf (rowsA (t .entry) .work)) (settingsA o) xs ys fs (pointRoom (rowsA (t .entry))) (p .to-a .answer) fine (w .earlier) (w .run) (w .later) (w .split) (w .worked) ps pairs goes (by-survey (roomsOf (rowsA (t .entry) .work)) (settingsA o) xs ys fs (w .run) (e))), (keeps-refused (roomsOf (rowsA (t .entry) .work)) (settingsA o) xs ys fs (pointRoom (rowsA (t .entry))) (p .to-a .answer) fine (w .earlier) (w .run) (w .later) (w .split), keeps-ended (roomsOf (rowsA (t .entry) .work)) (settingsA o) xs ys fs (pointRoom (rowsA (t .entry))) (p .to-a .answer) fine (w .earlier) (w .run) (w .later) (w .split))),
-    ((λ ps pairs goes. met (roomsOf (rowsB (t .entry) .work)) (settingsB o) xs ys fs (pointRoom (rowsB (t .entry))) (p .to-b .answer) fine (w .earlier) (w .run) (w .later) (w .split) (w .worked) ps pairs goes (by-survey (roomsOf (rowsB (t .entry) .work)) (settingsB o) xs ys fs (w .run) (e))), (keeps-refused (roomsOf (rowsB (t .entry) .work)) (settingsB o) xs ys fs (pointRoom (rowsB (t .entry))) (p .to-b .answer) fine (w .earlier) (w .run) (w .later) (w .split), keeps-ended (roomsOf (rowsB (t .entry) .work)) (settingsB o) xs ys fs (pointRoom (rowsB (t .entry))) (p .to-b .answer) fine (w .earlier) (w .run) (w .later) (w .split))),
+    ((λ ps tally goes. met (roomsOf (rowsA (t .entry) .work)) (settingsA o) xs ys fs (pointRoom (rowsA (t .entry))) (p .to-a .answer) fine (w .earlier) (w .run) (w .later) (w .split) (w .worked) ps tally goes (by-survey (roomsOf (rowsA (t .entry) .work)) (settingsA o) xs ys fs (w .run) (e))), (keeps-refused (roomsOf (rowsA (t .entry) .work)) (settingsA o) xs ys fs (pointRoom (rowsA (t .entry))) (p .to-a .answer) fine (w .earlier) (w .run) (w .later) (w .split), keeps-ended (roomsOf (rowsA (t .entry) .work)) (settingsA o) xs ys fs (pointRoom (rowsA (t .entry))) (p .to-a .answer) fine (w .earlier) (w .run) (w .later) (w .split))),
+    ((λ ps tally goes. met (roomsOf (rowsB (t .entry) .work)) (settingsB o) xs ys fs (pointRoom (rowsB (t .entry))) (p .to-b .answer) fine (w .earlier) (w .run) (w .later) (w .split) (w .worked) ps tally goes (by-survey (roomsOf (rowsB (t .entry) .work)) (settingsB o) xs ys fs (w .run) (e))), (keeps-refused (roomsOf (rowsB (t .entry) .work)) (settingsB o) xs ys fs (pointRoom (rowsB (t .entry))) (p .to-b .answer) fine (w .earlier) (w .run) (w .later) (w .split), keeps-ended (roomsOf (rowsB (t .entry) .work)) (settingsB o) xs ys fs (pointRoom (rowsB (t .entry))) (p .to-b .answer) fine (w .earlier) (w .run) (w .later) (w .split))),
   )
 
   pub six-to-each-going : SixToEachGoing xs ys fs o t r
@@ -209,14 +210,14 @@ module _ (xs ys : List ℤ) (fs : List ℕ) (o : Order) (t : LentRows) (r : Edit
 
   pub seven-of-answers-to-its-own : SevenOfAnswersToItsOwn xs ys fs o t r
   seven-of-answers-to-its-own p fine w samples breaks e = (
-    (λ ps pairs goes. ((λ h. met (roomsOf (rowsA (t .entry) .work)) (settingsA o) xs ys fs (pointRoom (rowsA (t .entry))) (p .to-a .answer) fine (w .earlier) (w .run) (w .later) (w .split) (w .worked) ps pairs goes (by-survey (roomsOf (rowsA (t .entry) .work)) (settingsA o) xs ys fs (w .run) e ∙ short-edition (roomsOf (rowsA (t .entry) .work)) (settingsA o) xs ys fs samples breaks _ h)), (λ h. goes-on (roomsOf (rowsA (t .entry) .work)) (settingsA o) xs ys fs (pointRoom (rowsA (t .entry))) (p .to-a .answer) fine (w .earlier) (w .run) (w .later) (w .split) (w .worked) ps pairs goes (by-survey (roomsOf (rowsA (t .entry) .work)) (settingsA o) xs ys fs (w .run) e ∙ long-edition (roomsOf (rowsA (t .entry) .work)) (settingsA o) xs ys fs samples breaks _ h)))),
-    (λ ps pairs goes. ((λ h. met (roomsOf (rowsB (t .entry) .work)) (settingsB o) xs ys fs (pointRoom (rowsB (t .entry))) (p .to-b .answer) fine (w .earlier) (w .run) (w .later) (w .split) (w .worked) ps pairs goes (by-survey (roomsOf (rowsB (t .entry) .work)) (settingsB o) xs ys fs (w .run) e ∙ short-edition (roomsOf (rowsB (t .entry) .work)) (settingsB o) xs ys fs samples breaks _ h)), (λ h. goes-on (roomsOf (rowsB (t .entry) .work)) (settingsB o) xs ys fs (pointRoom (rowsB (t .entry))) (p .to-b .answer) fine (w .earlier) (w .run) (w .later) (w .split) (w .worked) ps pairs goes (by-survey (roomsOf (rowsB (t .entry) .work)) (settingsB o) xs ys fs (w .run) e ∙ long-edition (roomsOf (rowsB (t .entry) .work)) (settingsB o) xs ys fs samples breaks _ h)))),
+    (λ ps tally goes. ((λ h. met (roomsOf (rowsA (t .entry) .work)) (settingsA o) xs ys fs (pointRoom (rowsA (t .entry))) (p .to-a .answer) fine (w .earlier) (w .run) (w .later) (w .split) (w .worked) ps tally goes (by-survey (roomsOf (rowsA (t .entry) .work)) (settingsA o) xs ys fs (w .run) e ∙ short-edition (roomsOf (rowsA (t .entry) .work)) (settingsA o) xs ys fs samples breaks _ h)), (λ h. goes-on (roomsOf (rowsA (t .entry) .work)) (settingsA o) xs ys fs (pointRoom (rowsA (t .entry))) (p .to-a .answer) fine (w .earlier) (w .run) (w .later) (w .split) (w .worked) ps tally goes (by-survey (roomsOf (rowsA (t .entry) .work)) (settingsA o) xs ys fs (w .run) e ∙ long-edition (roomsOf (rowsA (t .entry) .work)) (settingsA o) xs ys fs samples breaks _ h)))),
+    (λ ps tally goes. ((λ h. met (roomsOf (rowsB (t .entry) .work)) (settingsB o) xs ys fs (pointRoom (rowsB (t .entry))) (p .to-b .answer) fine (w .earlier) (w .run) (w .later) (w .split) (w .worked) ps tally goes (by-survey (roomsOf (rowsB (t .entry) .work)) (settingsB o) xs ys fs (w .run) e ∙ short-edition (roomsOf (rowsB (t .entry) .work)) (settingsB o) xs ys fs samples breaks _ h)), (λ h. goes-on (roomsOf (rowsB (t .entry) .work)) (settingsB o) xs ys fs (pointRoom (rowsB (t .entry))) (p .to-b .answer) fine (w .earlier) (w .run) (w .later) (w .split) (w .worked) ps tally goes (by-survey (roomsOf (rowsB (t .entry) .work)) (settingsB o) xs ys fs (w .run) e ∙ long-edition (roomsOf (rowsB (t .entry) .work)) (settingsB o) xs ys fs samples breaks _ h)))),
   )
 
   pub eight-to-its-own : EightToItsOwn xs ys fs o t r
   eight-to-its-own p fine w samples breaks e = (
-    (λ ps pairs goes room. ((λ h. met (roomsOf (rowsA (t .entry) .work)) (settingsA o) xs ys fs (pointRoom (rowsA (t .entry))) (p .to-a .answer) fine (w .earlier) (w .run) (w .later) (w .split) (w .worked) ps pairs goes (by-survey (roomsOf (rowsA (t .entry) .work)) (settingsA o) xs ys fs (w .run) e ∙ long-edition (roomsOf (rowsA (t .entry) .work)) (settingsA o) xs ys fs samples breaks _ room ∙ ap Edition.resultOf h)), goes-on (roomsOf (rowsA (t .entry) .work)) (settingsA o) xs ys fs (pointRoom (rowsA (t .entry))) (p .to-a .answer) fine (w .earlier) (w .run) (w .later) (w .split) (w .worked) ps pairs goes (by-survey (roomsOf (rowsA (t .entry) .work)) (settingsA o) xs ys fs (w .run) e ∙ long-edition (roomsOf (rowsA (t .entry) .work)) (settingsA o) xs ys fs samples breaks _ room))),
-    (λ ps pairs goes room. ((λ h. met (roomsOf (rowsB (t .entry) .work)) (settingsB o) xs ys fs (pointRoom (rowsB (t .entry))) (p .to-b .answer) fine (w .earlier) (w .run) (w .later) (w .split) (w .worked) ps pairs goes (by-survey (roomsOf (rowsB (t .entry) .work)) (settingsB o) xs ys fs (w .run) e ∙ long-edition (roomsOf (rowsB (t .entry) .work)) (settingsB o) xs ys fs samples breaks _ room ∙ ap Edition.resultOf h)), goes-on (roomsOf (rowsB (t .entry) .work)) (settingsB o) xs ys fs (pointRoom (rowsB (t .entry))) (p .to-b .answer) fine (w .earlier) (w .run) (w .later) (w .split) (w .worked) ps pairs goes (by-survey (roomsOf (rowsB (t .entry) .work)) (settingsB o) xs ys fs (w .run) e ∙ long-edition (roomsOf (rowsB (t .entry) .work)) (settingsB o) xs ys fs samples breaks _ room))),
+    (λ ps tally goes room. ((λ h. met (roomsOf (rowsA (t .entry) .work)) (settingsA o) xs ys fs (pointRoom (rowsA (t .entry))) (p .to-a .answer) fine (w .earlier) (w .run) (w .later) (w .split) (w .worked) ps tally goes (by-survey (roomsOf (rowsA (t .entry) .work)) (settingsA o) xs ys fs (w .run) e ∙ long-edition (roomsOf (rowsA (t .entry) .work)) (settingsA o) xs ys fs samples breaks _ room ∙ ap (Edition.resultOf _) h)), goes-on (roomsOf (rowsA (t .entry) .work)) (settingsA o) xs ys fs (pointRoom (rowsA (t .entry))) (p .to-a .answer) fine (w .earlier) (w .run) (w .later) (w .split) (w .worked) ps tally goes (by-survey (roomsOf (rowsA (t .entry) .work)) (settingsA o) xs ys fs (w .run) e ∙ long-edition (roomsOf (rowsA (t .entry) .work)) (settingsA o) xs ys fs samples breaks _ room))),
+    (λ ps tally goes room. ((λ h. met (roomsOf (rowsB (t .entry) .work)) (settingsB o) xs ys fs (pointRoom (rowsB (t .entry))) (p .to-b .answer) fine (w .earlier) (w .run) (w .later) (w .split) (w .worked) ps tally goes (by-survey (roomsOf (rowsB (t .entry) .work)) (settingsB o) xs ys fs (w .run) e ∙ long-edition (roomsOf (rowsB (t .entry) .work)) (settingsB o) xs ys fs samples breaks _ room ∙ ap (Edition.resultOf _) h)), goes-on (roomsOf (rowsB (t .entry) .work)) (settingsB o) xs ys fs (pointRoom (rowsB (t .entry))) (p .to-b .answer) fine (w .earlier) (w .run) (w .later) (w .split) (w .worked) ps tally goes (by-survey (roomsOf (rowsB (t .entry) .work)) (settingsB o) xs ys fs (w .run) e ∙ long-edition (roomsOf (rowsB (t .entry) .work)) (settingsB o) xs ys fs samples breaks _ room))),
   )
 
   pub nine-to-its-own : NineToItsOwn xs ys fs o t r

@@ -48,7 +48,7 @@ equal-orders l p p′ = record { of-a = Alone.equal-orders (l .of-a) (p .to-a) (
 
 unless-crunched : (x : Outcome) (o : Outputs) (k : ℕ) → Crunched.Refused k ≡ answerOf x → outputsOf x o ≡ o
 unless-crunched (Outcome.refused j) o k e = refl
-unless-crunched (Outcome.crunched ps pairs) o k e = absurd (let z : _≡_ {A = ℕ} 0 1 = cc in omega arith)
+unless-crunched (Outcome.crunched ps tally) o k e = absurd (let z : _≡_ {A = ℕ} 0 1 = cc in omega arith)
 
 left-so : {i : Inputs} {settings : Settings} {t : Crunch.LentRows} {r : Crunched} {k : ℕ} → Crunch.Promise i settings t r → r ≡ Crunched.Refused k →
     t .exit .outs ≡ t .entry .outs

@@ -8,6 +8,8 @@ use Rattle.corners.specs.Segments.{startOf}
 use Rattle.runs.specs.Runs.{between, stopsOf}
 use Rattle.settings.specs.Settings.{yesOf, settingsFine}
 use Rattle.settings.specs.declared.Settings.{Settings}
+use Rattle.optimize.specs.Tally.{untried}
+use Rattle.optimize.specs.declared.Tally.{Tally}
 use Rattle.edition.specs.Edition.{Rooms}
 use Rattle.contour.specs.Points.{Points, pointAs, startPoint, unchangedIn}
 use Rattle.assembly.specs.Assembly.{State, refused, ended, going, closedUp, crunchAll}
@@ -29,17 +31,17 @@ orderOf a b whole closed = record { «penalty_a» = a; «penalty_b» = b; «whol
 -- ---- an edition's work
 
 -- a step of an edition whose work goes on; any other stays as it is
-abbrev pub whileGoing : (Points → ℕ → State) → State → State
+abbrev pub whileGoing : (Points → Tally → State) → State → State
 whileGoing f (refused k) = refused k
-whileGoing f (ended ps pairs) = ended ps pairs
-whileGoing f (going ps pairs) = f ps pairs
+whileGoing f (ended ps tally) = ended ps tally
+whileGoing f (going ps tally) = f ps tally
 
 module _ (settings : Settings) (xs ys : List ℤ) (fs : List ℕ) where
   -- how it begins, by the mode; in closed mode no corner leaves the contour unchanged
   abbrev pub beginsIn : Bool → List ℕ → State
-  beginsIn true [] = ended (unchangedIn xs ys fs (settings .closed)) 0
-  beginsIn true (a ∷ stops) = going [] 0
-  beginsIn false stops = going (startPoint xs ys ∷ []) 0
+  beginsIn true [] = ended (unchangedIn xs ys fs (settings .closed)) untried
+  beginsIn true (a ∷ stops) = going [] untried
+  beginsIn false stops = going (startPoint xs ys ∷ []) untried
 
   -- 16, or its beginning
   abbrev pub begins : Bool → List ℕ → State

@@ -6,8 +6,8 @@ use Rattle.editions.specs.declared.export.EditionReport.{EditionReport}
 use Rattle.editions.specs.declared.export.EditionsReport.{EditionsReport}
 
 abbrev pub reportOne : C.Crunched → EditionReport
-reportOne (Crunched.Refused k) = record { number = k; points = 0; pairs = 0 }
-reportOne (Crunched.Points n p) = record { number = 0; points = n; pairs = p }
+reportOne (Crunched.Refused k) = record { number = k; points = 0; pairs = 0; fallen = 0 }
+reportOne (Crunched.Points n t) = record { number = 0; points = n; pairs = t .pairs; fallen = t .fallen }
 
 abbrev pub report : Editions → EditionsReport
 report r = record { a = reportOne (r .a); b = reportOne (r .b) }

@@ -21,7 +21,8 @@ use Rattle.survey.specs.Survey.{Survey, sampleRoom, breakRoom, surveyOf}
 use Rattle.survey.specs.Survey as Survey
 use Rattle.optimize.specs.Optimize.{Optimised, measureBy, optimizeOf}
 use Rattle.optimize.specs.Optimize as O
-use Rattle.edition.specs.Edition.{Rooms, answerRoom, resultOf}
+use Rattle.optimize.specs.declared.Tally.{Tally}
+use Rattle.edition.specs.Edition.{Rooms, answerRoom, resultOf, fellIn}
 use Rattle.edition.specs.Scratch.{roomsOf}
 use Rattle.contour.specs.Points.{Points, unchangedIn}
 use Rattle.contour.specs.Implied.{finished}
@@ -43,9 +44,9 @@ pub record Edition : Type 0 where
   pub answer : Crunched
 
 -- work that went through all runs, or was ended by one
-abbrev pub atEnd : Bool → Points → ℕ → State
-atEnd true ps pairs = going ps pairs
-atEnd false ps pairs = ended ps pairs
+abbrev pub atEnd : Bool → Points → Tally → State
+atEnd true ps tally = going ps tally
+atEnd false ps tally = ended ps tally
 
 module _ (xs ys : List ℤ) (fs : List ℕ) (o : Order) (t : LentRows) (r : Editions) where
   -- of every edition of an order
@@ -91,17 +92,17 @@ module _ (xs ys : List ℤ) (fs : List ℕ) (o : Order) (t : LentRows) (r : Edit
   surveyAt w = surveyOf (length (t .entry .samples)) (length (t .entry .breaks)) xs ys fs (w .run .first) (w .run .count) (gridBy (o .«whole_units»))
 
   -- an edition whose work goes on so far
-  abbrev pub GoesAt : AtRun → Points → ℕ → Edition → Type 0
-  GoesAt w ps pairs e = after (w .earlier) e ≡ going ps pairs
+  abbrev pub GoesAt : AtRun → Points → Tally → Edition → Type 0
+  GoesAt w ps tally e = after (w .earlier) e ≡ going ps tally
 
   -- one whose work has ended by then, or was refused, keeps what it has
   abbrev pub KeepsAt : AtRun → Edition → Type 0
   KeepsAt w e =
       ((k : ℕ) → after (w .earlier) e ≡ refused k → e .answer ≡ Crunched.Refused k)
-      × ((ps : Points) (pairs : ℕ) → after (w .earlier) e ≡ ended ps pairs → EndsWith (ended ps pairs) e)
+      × ((ps : Points) (tally : Tally) → after (w .earlier) e ≡ ended ps tally → EndsWith (ended ps tally) e)
 
   abbrev pub ToEachGoing : AtRun → ℕ → Type 0
-  ToEachGoing w k = Each (λ e. ((ps : Points) (pairs : ℕ) → GoesAt w ps pairs e → e .answer ≡ Crunched.Refused k) × KeepsAt w e)
+  ToEachGoing w k = Each (λ e. ((ps : Points) (tally : Tally) → GoesAt w ps tally e → e .answer ≡ Crunched.Refused k) × KeepsAt w e)
 
   -- 6: the run needs more samples than there is room for
   abbrev pub SixToEachGoing : Type 0
@@ -125,33 +126,38 @@ module _ (xs ys : List ℤ) (fs : List ℕ) (o : Order) (t : LentRows) (r : Edit
   abbrev pub optimisedBy : List Sample → Row → Edition → Optimised
   optimisedBy samples breaks e = optimizeOf (measureBy samples breaks) breaks (penaltyOf (e .settings))
 
+  -- how many of its lookups fell
+  abbrev pub fellBy : List Sample → Row → Edition → ℕ
+  fellBy samples breaks e = fellIn samples breaks (penaltyOf (e .settings))
+
   -- the state after the run is what the edition's own optimiser makes of it
-  abbrev pub GoesOnBy : AtRun → List Sample → Row → Points → ℕ → Edition → Type 0
-  GoesOnBy w samples breaks ps pairs e =
-      after (w .earlier ++ w .run ∷ []) e ≡ added (unchangedIn xs ys fs (o .closed)) (resultOf (optimisedBy samples breaks e)) ps pairs
+  abbrev pub GoesOnBy : AtRun → List Sample → Row → Points → Tally → Edition → Type 0
+  GoesOnBy w samples breaks ps tally e =
+      after (w .earlier ++ w .run ∷ []) e
+      ≡ added (unchangedIn xs ys fs (o .closed)) (resultOf (fellBy samples breaks e) (optimisedBy samples breaks e)) ps tally
 
   -- 7 of short answer rows; an edition whose rows suffice is not given it
   abbrev pub SevenOfAnswersToItsOwn : Type 0
   SevenOfAnswersToItsOwn =
       Promise (inputs xs ys fs) o t r → judged xs ys fs ≡ Judged.Fine → (w : AtRun) (samples : List Sample) (breaks : Row) →
       surveyAt w ≡ Survey.surveyed samples breaks →
-      Each (λ e. (ps : Points) (pairs : ℕ) → GoesAt w ps pairs e →
+      Each (λ e. (ps : Points) (tally : Tally) → GoesAt w ps tally e →
       (answersOf e < length breaks → e .answer ≡ Crunched.Refused 7)
-      × (length breaks ≤ answersOf e → GoesOnBy w samples breaks ps pairs e))
+      × (length breaks ≤ answersOf e → GoesOnBy w samples breaks ps tally e))
 
   -- 8 in measuring, by the edition's own penalty; one that solves the run, or is left unchanged by it, is not given it
   abbrev pub EightToItsOwn : Type 0
   EightToItsOwn =
       Promise (inputs xs ys fs) o t r → judged xs ys fs ≡ Judged.Fine → (w : AtRun) (samples : List Sample) (breaks : Row) →
       surveyAt w ≡ Survey.surveyed samples breaks →
-      Each (λ e. (ps : Points) (pairs : ℕ) → GoesAt w ps pairs e → length breaks ≤ answersOf e →
-      (optimisedBy samples breaks e ≡ O.refused8 → e .answer ≡ Crunched.Refused 8) × GoesOnBy w samples breaks ps pairs e)
+      Each (λ e. (ps : Points) (tally : Tally) → GoesAt w ps tally e → length breaks ≤ answersOf e →
+      (optimisedBy samples breaks e ≡ O.refused8 → e .answer ≡ Crunched.Refused 8) × GoesOnBy w samples breaks ps tally e)
 
   -- ---- at the end: 9 by the edition's own rows
 
   abbrev pub NineToItsOwn : Type 0
   NineToItsOwn =
       Promise (inputs xs ys fs) o t r → judged xs ys fs ≡ Judged.Fine →
-      Each (λ e. (through : Bool) (ps : Points) (pairs : ℕ) → workedOn (roomsOf (e .rows .work)) (e .settings) xs ys fs stops ≡ atEnd through ps pairs →
+      Each (λ e. (through : Bool) (ps : Points) (tally : Tally) → workedOn (roomsOf (e .rows .work)) (e .settings) xs ys fs stops ≡ atEnd through ps tally →
       (pointRoom (e .rows) < length ps → e .answer ≡ Crunched.Refused 9)
-      × (length ps ≤ pointRoom (e .rows) → e .answer ≡ Crunched.Points (length (finished (o .closed) ps)) pairs))
+      × (length ps ≤ pointRoom (e .rows) → e .answer ≡ Crunched.Points (length (finished (o .closed) ps)) tally))

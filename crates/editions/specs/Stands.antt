@@ -1,5 +1,5 @@
 -- How an edition's progress, with its row for points, stands for a state of the definition, from one step to the next. Definitions only.
-use Prim.Native.Nat.{ℕ, _+_, _≤_}
+use Prim.Native.Nat.{ℕ, _+_}
 use mathlib.Core.Bool.{Bool, true, false}
 use mathlib.Core.List.{List}
 use mathlib.Core.Path.{_≡_}
@@ -7,11 +7,12 @@ use lib.IntN.{ℤ}
 use lib.ListN.{length, replicate}
 use Rattle.rows.specs.Lent.{Lent, before, after, room}
 use Rattle.rows.specs.Rows.{zeroWork, pointZero}
-use Rattle.optimize.specs.Laws.{mostPairs}
+use Rattle.optimize.specs.Fallen.{Upto}
+use Rattle.optimize.specs.Tally.{untried}
 use Rattle.contour.specs.Points.{Points}
 use Rattle.edition.specs.Scratch.{cleared}
 use Rattle.assembly.specs.Assembly.{State}
-use Rattle.assembly.specs.Stands.{Stands, pairsIn}
+use Rattle.assembly.specs.Stands.{Stands, tallyIn}
 use Rattle.assembly.specs.declared.Crunching as C
 use Rattle.assembly.specs.declared.Crunching.the-variants as Crunching
 use Rattle.crunch.specs.Crunch.{Outcome}
@@ -33,12 +34,12 @@ Carries f old new c r = (x : State) → Stands (length old) old x c → Stands (
 -- one run's step of an edition
 pub record Moves (f : State → State) (old new : Points) (c r : C.Crunching) : Type 0 where
   pub stands : Carries f old new c r
-  pub pairs : pairsIn r ≤ pairsIn c + mostPairs
+  pub few : (runs : ℕ) → Upto runs (tallyIn c) → Upto (runs + 1) (tallyIn r)
 
 -- the beginning
 pub record Begins (room : ℕ) (row : Points) (x : State) (r : C.Crunching) : Type 0 where
   pub stands : Stands room row x r
-  pub none : pairsIn r ≡ 0
+  pub none : tallyIn r ≡ untried
 
 -- what stands in a row for points stands there for some state
 pub record Stood (row : Points) (c : C.Crunching) : Type 0 where

@@ -10,12 +10,13 @@ ghost use Rattle.editions.specs.Editions.{orderOf};
 ghost use Rattle.editions.specs.Entry.{own, rows, Promise};
 ghost use Rattle.editions.specs.Exports.{reportOne, report};
 
-// Of one edition the number of a refusal, or 0; points written; pairs tried.
+// Of one edition the number of a refusal, or 0; points written; pairs tried; lookups that fell in them.
 #[repr(C)]
 pub struct EditionReport {
     pub number: u32,
     pub points: usize,
     pub pairs: usize,
+    pub fallen: usize,
 }
 
 #[repr(C)]
@@ -32,11 +33,13 @@ fn report_of(c: Crunched) -> EditionReport
             number: k as u32,
             points: 0,
             pairs: 0,
+            fallen: 0,
         },
-        Crunched::Points(points, pairs) => EditionReport {
+        Crunched::Points(points, t) => EditionReport {
             number: 0,
             points,
-            pairs,
+            pairs: t.pairs,
+            fallen: t.fallen,
         },
     }
 }

@@ -2,6 +2,7 @@
 use assembly::Crunching;
 use assembly::Progress;
 use crunch::Crunched;
+use optimize::Tally;
 use settings::Settings;
 ghost use mathlib.Core.Path.{_≡_};
 ghost use Rattle.rows.specs.Lent.{before, after, room};
@@ -29,15 +30,30 @@ pub fn begin(
         if settings.closed {
             if stops.len() == 0 {
                 let w = contour::unchanged_in(xs, ys, flags, settings.closed, points);
-                return Crunching::Ended(Progress { w, pairs: 0 });
+                return Crunching::Ended(Progress {
+                    w,
+                    tally: Tally {
+                        pairs: 0,
+                        fallen: 0,
+                    },
+                });
             }
             return Crunching::Going(Progress {
                 w: contour::nothing(),
-                pairs: 0,
+                tally: Tally {
+                    pairs: 0,
+                    fallen: 0,
+                },
             });
         }
         let w = contour::start(xs, ys, points);
-        return Crunching::Going(Progress { w, pairs: 0 });
+        return Crunching::Going(Progress {
+            w,
+            tally: Tally {
+                pairs: 0,
+                fallen: 0,
+            },
+        });
     }
     Crunching::Refused(16)
 }

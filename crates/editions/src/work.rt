@@ -17,7 +17,9 @@ ghost use Rattle.edition.specs.Edition.{afterSurvey};
 ghost use Rattle.edition.specs.Scratch.{roomsIn};
 ghost use Rattle.contour.specs.Points.{pointsOf, unchangedIn};
 ghost use Rattle.assembly.specs.Assembly.{going, added, resultOf, onward, crunchAll};
-ghost use Rattle.assembly.specs.Stands.{Sighted, pairsIn};
+ghost use Rattle.optimize.specs.Tally.{untried};
+ghost use Rattle.optimize.specs.Fallen.{Upto};
+ghost use Rattle.assembly.specs.Stands.{Sighted, tallyIn};
 ghost use Rattle.editions.specs.Editions.{settingsA, settingsB, whileGoing};
 ghost use Rattle.editions.specs.Stands.{overIn, Carries, Moves};
 
@@ -73,14 +75,15 @@ fn is_over(c: Crunching) -> bool
 
 // A run that is one line is copied.
 fn copy_line(c: Crunching, g: Seg, points: &mut [[i16; 3]]) -> Crunching
-    ensures { λ r. ⌜ Moves (whileGoing (λ ps pairs. going (ps ++ pointsOf g) pairs)) (before points) (after points) c r ⌝ }
+    ensures { λ r. ⌜ Moves (whileGoing (λ ps tally. going (ps ++ pointsOf g) tally)) (before points) (after points) c r ⌝ }
 {
     match c {
         Crunching::Refused(k) => Crunching::Refused(k),
         Crunching::Ended(p) => Crunching::Ended(p),
         Crunching::Going(p) => {
+            let tally = p.tally;
             let w = contour::push_seg(points, p.w, g);
-            Crunching::Going(Progress { w, pairs: p.pairs })
+            Crunching::Going(Progress { w, tally })
         }
     }
 }
@@ -99,7 +102,7 @@ fn take_step(
     links: &mut [u32],
     points: &mut [[i16; 3]],
 ) -> Crunching
-    requires { ⌜ Sighted (now samples) (now breaks) s × (pairsIn c ≤ 4294967296) ⌝ }
+    requires { ⌜ Sighted (now samples) (now breaks) s × Upto 1024 (tallyIn c) ⌝ }
     ensures { λ r. ⌜ Moves (whileGoing (added (unchangedIn (before xs) (before ys) (before flags) (settings .closed))
         (afterSurvey (room answers) (room links) (penaltyOf settings) (surveyIn (before samples) (before breaks) s)))) (before points) (after points) c r ⌝ }
 {
@@ -142,7 +145,7 @@ fn step_both(
     links_b: &mut [u32],
     points_b: &mut [[i16; 3]],
 ) -> Both
-    requires { ⌜ (pairsIn (c .a) ≤ 4294967296) × (pairsIn (c .b) ≤ 4294967296) ⌝ }
+    requires { ⌜ Upto 1024 (tallyIn (c .a)) × Upto 1024 (tallyIn (c .b)) ⌝ }
     ensures a { λ r. ⌜ Moves (whileGoing (added (unchangedIn (before xs) (before ys) (before flags) (order .closed))
         (resultOf (roomsIn samples breaks «answers_a» «links_a») (settingsA order) (before xs) (before ys) (before flags)
         (record { first = first; count = count })))) (before «points_a») (after «points_a») (c .a) (r .a) ⌝ }
@@ -209,7 +212,7 @@ fn run_both(
     links_b: &mut [u32],
     points_b: &mut [[i16; 3]],
 ) -> Both
-    requires { ⌜ (pairsIn (c .a) ≤ 4294967296) × (pairsIn (c .b) ≤ 4294967296) ⌝ }
+    requires { ⌜ Upto 1024 (tallyIn (c .a)) × Upto 1024 (tallyIn (c .b)) ⌝ }
     ensures a { λ r. ⌜ Moves (onward (roomsIn samples breaks «answers_a» «links_a») (settingsA order)
         (before xs) (before ys) (before flags) (record { first = first; count = count })) (before «points_a») (after «points_a») (c .a) (r .a) ⌝ }
     ensures b { λ r. ⌜ Moves (onward (roomsIn samples breaks «answers_b» «links_b») (settingsB order)
@@ -263,7 +266,7 @@ pub fn crunch_runs(
     links_b: &mut [u32],
     points_b: &mut [[i16; 3]],
 ) -> Both
-    requires { ⌜ (length (now stops) ≤ 1025) × (pairsIn (from .a) ≡ 0) × (pairsIn (from .b) ≡ 0) ⌝ }
+    requires { ⌜ (length (now stops) ≤ 1025) × (tallyIn (from .a) ≡ untried) × (tallyIn (from .b) ≡ untried) ⌝ }
     ensures a { λ r. ⌜ Carries (crunchAll (roomsIn samples breaks «answers_a» «links_a») (settingsA order)
         (before xs) (before ys) (before flags) (between (before stops))) (before «points_a») (after «points_a») (from .a) (r .a) ⌝ }
     ensures b { λ r. ⌜ Carries (crunchAll (roomsIn samples breaks «answers_b» «links_b») (settingsB order)

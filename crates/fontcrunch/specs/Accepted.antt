@@ -18,6 +18,7 @@ use Rattle.runs.specs.Runs.{numberedRun}
 use Rattle.settings.specs.Settings.{gridOf, penaltyOf, settingsOf, judgedFor}
 use Rattle.settings.specs.declared.Settings.{Settings}
 use Rattle.optimize.specs.Answers.{Answer, scoreOf}
+use Rattle.optimize.specs.declared.Tally.{Tally}
 use Rattle.survey.specs.Survey.{Survey, surveyOf}
 use Rattle.survey.specs.Survey as Survey
 use Rattle.chain.specs.Valid as Valid
@@ -88,27 +89,27 @@ even ps =
 
 -- ---- one run
 
-no-chain : {n : ℕ} {ps : List Piece} {s : Float} {p : ℕ} {A : Type 0} → refused n ≡ chained ps s p → A
+no-chain : {n : ℕ} {ps : List Piece} {s : Float} {t : Tally} {A : Type 0} → refused n ≡ chained ps s t → A
 no-chain e = let z : _≡_ {A = ℕ} 0 1 = cc in absurd (omega arith)
 
 -- a chain that was written is the optimiser's
 record Written (x : Result) (ps : List Piece) (score : Float) : Type 0 where
   answer : Answer
-  pairs : ℕ
-  is : x ≡ Edition.solved answer pairs
+  tally : Tally
+  is : x ≡ Edition.solved answer tally
   pieces : piecesOf answer ≡ ps
   scored : scoreOf answer ≡ score
 
-was-written : (room : ℕ) (x : Result) {ps : List Piece} {score : Float} {p : ℕ} → written room x ≡ chained ps score p → Written x ps score
+was-written : (room : ℕ) (x : Result) {ps : List Piece} {score : Float} {t : Tally} → written room x ≡ chained ps score t → Written x ps score
 was-written room (Edition.refused k) e = no-chain e
 was-written room (Edition.unchanged k) e = let z : _≡_ {A = ℕ} 0 1 = cc in absurd (omega arith)
-was-written room (Edition.solved a q) {ps} {score} {p} e = by (ltb room (length (piecesOf a))) e
+was-written room (Edition.solved a q) {ps} {score} {t} e = by (ltb room (length (piecesOf a))) e
   where
-    by : (b : Bool) → overIf b (piecesOf a) (scoreOf a) q ≡ chained ps score p → Written (Edition.solved a q) ps score
+    by : (b : Bool) → overIf b (piecesOf a) (scoreOf a) q ≡ chained ps score t → Written (Edition.solved a q) ps score
     by true f = no-chain f
-    by false f = record { answer = a; pairs = q; is = refl; pieces = cc; scored = cc }
+    by false f = record { answer = a; tally = q; is = refl; pieces = cc; scored = cc }
 
-module _ (rooms : Rooms) (room : ℕ) (settings : Settings) (xs ys : List ℤ) (fs : List ℕ) (ps : List Piece) (score : Float) (p : ℕ) where
+module _ (rooms : Rooms) (room : ℕ) (settings : Settings) (xs ys : List ℤ) (fs : List ℕ) (ps : List Piece) (score : Float) (t : Tally) where
   abbrev penalty : Float
   penalty = penaltyOf settings
 
@@ -120,29 +121,29 @@ module _ (rooms : Rooms) (room : ℕ) (settings : Settings) (xs ys : List ℤ) (
   unfolding Valid.checkRows
   accepted-rows samples breaks e = rw (even ps, read-back ps) e
 
-  accepted-run : (first count : ℕ) → written room (workOf rooms (gridOf settings) penalty xs ys fs first count) ≡ chained ps score p →
-      Checks.ofSurvey half penalty (given ps score) (surveyOf (rooms .samples) (rooms .breaks) xs ys fs first count (gridOf settings)) ≡ Verdict.Yes
+  accepted-run : (first count : ℕ) → written room (workOf rooms (gridOf settings) penalty xs ys fs first count) ≡ chained ps score t →
+      Checks.ofSurvey half penalty (given ps score) (surveyOf (rooms .samples) (rooms .breaks) xs ys fs first count (gridOf settings)) .verdict ≡ Verdict.Yes
   accepted-run first count e =
       let was = was-written room (workOf rooms (gridOf settings) penalty xs ys fs first count) e in
-      let best = work-solved rooms (gridOf settings) penalty xs ys fs first count (was .answer) (was .pairs) (was .is) in
+      let best = work-solved rooms (gridOf settings) penalty xs ys fs first count (was .answer) (was .tally) (was .is) in
       let fine = best .fine in
-      let yes = accepted-any (best .samples) (best .breaks) penalty (fine .some) (fine .fit-x) (fine .fit-y) (was .answer) (was .pairs) (best .is) in
+      let yes = accepted-any (best .samples) (best .breaks) penalty (fine .some) (fine .fit-x) (fine .fit-y) (was .answer) (was .tally .pairs) (best .is) in
       let same : Valid.checkOf (best .samples) (best .breaks) penalty ps score ≡ Checked.Yes = rw (was .pieces, was .scored) at yes in
       rw (best .survey, le-ltb half (length (best .breaks)) (best .room), accepted-rows (best .samples) (best .breaks) same) refl
 
   -- ---- the whole
 
-  accepted-number : (r : Run) → Chains.ofRun rooms room settings xs ys fs r ≡ chained ps score p →
-      Checks.ofRun half settings (given ps score) (rooms .samples) (rooms .breaks) xs ys fs r ≡ Verdict.Yes
+  accepted-number : (r : Run) → Chains.ofRun rooms room settings xs ys fs r ≡ chained ps score t →
+      Checks.ofRun half settings (given ps score) (rooms .samples) (rooms .breaks) xs ys fs r .verdict ≡ Verdict.Yes
   accepted-number Nothing e = no-chain e
   accepted-number (Between first count) e = accepted-run first count e
 
-  pub accepted-chain : (k : ℕ) → chainOf rooms room settings xs ys fs k ≡ chained ps score p → checkOf rooms settings xs ys fs (given ps score) k ≡ Verdict.Yes
+  pub accepted-chain : (k : ℕ) → chainOf rooms room settings xs ys fs k ≡ chained ps score t → checkOf rooms settings xs ys fs (given ps score) k .verdict ≡ Verdict.Yes
   unfolding chainOf checkOf
   accepted-chain k e = by (judgedFor settings xs ys fs) e
     where
-      by : (j : Judged) → Chains.afterJudging j (Chains.ofRun rooms room settings xs ys fs (numberedRun (settings .closed) xs ys fs k)) ≡ chained ps score p →
-          Checks.afterJudging j (Checks.ofRun half settings (given ps score) (rooms .samples) (rooms .breaks) xs ys fs (numberedRun (settings .closed) xs ys fs k)) ≡ Verdict.Yes
+      by : (j : Judged) → Chains.afterJudging j (Chains.ofRun rooms room settings xs ys fs (numberedRun (settings .closed) xs ys fs k)) ≡ chained ps score t →
+          Checks.afterJudging j (Checks.ofRun half settings (given ps score) (rooms .samples) (rooms .breaks) xs ys fs (numberedRun (settings .closed) xs ys fs k)) .verdict ≡ Verdict.Yes
       by (Judged.Refused n) f = no-chain f
       by Judged.Fine f = accepted-number (numberedRun (settings .closed) xs ys fs k) f
 
@@ -156,20 +157,20 @@ givenBy (ChainEntry.rows (chain starts ends xs ys) spans) score = record { start
 abbrev pub leftBy : Inputs → Settings → ℕ → ChainEntry.Rows → Work → ChainEntry.Rows
 leftBy i settings k c w = ChainEntry.rowsOf (ChainEntry.wholeOf i settings k c w) (ChainEntry.breaksIn i settings k w) c
 
-pub demand-three : (i : Inputs) (settings : Settings) (k : ℕ) (c : ChainEntry.Rows) (w w' : Work) (ps : List Piece) (score : Float) (pairs : ℕ) →
-    roomsOf w ≡ roomsOf w' → ChainEntry.wholeOf i settings k c w ≡ chained ps score pairs →
-    CheckEntry.wholeOf i settings k (givenBy (placesOf (length ps) (leftBy i settings k c w)) score) w' ≡ Verdict.Yes
-demand-three (inputs xs ys fs) settings k c w w' ps score pairs same e =
-    rw (e, chained-places ps score pairs (ChainEntry.breaksIn (inputs xs ys fs) settings k w) c, sym same)
-    (accepted-chain (roomsOf w) (ChainEntry.roomIn c) settings xs ys fs ps score pairs k e)
+pub demand-three : (i : Inputs) (settings : Settings) (k : ℕ) (c : ChainEntry.Rows) (w w' : Work) (ps : List Piece) (score : Float) (tally : Tally) →
+    roomsOf w ≡ roomsOf w' → ChainEntry.wholeOf i settings k c w ≡ chained ps score tally →
+    CheckEntry.wholeOf i settings k (givenBy (placesOf (length ps) (leftBy i settings k c w)) score) w' .verdict ≡ Verdict.Yes
+demand-three (inputs xs ys fs) settings k c w w' ps score tally same e =
+    rw (e, chained-places ps score tally (ChainEntry.breaksIn (inputs xs ys fs) settings k w) c, sym same)
+    (accepted-chain (roomsOf w) (ChainEntry.roomIn c) settings xs ys fs ps score tally k e)
 
 -- ---- one proof, read for each profile and each mode
 
 abbrev pub DemandThree : Settings → Type 0
 DemandThree settings =
-    (i : Inputs) (k : ℕ) (c : ChainEntry.Rows) (w w' : Work) (ps : List Piece) (score : Float) (pairs : ℕ) → roomsOf w ≡ roomsOf w' →
-    ChainEntry.wholeOf i settings k c w ≡ chained ps score pairs →
-    CheckEntry.wholeOf i settings k (givenBy (placesOf (length ps) (leftBy i settings k c w)) score) w' ≡ Verdict.Yes
+    (i : Inputs) (k : ℕ) (c : ChainEntry.Rows) (w w' : Work) (ps : List Piece) (score : Float) (tally : Tally) → roomsOf w ≡ roomsOf w' →
+    ChainEntry.wholeOf i settings k c w ≡ chained ps score tally →
+    CheckEntry.wholeOf i settings k (givenBy (placesOf (length ps) (leftBy i settings k c w)) score) w' .verdict ≡ Verdict.Yes
 
 pub on-half-units : (penalty closed : ℕ) → DemandThree (settingsOf penalty 0 closed)
 on-half-units penalty closed i = demand-three i (settingsOf penalty 0 closed)

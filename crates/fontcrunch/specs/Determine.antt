@@ -89,7 +89,7 @@ pub check-equal-orders : {i : Inputs} {settings : Settings} {k : ℕ} {c : Given
     Shown checkReport (Checks.Promise i settings k c w) r → Shown checkReport (Checks.Promise i settings k c w') r' → CheckSame r r' (w .exit) (w' .exit)
 check-equal-orders rooms p q =
     let same = ChecksOnce.equal-orders rooms (p .promise) (q .promise) in
-    record { report = shown-same p q (same .verdict); work = same .left }
+    record { report = shown-same p q (same .ruling); work = same .left }
 
 pub check-determined : {i : Inputs} {settings : Settings} {k : ℕ} {c : Given} {w w' : Scratch} {r r' : CheckReport} → w .entry ≡ w' .entry →
     Shown checkReport (Checks.Promise i settings k c w) r → Shown checkReport (Checks.Promise i settings k c w') r' → CheckSame r r' (w .exit) (w' .exit)

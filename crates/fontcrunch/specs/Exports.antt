@@ -9,13 +9,18 @@ use Rattle.crunch.specs.declared.Crunched.{Crunched}
 use Rattle.chains.specs.Entry as Chains
 use Rattle.chains.specs.declared.Chained.{Chained}
 use Rattle.checks.specs.Entry as Checks
-use Rattle.checks.specs.declared.Verdict.{Verdict}
+use Rattle.checks.specs.declared.Ruling.{Ruling}
 use Rattle.fontcrunch.specs.declared.CrunchReport.{CrunchReport}
 use Rattle.fontcrunch.specs.declared.ChainReport.{ChainReport}
 use Rattle.fontcrunch.specs.declared.CheckReport.{CheckReport}
 
 abbrev pub crunchReport : Crunched → CrunchReport
-crunchReport c = record { number = Crunch.report c .number; points = Crunch.report c .points; pairs = Crunch.report c .pairs }
+crunchReport c = record {
+  number = Crunch.report c .number;
+  points = Crunch.report c .points;
+  pairs = Crunch.report c .pairs;
+  fallen = Crunch.report c .fallen;
+}
 
 -- every NaN has one pattern
 abbrev pub chainReport : Chained → ChainReport
@@ -24,14 +29,15 @@ chainReport c = record {
   pieces = Chains.report c .pieces;
   pairs = Chains.report c .pairs;
   «score_bits» = toBits binary64 (Chains.report c .score);
+  fallen = Chains.report c .fallen;
 }
 
 abbrev pub bitOf : Bool → ℕ
 bitOf true = 1
 bitOf false = 0
 
-abbrev pub checkReport : Verdict → CheckReport
-checkReport v = record { number = Checks.report v .number; accepted = bitOf (Checks.report v .accepted) }
+abbrev pub checkReport : Ruling → CheckReport
+checkReport v = record { number = Checks.report v .number; accepted = bitOf (Checks.report v .accepted); fallen = Checks.report v .fallen }
 
 -- the chain export's contract: its entry's, of an answer that the report shows, and whose score is a double
 pub record ChainShown (Promise : Chained → Type 0) (r : ChainReport) : Type 0 where

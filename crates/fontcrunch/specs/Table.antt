@@ -64,7 +64,7 @@ pub record Row : Type 0 where
 
 abbrev pub outcome : Outcome → Result
 outcome (Crunch.refused k) = refused k
-outcome (Crunch.crunched ps pairs) = gives ps pairs
+outcome (Crunch.crunched ps t) = gives ps (t .pairs)
 
 -- n breaks from (k, 0) on, each a unit after the one before, all with the direction (1, 0): no two of them cross
 abbrev pub inLine : ℕ → ℕ → Breaks.Row

@@ -22,8 +22,10 @@ use Rattle.settings.specs.Settings.{crateSettings, penaltyOf, gridOf, judgedFor
 use Rattle.survey.specs.Survey.{Survey, surveyOf}
 use Rattle.survey.specs.Survey as Survey
 use Rattle.chain.specs.Valid as Valid
+use Rattle.chain.specs.Fallen.{fallenRows}
 use Rattle.chain.specs.declared.Piece.{Piece}
 use Rattle.chain.specs.declared.Checked.the-variants as Checked
+use Rattle.optimize.specs.declared.Tally.{Tally}
 use Rattle.edition.specs.Edition.{answerRoom}
 use Rattle.edition.specs.Scratch.{fullRooms}
 use Rattle.contour.specs.Points.{Points, pointsTo, unchangedPoints}
@@ -32,6 +34,7 @@ use Rattle.crunch.specs.Crunch.{Outcome, refused, crunched, crunchOf}
 use Rattle.chains.specs.Chains.{chained, chainOf}
 use Rattle.checks.specs.Checks.{Given, checkOf}
 use Rattle.checks.specs.Checks as Checks
+use Rattle.checks.specs.declared.Ruling.{Ruling}
 use Rattle.checks.specs.declared.Verdict.{Verdict}
 use Rattle.checks.specs.declared.Verdict.the-variants as Verdict
 use Rattle.fontcrunch.specs.Accepted.{given, accepted-chain}
@@ -45,8 +48,8 @@ crunchWhole (inputs xs ys fs) = crunchOf fullRooms 16384 crateSettings xs ys fs
 -- what a version gives for a contour: so many points
 pub record Gives (n : ℕ) (o : Outcome) : Type 0 where
   pub points : Points
-  pub pairs : ℕ
-  pub is : o ≡ crunched points pairs
+  pub tally : Tally
+  pub is : o ≡ crunched points tally
   pub many : length points ≡ n
 
 pub record Refuses (o : Outcome) : Type 0 where
@@ -88,7 +91,7 @@ not-refused o ps p e r =
 
 not-so-many : (o : Outcome) (ps : Points) (p n : ℕ) → outcome o ≡ gives ps p → (length ps ≡ n → ⊥) → Gives n o → ⊥
 not-so-many o ps p n e other g =
-    let f : outcome (crunched (g .points) (g .pairs)) ≡ gives ps p = ap outcome (sym (g .is)) ∙ e in
+    let f : outcome (crunched (g .points) (g .tally)) ≡ gives ps p = ap outcome (sym (g .is)) ∙ e in
     let same : g .points ≡ ps = cc in
     other (ap length (sym same) ∙ g .many)
 
@@ -111,7 +114,7 @@ copies-its-input f right wrong =
 
 -- ---- checking a chain
 
-abbrev pub checkWhole : Inputs → ℕ → Given → Verdict
+abbrev pub checkWhole : Inputs → ℕ → Given → Ruling
 checkWhole (inputs xs ys fs) k c = checkOf fullRooms crateSettings xs ys fs c k
 
 -- a chain without a piece, and any score
@@ -128,12 +131,13 @@ no-piece-no : (samples : List (List Float)) (breaks : List (List Float)) (penalt
 unfolding Valid.checkRows Valid.checkOf Valid.goodShape Valid.piecesFrom
 no-piece-no samples breaks penalty score = rw (no-piece (length breaks - 1)) refl
 
-never-yes : (half : ℕ) (penalty score : Float) (s : Survey) → Checks.ofSurvey half penalty (noPiece score) s ≡ Verdict.Yes → ⊥
+never-yes : (half : ℕ) (penalty score : Float) (s : Survey) → Checks.ofSurvey half penalty (noPiece score) s .verdict ≡ Verdict.Yes → ⊥
 never-yes half penalty score (Survey.refused k) e = let z : _≡_ {A = ℕ} 0 1 = cc in absurd (omega arith)
 never-yes half penalty score Survey.past e = let z : _≡_ {A = ℕ} 0 1 = cc in absurd (omega arith)
 never-yes half penalty score (Survey.surveyed samples breaks) e = by (ltb half (length breaks)) e
   where
-    by : (b : Bool) → Checks.unlessShort b (Checks.verdictOf (Valid.checkRows samples breaks penalty [] [] [] [] score)) ≡ Verdict.Yes → ⊥
+    by : (b : Bool) → Checks.unlessShort b
+        (Checks.ruling (Checks.verdictOf (Valid.checkRows samples breaks penalty [] [] [] [] score)) (fallenRows samples breaks penalty [] [] [] [])) .verdict ≡ Verdict.Yes → ⊥
     by true f = let z : _≡_ {A = ℕ} 0 1 = cc in absurd (omega arith)
     by false f =
         let g : Verdict.No ≡ Verdict.Yes = rw (no-piece-no samples breaks penalty score) at f in
@@ -141,29 +145,29 @@ never-yes half penalty score (Survey.surveyed samples breaks) e = by (ltb half (
         absurd (omega arith)
 
 -- of no contour, no run and no score is a chain without a piece accepted
-pub says-always-yes : (f : Inputs → ℕ → Given → Verdict) → ((i : Inputs) (k : ℕ) (c : Given) → f i k c ≡ checkWhole i k c) →
-    (i : Inputs) (k : ℕ) (score : Float) → f i k (noPiece score) ≡ Verdict.Yes → ⊥
+pub says-always-yes : (f : Inputs → ℕ → Given → Ruling) → ((i : Inputs) (k : ℕ) (c : Given) → f i k c ≡ checkWhole i k c) →
+    (i : Inputs) (k : ℕ) (score : Float) → f i k (noPiece score) .verdict ≡ Verdict.Yes → ⊥
 unfolding checkOf
-says-always-yes f right (inputs xs ys fs) k score e = judging (judgedFor crateSettings xs ys fs) (sym (right (inputs xs ys fs) k (noPiece score)) ∙ e)
+says-always-yes f right (inputs xs ys fs) k score e = judging (judgedFor crateSettings xs ys fs) (ap (λ (v : Ruling). v .verdict) (sym (right (inputs xs ys fs) k (noPiece score))) ∙ e)
   where
-    says : Run → Verdict
+    says : Run → Ruling
     says r = Checks.ofRun (answerRoom 4096 4096) crateSettings (noPiece score) 16384 2048 xs ys fs r
 
-    running : (r : Run) → says r ≡ Verdict.Yes → ⊥
+    running : (r : Run) → says r .verdict ≡ Verdict.Yes → ⊥
     running Nothing g = let z : _≡_ {A = ℕ} 0 1 = cc in absurd (omega arith)
     running (Between first count) g =
         never-yes (answerRoom 4096 4096) (penaltyOf crateSettings) score (surveyOf 16384 2048 xs ys fs first count (gridOf crateSettings)) g
 
-    judging : (j : Judged) → Checks.afterJudging j (says (numberedRun false xs ys fs k)) ≡ Verdict.Yes → ⊥
+    judging : (j : Judged) → Checks.afterJudging j (says (numberedRun false xs ys fs k)) .verdict ≡ Verdict.Yes → ⊥
     judging (Judged.Refused n) g = let z : _≡_ {A = ℕ} 0 1 = cc in absurd (omega arith)
     judging Judged.Fine g = running (numberedRun false xs ys fs k) g
 
 -- whatever run the optimiser has a chain for, that chain is accepted
-pub says-always-no : (f : Inputs → ℕ → Given → Verdict) → ((i : Inputs) (k : ℕ) (c : Given) → f i k c ≡ checkWhole i k c) →
-    (xs ys : List ℤ) (fs : List ℕ) (k room : ℕ) (ps : List Piece) (score : Float) (pairs : ℕ) →
-    chainOf fullRooms room crateSettings xs ys fs k ≡ chained ps score pairs → f (inputs xs ys fs) k (given ps score) ≡ Verdict.No → ⊥
-says-always-no f right xs ys fs k room ps score pairs e denied =
-    let accepted = accepted-chain fullRooms room crateSettings xs ys fs ps score pairs k e in
-    let both : Verdict.Yes ≡ Verdict.No = sym accepted ∙ sym (right (inputs xs ys fs) k (given ps score)) ∙ denied in
+pub says-always-no : (f : Inputs → ℕ → Given → Ruling) → ((i : Inputs) (k : ℕ) (c : Given) → f i k c ≡ checkWhole i k c) →
+    (xs ys : List ℤ) (fs : List ℕ) (k room : ℕ) (ps : List Piece) (score : Float) (tally : Tally) →
+    chainOf fullRooms room crateSettings xs ys fs k ≡ chained ps score tally → f (inputs xs ys fs) k (given ps score) .verdict ≡ Verdict.No → ⊥
+says-always-no f right xs ys fs k room ps score tally e denied =
+    let accepted = accepted-chain fullRooms room crateSettings xs ys fs ps score tally k e in
+    let both : Verdict.Yes ≡ Verdict.No = sym accepted ∙ ap (λ (v : Ruling). v .verdict) (sym (right (inputs xs ys fs) k (given ps score))) ∙ denied in
     let z : _≡_ {A = ℕ} 0 1 = cc in
     absurd (omega arith)

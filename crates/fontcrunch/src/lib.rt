@@ -1,6 +1,7 @@
 // The entries for C and Rust programs. A row goes by pointer and length; what each row, room and number
 // means stands in include/fontcrunch.h.
 use chains::Chained;
+use checks::Ruling;
 use checks::Verdict;
 use crunch::Crunched;
 use settings::Settings;
@@ -15,28 +16,31 @@ ghost use Rattle.chains.specs.Entry as Chains;
 ghost use Rattle.checks.specs.Entry as Checks;
 ghost use Rattle.fontcrunch.specs.Exports.{crunchReport, chainReport, checkReport, ChainShown};
 
-// The number of a refusal, or 0; points written; pairs tried.
+// The number of a refusal, or 0; points written; pairs tried; lookups that fell off the samples in them.
 #[repr(C)]
 pub struct CrunchReport {
     pub number: u32,
     pub points: usize,
     pub pairs: usize,
+    pub fallen: usize,
 }
 
-// The number of a refusal, or 0; pieces written; pairs tried; the score's bits.
+// The number of a refusal, or 0; pieces written; pairs tried; the score's bits; lookups that fell.
 #[repr(C)]
 pub struct ChainReport {
     pub number: u32,
     pub pieces: usize,
     pub pairs: usize,
     pub score_bits: u64,
+    pub fallen: usize,
 }
 
-// The number of a refusal, or 0; 1 where the chain is accepted.
+// The number of a refusal, or 0; 1 where the chain is accepted; lookups that fell in measuring it.
 #[repr(C)]
 pub struct CheckReport {
     pub number: u32,
     pub accepted: u32,
+    pub fallen: usize,
 }
 
 fn crunch_report(c: Crunched) -> CrunchReport
@@ -47,11 +51,13 @@ fn crunch_report(c: Crunched) -> CrunchReport
             number: k as u32,
             points: 0,
             pairs: 0,
+            fallen: 0,
         },
-        Crunched::Points(points, pairs) => CrunchReport {
+        Crunched::Points(points, t) => CrunchReport {
             number: 0,
             points,
-            pairs,
+            pairs: t.pairs,
+            fallen: t.fallen,
         },
     }
 }
@@ -66,37 +72,44 @@ fn chain_report(c: Chained) -> ChainReport
             pieces: 0,
             pairs: 0,
             score_bits: 0,
+            fallen: 0,
         },
-        Chained::Unchanged(pairs) => ChainReport {
+        Chained::Unchanged(t) => ChainReport {
             number: 0,
             pieces: 0,
-            pairs,
+            pairs: t.pairs,
             score_bits: 0,
+            fallen: t.fallen,
         },
-        Chained::Pieces(pieces, score, pairs) => ChainReport {
+        Chained::Pieces(pieces, score, t) => ChainReport {
             number: 0,
             pieces,
-            pairs,
+            pairs: t.pairs,
             score_bits: float::bits(score),
+            fallen: t.fallen,
         },
     }
 }
 
-fn check_report(v: Verdict) -> CheckReport
+fn check_report(v: Ruling) -> CheckReport
     ensures { λ r. ⌜ r ≡ checkReport v ⌝ }
 {
-    match v {
+    let verdict = v.verdict;
+    match verdict {
         Verdict::Refused(k) => CheckReport {
             number: k as u32,
             accepted: 0,
+            fallen: 0,
         },
         Verdict::Yes => CheckReport {
             number: 0,
             accepted: 1,
+            fallen: v.fallen,
         },
         Verdict::No => CheckReport {
             number: 0,
             accepted: 0,
+            fallen: v.fallen,
         },
     }
 }

@@ -5,13 +5,13 @@ use mathlib.Core.Path.{_≡_, refl, sym, ap, _∙_}
 use native.Mathlib.Omega.{arith}
 use lib.ListN.{length, take}
 use lib.Seq.{take-at}
-use Rattle.settings.specs.declared.Settings.{Settings}
+use Rattle.answering.specs.declared.Order.{Order}
 use Rattle.lines.specs.Text.{Put}
 use Rattle.lines.proofs.Theorems.{whole}
 use Rattle.fontcrunch_cli.specs.Output.{outputOf}
 use Rattle.fontcrunch_cli.specs.Stream.{Owes, Written, no-more, one-more, bytesOf}
 
-pub however-cut : {s : Settings} {left : List ℕ} {chunks : List (List ℕ)} {done : List ℕ} →
+pub however-cut : {s : Order} {left : List ℕ} {chunks : List (List ℕ)} {done : List ℕ} →
     Written s left chunks done → done ≡ outputOf s (left ++ bytesOf chunks)
 unfolding bytesOf
 however-cut {s} {left} no-more = ap (outputOf s) (sym (append-nil left))

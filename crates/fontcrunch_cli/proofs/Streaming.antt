@@ -8,7 +8,7 @@ use borrow.Author.Tests.{leb-true, leb-false, ltb-true, ltb-false}
 use lib.Dec.{leb, ltb}
 use lib.ListN.{length, take, drop, length-drop, length-append, length-take, drop-of-length-le}
 use lib.Seq.{sets, drop-drop, drop-length, take-all, take-append-le, length-take-le, length-sets}
-use Rattle.settings.specs.declared.Settings.{Settings}
+use Rattle.answering.specs.declared.Order.{Order}
 use Rattle.lines.specs.Line.{upTo, parsedOf}
 use Rattle.lines.specs.Text.{Put}
 use Rattle.lines.specs.Stream.{endedBy, linesOf, fedIf, Feeds}
@@ -23,25 +23,25 @@ use Rattle.fontcrunch_cli.specs.Stream.{Owes, Keeps, Reaches}
 
 -- ---- what is owed
 
-pub owes-same : (s : Settings) (bytes : List ℕ) → Owes s bytes [] bytes
+pub owes-same : (s : Order) (bytes : List ℕ) → Owes s bytes [] bytes
 owes-same s bytes = record { owes = λ rest. refl }
 
-pub owes-then : {s : Settings} {a done b done′ c : List ℕ} → Owes s a done b → Owes s b done′ c → Owes s a (done ++ done′) c
+pub owes-then : {s : Order} {a done b done′ c : List ℕ} → Owes s a done b → Owes s b done′ c → Owes s a (done ++ done′) c
 owes-then {s} {done = done} {done′ = done′} {c = c} p q = record {
   owes = λ rest. p .owes rest ∙ ap (λ (l : List ℕ). done ++ l) (q .owes rest) ∙ sym (append-assoc done done′ (outputOf s (c ++ rest)));
 }
 
 -- ---- a line cut where the buffer ended
 
-pub cut-text : (s : Settings) (line : List ℕ) → lineText s (take 65537 line) ≡ lineText s line
+pub cut-text : (s : Order) (line : List ℕ) → lineText s (take 65537 line) ≡ lineText s line
 unfolding lineText
-cut-text s line = ap (parsedText s) (cut line)
+cut-text s line = ap (parsedText (s .settings) (s .told)) (cut line)
 
 -- the same first bytes, as many as the buffer has
-same-front : (s : Settings) (k l : List ℕ) → take 65537 k ≡ take 65537 l → lineText s k ≡ lineText s l
+same-front : (s : Order) (k l : List ℕ) → take 65537 k ≡ take 65537 l → lineText s k ≡ lineText s l
 same-front s k l e = sym (cut-text s k) ∙ ap (lineText s) e ∙ cut-text s l
 
-module _ (s : Settings) (k : List ℕ) (clean : upTo 10 k ≡ k) where
+module _ (s : Order) (k : List ℕ) (clean : upTo 10 k ≡ k) where
   cut-owed : (rest : List ℕ) → outputOf s (k ++ rest) ≡ outputOf s (take 65537 k ++ rest)
   unfolding outputOf answersTo
   cut-owed rest = by (leb (length k) 65537) refl
@@ -79,7 +79,7 @@ module _ {line line′ : List ℕ} {used kept : ℕ} (x : List ℕ) (k : Keeps l
 -- ---- a turn
 
 -- before anything is taken
-pub begin : (s : Settings) (text : List ℕ) {line : List ℕ} {used : ℕ} (chunk : List ℕ) {first : ℕ} → Keeps line used → first ≤ length chunk →
+pub begin : (s : Order) (text : List ℕ) {line : List ℕ} {used : ℕ} (chunk : List ℕ) {first : ℕ} → Keeps line used → first ≤ length chunk →
     Reaches s text line used chunk first text line used 0 first
 begin s text {line} {used} chunk {first} k inside = record {
   done = [];
@@ -101,7 +101,7 @@ empty-front line = refl
 pub fresh : (line : List ℕ) → length line ≡ 65537 → Keeps line 0
 fresh line long = record { long = long; inside = omega arith; under-way = empty-front line }
 
-module _ (s : Settings) (chunk : List ℕ) {line : List ℕ} {used : ℕ} (i : ℕ) (k : Keeps line used) where
+module _ (s : Order) (chunk : List ℕ) {line : List ℕ} {used : ℕ} (i : ℕ) (k : Keeps line used) where
   -- the chunk has a line end
   whole-owes : i + length (coming chunk i) < length chunk →
       Owes s (take used line ++ drop i chunk) (lineText s (take used line ++ coming chunk i) ++ (10 ∷ [])) (drop (i + length (coming chunk i) + 1) chunk)
@@ -137,7 +137,7 @@ module _ (s : Settings) (chunk : List ℕ) {line : List ℕ} {used : ℕ} (i : �
         subst (λ (l : List ℕ). upTo 10 (take 65537 (take used line ++ l)) ≡ take 65537 (take used line ++ l)) (sym all-comes)
         (none-in-front 10 65537 (take used line ++ drop i chunk) no-end)
 
-module _ {s : Settings} {text₀ line₀ : List ℕ} {used₀ : ℕ} (chunk : List ℕ) {first : ℕ} {text line line′ : List ℕ} {used at i : ℕ}
+module _ {s : Order} {text₀ line₀ : List ℕ} {used₀ : ℕ} (chunk : List ℕ) {first : ℕ} {text line line′ : List ℕ} {used at i : ℕ}
     (g : Reaches s text₀ line₀ used₀ chunk first text line used at i) where
   -- a line that ended, with its answer
   pub line-ended : {n next : ℕ} → Feeds line used chunk i line′ (Line n next) → {text′ : List ℕ} {at′ : ℕ} →
@@ -194,16 +194,16 @@ module _ {s : Settings} {text₀ line₀ : List ℕ} {used₀ : ℕ} (chunk : Li
 -- ---- a chunk
 
 -- so far of a chunk: some output is that for the lines that ended
-pub record Gone (s : Settings) (line₀ : List ℕ) (used₀ : ℕ) (chunk line : List ℕ) (used i : ℕ) : Type 0 where
+pub record Gone (s : Order) (line₀ : List ℕ) (used₀ : ℕ) (chunk line : List ℕ) (used i : ℕ) : Type 0 where
   pub done : List ℕ
   pub keeps : Keeps line used
   pub inside : i ≤ length chunk
   pub owes : Owes s (take used₀ line₀ ++ chunk) done (take used line ++ drop i chunk)
 
-pub gone-none : (s : Settings) {line : List ℕ} {used : ℕ} (chunk : List ℕ) → Keeps line used → Gone s line used chunk line used 0
+pub gone-none : (s : Order) {line : List ℕ} {used : ℕ} (chunk : List ℕ) → Keeps line used → Gone s line used chunk line used 0
 gone-none s {line} {used} chunk k = record { done = []; keeps = k; inside = omega arith; owes = owes-same s (take used line ++ chunk) }
 
-module _ {s : Settings} {line₀ : List ℕ} {used₀ : ℕ} (chunk : List ℕ) {line : List ℕ} {used i : ℕ} (g : Gone s line₀ used₀ chunk line used i) where
+module _ {s : Order} {line₀ : List ℕ} {used₀ : ℕ} (chunk : List ℕ) {line : List ℕ} {used i : ℕ} (g : Gone s line₀ used₀ chunk line used i) where
   pub gone-more : {text text′ line′ : List ℕ} {used′ at i′ : ℕ} →
       Reaches s text line used chunk i text′ line′ used′ at i′ → Gone s line₀ used₀ chunk line′ used′ i′
   gone-more r = record { done = g .done ++ r .done; keeps = r .keeps; inside = r .inside; owes = owes-then (g .owes) (r .owes) }
@@ -216,16 +216,16 @@ module _ {s : Settings} {line₀ : List ℕ} {used₀ : ℕ} (chunk : List ℕ) 
 
 -- ---- the last line
 
-no-output : (s : Settings) → outputOf s [] ≡ []
+no-output : (s : Order) → outputOf s [] ≡ []
 unfolding outputOf answersTo
 no-output s = ap (answersTo s) (no-part 10)
 
-pub none-last : (s : Settings) (text line : List ℕ) {used : ℕ} → used ≡ 0 → Put text 0 (outputOf s (take used line)) text 0
+pub none-last : (s : Order) (text line : List ℕ) {used : ℕ} → used ≡ 0 → Put text 0 (outputOf s (take used line)) text 0
 none-last s text line {used} e =
     subst (λ (done : List ℕ). Put text 0 done text 0) (sym (ap (λ (n : ℕ). outputOf s (take n line)) e ∙ no-output s)) (nothing text 0 (omega arith))
 
 -- a line under way that is not empty
-last-output : (s : Settings) (k : List ℕ) → 0 < length k → upTo 10 k ≡ k → outputOf s k ≡ lineText s k ++ (10 ∷ [])
+last-output : (s : Order) (k : List ℕ) → 0 < length k → upTo 10 k ≡ k → outputOf s k ≡ lineText s k ++ (10 ∷ [])
 unfolding outputOf answersTo
 last-output s k some clean =
     let past : length k ≤ suc (length k) = omega arith in
@@ -234,7 +234,7 @@ last-output s k some clean =
     ∙ ap (λ (l : List ℕ). k ∷ linesOf l) (drop-of-length-le k past) ∙ ap (λ (l : List (List ℕ)). k ∷ l) (no-part 10))
     ∙ append-nil (lineText s k ++ (10 ∷ []))
 
-pub one-last : (s : Settings) {text line text′ : List ℕ} {used r : ℕ} → (used ≡ 0 → ⊥) → Keeps line used →
+pub one-last : (s : Order) {text line text′ : List ℕ} {used r : ℕ} → (used ≡ 0 → ⊥) → Keeps line used →
     Put text 0 (lineText s (take used line) ++ (10 ∷ [])) text′ r →
     Put text 0 (outputOf s (take used line)) text′ r
 one-last s {text} {line} {text′} {used} {r} some k p =

@@ -1,7 +1,7 @@
 // The lines of the input, answered as they end. Nothing is read or written here.
 use crate::out;
+use answering::Order;
 use lines::Fed;
-use settings::Settings;
 ghost use Prim.Native.Nat.{_≤_};
 ghost use lib.ListN.{length, take};
 ghost use Rattle.lines.specs.Text.{Put};
@@ -24,11 +24,11 @@ pub fn take_lines(
     from: usize,
     chunk: &[u8],
     first: usize,
-    settings: Settings,
+    order: Order,
 ) -> Taken
     requires { ⌜ Keeps (now line) from ⌝ }
     requires { ⌜ first ≤ length (now chunk) ⌝ }
-    ensures { λ r. ⌜ Takes settings text line from (now (chunk .entry)) first r ⌝ }
+    ensures { λ r. ⌜ Takes order text line from (now (chunk .entry)) first r ⌝ }
 {
     let mut used = from;
     let mut at = 0;
@@ -36,7 +36,7 @@ pub fn take_lines(
     while i < chunk.len() {
         match lines::feed(line, used, chunk, i) {
             Fed::Line(n, next) => {
-                at = answering::put_answer(text, at, &line[..n], settings);
+                at = answering::put_answer(text, at, &line[..n], order);
                 used = 0;
                 i = next;
                 if !out::has_room(text.len(), at) {
@@ -56,12 +56,12 @@ pub fn take_lines(
 }
 
 // A last line with no line end counts where it is not empty.
-pub fn put_last(text: &mut [u8], line: &[u8], used: usize, settings: Settings) -> usize
+pub fn put_last(text: &mut [u8], line: &[u8], used: usize, order: Order) -> usize
     requires { ⌜ Keeps (now line) used ⌝ }
-    ensures { λ r. ⌜ Put (now (text .entry)) 0 (outputOf settings (take used (now (line .entry)))) (now (text .exit)) r ⌝ }
+    ensures { λ r. ⌜ Put (now (text .entry)) 0 (outputOf order (take used (now (line .entry)))) (now (text .exit)) r ⌝ }
 {
     if used == 0 {
         return 0;
     }
-    answering::put_answer(text, 0, &line[..used], settings)
+    answering::put_answer(text, 0, &line[..used], order)
 }

@@ -12,6 +12,7 @@ use lib.IntN.{ℤ}
 use lib.ListN.{length, getD, set, take, drop, length-append, length-drop, length-set, drop-of-length-le}
 use lib.Seq.{drop-cons, take-add, take-all, take-suc-set, drop-set-lt}
 use Rattle.settings.specs.declared.Settings.{Settings}
+use Rattle.optimize.specs.declared.Tally.{Tally}
 use Rattle.edition.specs.Edition.{Rooms}
 use Rattle.contour.specs.Points.{Points}
 use Rattle.contour.specs.Writing.{Holds}
@@ -85,17 +86,17 @@ ends-more at (qs ∷ contours) ps =
 
 -- ---- what a contour gave
 
-record Gave (row : Points) (o : Crunch.Outcome) (n p : ℕ) : Type 0 where
+record Gave (row : Points) (o : Crunch.Outcome) (n : ℕ) (t : Tally) : Type 0 where
   ps : Points
-  is : o ≡ crunched ps p
+  is : o ≡ crunched ps t
   held : Holds row n ps
 
-gave : {row : Points} {o : Crunch.Outcome} {r : Crunched} {n p : ℕ} → Gives row o r → r ≡ C.Points n p → Gave row o n p
+gave : {row : Points} {o : Crunch.Outcome} {r : Crunched} {n : ℕ} {t : Tally} → Gives row o r → r ≡ C.Points n t → Gave row o n t
 gave (Gives.no e) h = absurd (let z : _≡_ {A = ℕ} 0 1 = cc in omega arith)
-gave {row} {n = n} {p = p} (Gives.yes {ps = ps} {n = m} {p = q} e h) i =
+gave {row} {n = n} {t = t} (Gives.yes {ps = ps} {n = m} {t = u} e h) i =
     let count : m ≡ n = cc in
-    let pairs : q ≡ p = cc in
-    record { ps = ps; is = ap (crunched ps) pairs; held = subst (λ (k : ℕ). Holds row k ps) count h }
+    let tally : u ≡ t = cc in
+    record { ps = ps; is = ap (crunched ps) tally; held = subst (λ (k : ℕ). Holds row k ps) count h }
 
 gave-no : {row : Points} {o : Crunch.Outcome} {r : Crunched} {k : ℕ} → Gives row o r → r ≡ C.Refused k → o ≡ Crunch.refused k
 gave-no (Gives.no e) h = cc
@@ -198,8 +199,8 @@ module _ (rooms : Rooms) (settings : Settings) (room : ℕ) (ends₀ : List ℕ)
             let is : all ≡ refused m = g .whole ∙ ap (beforeAll (g .contours)) (ahead-is ∙ ap then (gave-no turned h)) in
             subst (λ (o : Outcome (List Points)). Gathers row es o (G.Refused m)) (sym is) (Gathers.no refl)
 
-        module _ {n p : ℕ} (h : r ≡ C.Points n p) where
-          gives : Gave (drop at points′) turn n p
+        module _ {n : ℕ} {t : Tally} (h : r ≡ C.Points n t) where
+          gives : Gave (drop at points′) turn n t
           gives = gave turned h
 
           counted : length (gives .ps) ≡ n

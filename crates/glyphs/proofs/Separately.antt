@@ -54,7 +54,7 @@ module _ (rooms : Edition.Rooms) (settings : Settings) where
           ((left : ℕ) (more : List Points) → crunchEach rooms settings left contours ≡ done more → Each rooms settings left contours more) →
           onward room o (λ left. crunchEach rooms settings left contours) ≡ done all → Each rooms settings room (inputs xs ys fs ∷ contours) all
       by (Crunch.refused k) is go e = absurd (let z : _≡_ {A = ℕ} 0 1 = cc in omega arith)
-      by (crunched ps pairs) is go e =
+      by (crunched ps tally) is go e =
           let f = followed room contours ps e in
           subst (Each rooms settings room (inputs xs ys fs ∷ contours)) (sym (f .all-is)) (next is (go (room - length ps) (f .more) (f .is)))
 

@@ -22,6 +22,7 @@ use Rattle.runs.specs.Runs.{Span, between, stopsOf, isCopied}
 use Rattle.runs.specs.declared.Run.the-variants.{Between}
 use Rattle.settings.specs.Settings.{judgedFor}
 use Rattle.settings.specs.declared.Settings.{Settings}
+use Rattle.optimize.specs.declared.Tally.{Tally}
 use Rattle.edition.specs.Edition.{Result, Rooms}
 use Rattle.edition.specs.Edition as Edition
 use Rattle.contour.specs.Points.{Points, pointsOf, pieceIf, piecesPoints, pointsTo, pointAs, cameTo, unchangedIn}
@@ -106,8 +107,8 @@ at-16 (x ∷ xs) (suc i) h = at-16 xs i (and-right (in16 x) (all16 xs) h)
 
 data Sixteen : State → Type 0 where
   no : (k : ℕ) → Sixteen (State.refused k)
-  ends : {ps : Points} {pairs : ℕ} → All16 ps → Sixteen (ended ps pairs)
-  goes : {ps : Points} {pairs : ℕ} → All16 ps → Sixteen (going ps pairs)
+  ends : {ps : Points} {tally : Tally} → All16 ps → Sixteen (ended ps tally)
+  goes : {ps : Points} {tally : Tally} → All16 ps → Sixteen (going ps tally)
 
 module _ (rooms : Rooms) (settings : Settings) (xs ys : List ℤ) (fs : List ℕ) (hx : all16 xs ≡ true) (hy : all16 ys ≡ true) where
   place-16 : (on : Bool) (i : ℕ) {ps : Points} → All16 ps → All16 (pointAs on xs ys i ∷ ps)
@@ -127,20 +128,20 @@ module _ (rooms : Rooms) (settings : Settings) (xs ys : List ℤ) (fs : List ℕ
   itself-16 true = came-16 (length fs)
   itself-16 false = to-16 (countOf fs)
 
-  added-16 : (x : Result) {ps : Points} (pairs : ℕ) → All16 ps → Sixteen (added (itself rooms settings xs ys fs) x ps pairs)
-  added-16 (Edition.refused k) pairs h = no k
-  added-16 (Edition.unchanged p) pairs h = ends (itself-16 (settings .closed))
-  added-16 (Edition.solved a p) pairs h = goes (both h (pieces-16 (quadsOf a)))
+  added-16 : (x : Result) {ps : Points} (tally : Tally) → All16 ps → Sixteen (added (itself rooms settings xs ys fs) x ps tally)
+  added-16 (Edition.refused k) tally h = no k
+  added-16 (Edition.unchanged p) tally h = ends (itself-16 (settings .closed))
+  added-16 (Edition.solved a p) tally h = goes (both h (pieces-16 (quadsOf a)))
 
-  run-16 : (copied : Bool) (r : Span) {ps : Points} (pairs : ℕ) → All16 ps → Sixteen (runIf rooms settings xs ys fs copied r ps pairs)
-  run-16 true r pairs h = goes (both h (seg-16 (segAt xs ys fs (r .first))))
-  run-16 false r pairs h = added-16 (resultOf rooms settings xs ys fs r) pairs h
+  run-16 : (copied : Bool) (r : Span) {ps : Points} (tally : Tally) → All16 ps → Sixteen (runIf rooms settings xs ys fs copied r ps tally)
+  run-16 true r tally h = goes (both h (seg-16 (segAt xs ys fs (r .first))))
+  run-16 false r tally h = added-16 (resultOf rooms settings xs ys fs r) tally h
 
   onward-16 : (r : Span) {s : State} → Sixteen s → Sixteen (onward rooms settings xs ys fs r s)
   unfolding afterRun
   onward-16 r (no k) = no k
   onward-16 r (ends h) = ends h
-  onward-16 r (goes {pairs = pairs} h) = run-16 (isCopied xs ys fs (Between (r .first) (r .count))) r pairs h
+  onward-16 r (goes {tally = tally} h) = run-16 (isCopied xs ys fs (Between (r .first) (r .count))) r tally h
 
   all-16 : (rs : List Span) {s : State} → Sixteen s → Sixteen (crunchAll rooms settings xs ys fs rs s)
   unfolding crunchAll
@@ -168,26 +169,26 @@ module _ (rooms : Rooms) (settings : Settings) (xs ys : List ℤ) (fs : List ℕ
 
 data In16 : Outcome → Type 0 where
   no : (k : ℕ) → In16 (Outcome.refused k)
-  yes : {ps : Points} {pairs : ℕ} → All16 ps → In16 (crunched ps pairs)
+  yes : {ps : Points} {tally : Tally} → All16 ps → In16 (crunched ps tally)
 
 module _ (closed : Bool) where
-  over-16 : (b : Bool) {ps : Points} (pairs : ℕ) → All16 ps → In16 (overIf closed b ps pairs)
-  over-16 true pairs h = no 9
-  over-16 false pairs h = yes (finished-16 closed h)
+  over-16 : (b : Bool) {ps : Points} (tally : Tally) → All16 ps → In16 (overIf closed b ps tally)
+  over-16 true tally h = no 9
+  over-16 false tally h = yes (finished-16 closed h)
 
   outcome-16 : (room : ℕ) {s : State} → Sixteen s → In16 (outcomeOf closed room s)
   outcome-16 room (no k) = no k
-  outcome-16 room (ends {ps = ps} {pairs = pairs} h) = over-16 (ltb room (length ps)) pairs h
-  outcome-16 room (goes {ps = ps} {pairs = pairs} h) = over-16 (ltb room (length ps)) pairs h
+  outcome-16 room (ends {ps = ps} {tally = tally} h) = over-16 (ltb room (length ps)) tally h
+  outcome-16 room (goes {ps = ps} {tally = tally} h) = over-16 (ltb room (length ps)) tally h
 
 judged-16 : (j : Judged) {x : Outcome} → In16 x → In16 (afterJudging j x)
 judged-16 (Judged.Refused k) h = no k
 judged-16 Judged.Fine h = h
 
-got : {ps : Points} {pairs : ℕ} → In16 (crunched ps pairs) → All16 ps
+got : {ps : Points} {tally : Tally} → In16 (crunched ps tally) → All16 ps
 got (yes h) = h
 
-pub crunched-16 : (rooms : Rooms) (room : ℕ) (settings : Settings) (xs ys : List ℤ) (fs : List ℕ) {ps : Points} {pairs : ℕ} →
-    all16 xs ≡ true → all16 ys ≡ true → crunchOf rooms room settings xs ys fs ≡ crunched ps pairs → All16 ps
+pub crunched-16 : (rooms : Rooms) (room : ℕ) (settings : Settings) (xs ys : List ℤ) (fs : List ℕ) {ps : Points} {tally : Tally} →
+    all16 xs ≡ true → all16 ys ≡ true → crunchOf rooms room settings xs ys fs ≡ crunched ps tally → All16 ps
 unfolding crunchOf
 crunched-16 rooms room settings xs ys fs hx hy e = got (subst In16 e (judged-16 (judgedFor settings xs ys fs) (outcome-16 (settings .closed) room (runs-16 rooms settings xs ys fs hx hy))))

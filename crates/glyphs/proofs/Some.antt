@@ -16,6 +16,7 @@ use Rattle.runs.specs.declared.Run.the-variants.{Between}
 use Rattle.corners.specs.Segments.{onAt, countOf, segAt}
 use Rattle.settings.specs.Settings.{thenSettings, judgedFor}
 use Rattle.settings.specs.declared.Settings.{Settings}
+use Rattle.optimize.specs.declared.Tally.{Tally}
 use Rattle.edition.specs.Edition.{Result, Rooms}
 use Rattle.edition.specs.Edition as Edition
 use Rattle.contour.specs.Points.{Points, pointsOf, pointsTo, pointAs, cameTo, unchangedIn, around}
@@ -70,8 +71,8 @@ finished-some false ps some = drop-some false (reverse ps) (omega (arith, length
 -- while the work goes on, at least so many
 data Some (least : ℕ) : State → Type 0 where
   none : (k : ℕ) → Some least (State.refused k)
-  ends : {ps : Points} {pairs : ℕ} → 0 < length ps → Some least (ended ps pairs)
-  goes : {ps : Points} {pairs : ℕ} → least ≤ length ps → Some least (going ps pairs)
+  ends : {ps : Points} {tally : Tally} → 0 < length ps → Some least (ended ps tally)
+  goes : {ps : Points} {tally : Tally} → least ≤ length ps → Some least (going ps tally)
 
 more : (least : ℕ) (ps qs : Points) → least ≤ length ps → least ≤ length (ps ++ qs)
 more least ps qs h = omega (arith, length-append ps qs, h)
@@ -80,7 +81,7 @@ more least ps qs h = omega (arith, length-append ps qs, h)
 closed-some : (p : List ℤ) {s : State} → Some 0 s → Some 1 (closedUp p s)
 closed-some p (none k) = none k
 closed-some p (ends h) = ends h
-closed-some p (goes {ps = ps} {pairs = pairs} h) = goes {ps = around p ps} {pairs = pairs} (omega arith)
+closed-some p (goes {ps = ps} {tally = tally} h) = goes {ps = around p ps} {tally = tally} (omega arith)
 
 module _ (rooms : Rooms) (settings : Settings) (xs ys : List ℤ) (fs : List ℕ) (points : 0 < length fs) where
   to-some : (k : ℕ) → 0 < length (pointsTo xs ys fs k)
@@ -98,20 +99,20 @@ module _ (rooms : Rooms) (settings : Settings) (xs ys : List ℤ) (fs : List ℕ
   itself-some false = to-some (countOf fs)
 
   module _ (least : ℕ) where
-    added-some : (x : Result) (ps : Points) (pairs : ℕ) → least ≤ length ps → Some least (added (itself rooms settings xs ys fs) x ps pairs)
-    added-some (Edition.refused k) ps pairs h = none k
-    added-some (Edition.unchanged p) ps pairs h = ends (itself-some (settings .closed))
-    added-some (Edition.solved a p) ps pairs h = goes (more least ps _ h)
+    added-some : (x : Result) (ps : Points) (tally : Tally) → least ≤ length ps → Some least (added (itself rooms settings xs ys fs) x ps tally)
+    added-some (Edition.refused k) ps tally h = none k
+    added-some (Edition.unchanged p) ps tally h = ends (itself-some (settings .closed))
+    added-some (Edition.solved a p) ps tally h = goes (more least ps _ h)
 
-    run-some : (copied : Bool) (r : Span) (ps : Points) (pairs : ℕ) → least ≤ length ps → Some least (runIf rooms settings xs ys fs copied r ps pairs)
-    run-some true r ps pairs h = goes (more least ps _ h)
-    run-some false r ps pairs h = added-some (resultOf rooms settings xs ys fs r) ps pairs h
+    run-some : (copied : Bool) (r : Span) (ps : Points) (tally : Tally) → least ≤ length ps → Some least (runIf rooms settings xs ys fs copied r ps tally)
+    run-some true r ps tally h = goes (more least ps _ h)
+    run-some false r ps tally h = added-some (resultOf rooms settings xs ys fs r) ps tally h
 
     onward-some : (r : Span) {s : State} → Some least s → Some least (onward rooms settings xs ys fs r s)
     unfolding afterRun
     onward-some r (none k) = none k
     onward-some r (ends h) = ends h
-    onward-some r (goes {ps = ps} {pairs = pairs} h) = run-some (isCopied xs ys fs (Between (r .first) (r .count))) r ps pairs h
+    onward-some r (goes {ps = ps} {tally = tally} h) = run-some (isCopied xs ys fs (Between (r .first) (r .count))) r ps tally h
 
     all-some : (rs : List Span) {s : State} → Some least s → Some least (crunchAll rooms settings xs ys fs rs s)
     unfolding crunchAll
@@ -134,17 +135,17 @@ module _ (rooms : Rooms) (settings : Settings) (xs ys : List ℤ) (fs : List ℕ
 
 abbrev pointsIn : Outcome → ℕ
 pointsIn (Outcome.refused k) = 1
-pointsIn (crunched ps pairs) = length ps
+pointsIn (crunched ps tally) = length ps
 
 module _ (closed : Bool) where
-  over-some : (b : Bool) (ps : Points) (pairs : ℕ) → 0 < length ps → 0 < pointsIn (overIf closed b ps pairs)
-  over-some true ps pairs h = omega arith
-  over-some false ps pairs h = finished-some closed ps h
+  over-some : (b : Bool) (ps : Points) (tally : Tally) → 0 < length ps → 0 < pointsIn (overIf closed b ps tally)
+  over-some true ps tally h = omega arith
+  over-some false ps tally h = finished-some closed ps h
 
   outcome-some : (room : ℕ) {s : State} → Some 1 s → 0 < pointsIn (outcomeOf closed room s)
   outcome-some room (none k) = omega arith
-  outcome-some room (ends {ps = ps} {pairs = pairs} h) = over-some (ltb room (length ps)) ps pairs h
-  outcome-some room (goes {ps = ps} {pairs = pairs} h) = over-some (ltb room (length ps)) ps pairs h
+  outcome-some room (ends {ps = ps} {tally = tally} h) = over-some (ltb room (length ps)) ps tally h
+  outcome-some room (goes {ps = ps} {tally = tally} h) = over-some (ltb room (length ps)) ps tally h
 
 -- what 1 to 5 and 16 let through has a point
 fine-rows : (settings : Settings) (j : Judged) → thenSettings settings j ≡ Judged.Fine → j ≡ Judged.Fine
@@ -156,8 +157,8 @@ judged-some (Judged.Refused k) x h = omega arith
 judged-some Judged.Fine x h = h refl
 
 -- a contour that is not refused keeps a point
-pub some-point : (rooms : Rooms) (room : ℕ) (settings : Settings) (xs ys : List ℤ) (fs : List ℕ) {ps : Points} {pairs : ℕ} →
-    crunchOf rooms room settings xs ys fs ≡ crunched ps pairs → 0 < length ps
+pub some-point : (rooms : Rooms) (room : ℕ) (settings : Settings) (xs ys : List ℤ) (fs : List ℕ) {ps : Points} {tally : Tally} →
+    crunchOf rooms room settings xs ys fs ≡ crunched ps tally → 0 < length ps
 unfolding crunchOf judgedFor
 some-point rooms room settings xs ys fs e =
     subst (λ (x : Outcome). 0 < pointsIn x) e

@@ -42,7 +42,7 @@ withFirst ps others = andThen others (λ more. done (ps ∷ more))
 
 abbrev pub onward : ℕ → Crunch.Outcome → (ℕ → Outcome (List Points)) → Outcome (List Points)
 onward room (Crunch.refused k) later = refused k
-onward room (Crunch.crunched ps pairs) later = withFirst ps (later (room - length ps))
+onward room (Crunch.crunched ps tally) later = withFirst ps (later (room - length ps))
 
 -- the points of each contour, or the number of the first that is refused
 unfoldable pub crunchEach : Edition.Rooms → Settings → ℕ → List Inputs → Outcome (List Points)

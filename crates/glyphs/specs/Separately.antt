@@ -8,6 +8,7 @@ use Rattle.rows.specs.Lent.{Inputs, inputs}
 use Rattle.settings.specs.declared.Settings.{Settings}
 use Rattle.contour.specs.Points.{Points}
 use Rattle.contour.specs.Output.{column, flags}
+use Rattle.optimize.specs.declared.Tally.{Tally}
 use Rattle.edition.specs.Edition as Edition
 use Rattle.crunch.specs.Crunch.{crunched, crunchOf}
 use Rattle.crunch.specs.Crunch as Crunch
@@ -18,15 +19,15 @@ module _ (rooms : Edition.Rooms) (settings : Settings) where
   -- contour k of the one list is what the crunch entry's definition gives for contour k of the other, in the places that those before it left
   pub data Each : ℕ → List Inputs → List Points → Type 0 where
     none : {room : ℕ} → Each room [] []
-    next : {room pairs : ℕ} {xs ys : List ℤ} {fs : List ℕ} {ps : Points} {contours : List Inputs} {more : List Points} →
-        crunchOf rooms room settings xs ys fs ≡ crunched ps pairs → Each (room - length ps) contours more → Each room (inputs xs ys fs ∷ contours) (ps ∷ more)
+    next : {room : ℕ} {tally : Tally} {xs ys : List ℤ} {fs : List ℕ} {ps : Points} {contours : List Inputs} {more : List Points} →
+        crunchOf rooms room settings xs ys fs ≡ crunched ps tally → Each (room - length ps) contours more → Each room (inputs xs ys fs ∷ contours) (ps ∷ more)
 
   -- the first contour that is refused is refused by k
   pub data FirstRefused (k : ℕ) : ℕ → List Inputs → Type 0 where
     here : {room : ℕ} {xs ys : List ℤ} {fs : List ℕ} {contours : List Inputs} →
         crunchOf rooms room settings xs ys fs ≡ Crunch.refused k → FirstRefused k room (inputs xs ys fs ∷ contours)
-    later : {room pairs : ℕ} {xs ys : List ℤ} {fs : List ℕ} {ps : Points} {contours : List Inputs} →
-        crunchOf rooms room settings xs ys fs ≡ crunched ps pairs → FirstRefused k (room - length ps) contours →
+    later : {room : ℕ} {tally : Tally} {xs ys : List ℤ} {fs : List ℕ} {ps : Points} {contours : List Inputs} →
+        crunchOf rooms room settings xs ys fs ≡ crunched ps tally → FirstRefused k (room - length ps) contours →
         FirstRefused k room (inputs xs ys fs ∷ contours)
 
 -- points as a contour in three rows

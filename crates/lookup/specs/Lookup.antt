@@ -1,6 +1,6 @@
 -- A place and a direction looked up in a row of samples [x, y, dx, dy], at a length. Definitions only.
 use Prim.Native.Nat.{ℕ, _+_}
-use mathlib.Core.Bool.{cond}
+use mathlib.Core.Bool.{Bool, cond}
 use mathlib.Core.List.{List, []}
 use lib.Dec.{leb}
 use lib.ListN.{length, getD}
@@ -29,11 +29,15 @@ pointBetween k p q u = lerpOf (pointFrom k p) (pointFrom k q) u
 abbrev pub origin : Point
 origin = record { x = nil; y = nil }
 
--- at or past the row's length (0, 0); at the last stored place the Rust would index past its end, which is refused. A NaN looks at place 0.
+-- a lookup falls off at or past the row's length
+abbrev pub fell : List (List Float) → Float → Bool
+fell row s = leb (length row) (toUnsigned 64 s)
+
+-- one that fell gives (0, 0); at the last stored place the Rust would index past its end, which is refused. A NaN looks at place 0.
 unfoldable pub lookedUp : ℕ → List (List Float) → Float → Found
 lookedUp k row s =
     let b = toUnsigned 64 s in
-    cond (leb (length row) b) (found origin)
+    cond (fell row s) (found origin)
     (cond (leb (length row) (b + 1)) refused
     (found (pointBetween k (getD row b []) (getD row (b + 1) []) (fractOf s))))
 

@@ -3,7 +3,7 @@ ghost use mathlib.Core.Path.{_≡_};
 ghost use Prim.Native.Nat.{_^_, _<_};
 ghost use lib.Ieee.{toUnsigned};
 ghost use Rattle.float.specs.Float.{fractOf};
-ghost use Rattle.lookup.specs.Lookup.{pointFrom, spotBetween, spotAt};
+ghost use Rattle.lookup.specs.Lookup.{fell, pointFrom, spotBetween, spotAt};
 use geometry::Point;
 
 // What the samples have at a length: the place and the direction.
@@ -53,6 +53,13 @@ fn part(s: f64, b: usize) -> f64
         }
     }
     float::fract(s)
+}
+
+// Whether a lookup at the length s falls off the row.
+pub fn falls(row: &[[f64; 4]], s: f64) -> bool
+    ensures { λ r. ⌜ r ≡ fell (now (row .entry)) s ⌝ }
+{
+    row.len() <= float::to_index(s)
 }
 
 // Place and direction at the length s.

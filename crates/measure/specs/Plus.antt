@@ -6,6 +6,7 @@ use lib.Dec.{T}
 use lib.Ieee.{Float, nan, inf, fin}
 use Rattle.geometry.specs.declared.Quad.{Quad}
 use Rattle.measure.specs.Measure.{measureOf}
+use Rattle.measure.specs.Fallen.{fallenOf}
 use Rattle.measure.specs.declared.Measured.the-variants.{At}
 
 -- its sign is plus, or it is a NaN
@@ -14,8 +15,9 @@ plus nan = true
 plus (inf s) = not s
 plus (fin s m e) = not s
 
--- every sample asked for is there, and the error is not negative
+-- every sample asked for is there, the error is not negative, and no lookup falls
 pub record Measurable (row : List (List Float)) (s0 s1 : Float) (q : Quad) : Type 0 where
   pub error : Float
   pub is : measureOf row s0 s1 q ≡ At (record { error = error })
   pub sign : T (plus error)
+  pub none : fallenOf row s0 s1 q ≡ 0

@@ -8,6 +8,7 @@ mod Trying
 mod Phases
 mod Solving
 mod Fresh
+pub mod FewFall
 pub mod One
 pub mod Compare
 pub mod Good

@@ -1,5 +1,5 @@
 -- A run with one break. Assumes nothing.
-use Prim.Native.Nat.{ℕ, _-_, _<_}
+use Prim.Native.Nat.{ℕ, _+_, _-_, _≤_, _<_}
 use native.Mathlib.Omega.{arith}
 use mathlib.Core.Bool.{Bool, true, false, not, _&&_, false≢true, true≢false}
 use mathlib.Core.List.{List, [], _∷_}
@@ -16,7 +16,10 @@ use Rattle.geometry.specs.declared.Crossing.the-variants as Crossing
 use Rattle.geometry.specs.declared.Point.{Point}
 use Rattle.geometry.specs.declared.Quad.{Quad}
 use Rattle.measure.specs.Measure.{measureOf}
+use Rattle.measure.specs.Fallen.{fallenOf, Counts}
+use Rattle.measure.specs.declared.Counted.{Counted}
 use Rattle.measure.proofs.Still.{still}
+use Rattle.measure.proofs.Asked.{fallen-most}
 use Rattle.measure.specs.declared.Measure as M
 use Rattle.measure.specs.declared.Measured.{Measured}
 use Rattle.measure.specs.declared.Measured.the-variants as Measured
@@ -25,10 +28,11 @@ use Rattle.optimize.specs.declared.answer.Answer as A
 use Rattle.optimize.specs.declared.Tried.{Tried}
 use Rattle.optimize.specs.Answers.{Piece, Answer, first, scoreOf, Best, none, best, smoothAfter, okForHalf, totalOf, combined}
 use Rattle.optimize.specs.Optimize.{Measure, measureBy, bestAt, States, refused, states, tryQuad, bentQuad, bentAt, bent, thenBent, tryLineQuad, refused8, unchanged, solved, tried, optimizeOf}
+use Rattle.optimize.specs.Fallen.{Fallen, fallenBetween, fellBentAt, fellBent, fellPair, fellOf}
 use Rattle.optimize.specs.Stored.{bestOf, nothingAt, rowOf, Holds, Anywhere, inPlace, Spoilt, measuredOk, bendOk, bendInPlace}
 use Rattle.optimize.proofs.Held.{new-start}
-use Rattle.optimize.proofs.Solving.{optimized-by}
-use Rattle.optimize.proofs.Trying.{quad-refused, quad-made, from-whole, from-half}
+use Rattle.optimize.proofs.Solving.{optimized-by, fell-by}
+use Rattle.optimize.proofs.Trying.{quad-refused, quad-made, from-whole, from-half, fell-whole, fell-half}
 
 -- nothing is less than a NaN, and a NaN is above nothing
 less-nan : (x : Float) → lt x nan ≡ false
@@ -54,6 +58,9 @@ module _ (samples : List (List Float)) (bs : Row) (penalty : Float) (one : lengt
   abbrev measure : Measure
   measure = measureBy samples bs
 
+  abbrev fallen : Fallen
+  fallen = fallenBetween samples bs
+
   abbrev crossing : Crossing
   crossing = intersectOf (breakAt bs 0 .xy) (breakAt bs 0 .dir) (breakAt bs 0 .xy) (breakAt bs 0 .dir)
 
@@ -68,6 +75,20 @@ module _ (samples : List (List Float)) (bs : Row) (penalty : Float) (one : lengt
   bent-off : isWhole (breakAt bs 0 .xy) ≡ false → bent measure bs penalty 0 0 (none ∷ []) ≡ states (none ∷ [])
   unfolding bent
   bent-off e = off crossing e
+
+  -- nor does a lookup fall
+  off-fell : (c : Crossing) → isWhole (breakAt bs 0 .xy) ≡ false → fellBentAt measure fallen bs penalty c 0 0 (none ∷ []) ≡ 0
+  off-fell Crossing.Nowhere e = refl
+  off-fell (Crossing.At p) e = rw (e, and-false (not (isLine (bentQuad measure bs penalty 0 0 p)))) refl
+
+  bent-off-fell : isWhole (breakAt bs 0 .xy) ≡ false → fellBent measure fallen bs penalty 0 0 (none ∷ []) ≡ 0
+  unfolding fellBent
+  bent-off-fell e = off-fell crossing e
+
+  pub off-whole-fell : isWhole (breakAt bs 0 .xy) ≡ false → fellOf measure fallen bs penalty ≡ 0
+  off-whole-fell e =
+      fell-by measure penalty bs 0 (states (none ∷ [])) one (from-half measure bs penalty 0 0 (none ∷ []) e ∙ bent-off e) fallen
+      ∙ rw (fell-half measure fallen bs penalty 0 0 (none ∷ []) e ∙ bent-off-fell e, last) refl
 
   pub off-whole : isWhole (breakAt bs 0 .xy) ≡ false → optimizeOf measure bs penalty ≡ unchanged 1
   off-whole e = optimized-by measure penalty bs 0 (states (none ∷ [])) one (from-half measure bs penalty 0 0 (none ∷ []) e ∙ bent-off e) ∙ rw last refl
@@ -93,14 +114,14 @@ module _ (samples : List (List Float)) (bs : Row) (penalty : Float) (one : lengt
       stored = quad-made measure bs penalty 0 0 line (none ∷ []) m made
 
       -- the bent piece changes nothing, where its measure is not refused
-      tried-bent : (q : Quad) (w : Measured) → measureOf samples (breakAt bs 0 .s) (breakAt bs 0 .s) q ≡ w → measuredOk w .ok ≡ true →
+      tried-bent : (q : Quad) (w : Measured) → measureOf samples (breakAt bs 0 .s) (breakAt bs 0 .s) q ≡ w → measuredOk w (fallen 0 0 q) .ok ≡ true →
           tryQuad measure bs penalty 0 0 q (best answer ∷ []) ≡ states (best answer ∷ [])
       tried-bent q (Measured.At x) e ok =
           quad-made measure bs penalty 0 0 q (best answer ∷ []) x e
           ∙ ap (λ (t : Best). states (t ∷ [])) (nan-stays answer (record { from = 0; to = 0; quad = q }) (x .error) penalty score-nan)
       tried-bent q Measured.Last e ok = absurd (false≢true ok)
 
-      refused-bent : (q : Quad) (w : Measured) → measureOf samples (breakAt bs 0 .s) (breakAt bs 0 .s) q ≡ w → measuredOk w .ok ≡ false →
+      refused-bent : (q : Quad) (w : Measured) → measureOf samples (breakAt bs 0 .s) (breakAt bs 0 .s) q ≡ w → measuredOk w (fallen 0 0 q) .ok ≡ false →
           tryQuad measure bs penalty 0 0 q (best answer ∷ []) ≡ refused
       refused-bent q (Measured.At x) e bad = absurd (true≢false bad)
       refused-bent q Measured.Last e bad = quad-refused measure bs penalty 0 0 q (best answer ∷ []) e
@@ -122,34 +143,81 @@ module _ (samples : List (List Float)) (bs : Row) (penalty : Float) (one : lengt
           optimized-by measure penalty bs 0 (states (best answer ∷ [])) one (both (bends crossing ok))
           ∙ rw (last, ap (lt (mul binary64 three penalty)) score-nan ∙ less-nan (mul binary64 three penalty)) refl
 
+      -- what fell in the two pieces
+      ok-fell : (q : Quad) (w : Measured) → measuredOk w (fallen 0 0 q) .ok ≡ true → fallen 0 0 q ≡ measuredOk w (fallen 0 0 q) .fallen
+      ok-fell q (Measured.At x) ok = refl
+      ok-fell q Measured.Last ok = absurd (false≢true ok)
+
+      bends-fell : (c : Crossing) → bendOk samples (breakAt bs 0) c .ok ≡ true → fellBentAt measure fallen bs penalty c 0 0 (best answer ∷ []) ≡ bendOk samples (breakAt bs 0) c .fallen
+      bends-fell Crossing.Nowhere ok = refl
+      bends-fell (Crossing.At p) ok =
+          rw whole (ok-fell (bentQuad measure bs penalty 0 0 p) (measureOf samples (breakAt bs 0 .s) (breakAt bs 0 .s) (bentQuad measure bs penalty 0 0 p)) ok)
+
+      one-fell : bendInPlace samples (breakAt bs 0) .ok ≡ true → fellBent measure fallen bs penalty 0 0 (best answer ∷ []) ≡ bendInPlace samples (breakAt bs 0) .fallen
+      unfolding fellBent bendInPlace
+      one-fell ok = bends-fell crossing ok
+
+      pub one-solved-fell : bendInPlace samples (breakAt bs 0) .ok ≡ true →
+          fellOf measure fallen bs penalty ≡ fallenOf samples (breakAt bs 0 .s) (breakAt bs 0 .s) line + bendInPlace samples (breakAt bs 0) .fallen
+      unfolding bent bendInPlace
+      one-solved-fell ok =
+          let pair : fellPair measure fallen bs penalty 0 0 (none ∷ []) ≡ fallen 0 0 line + bendInPlace samples (breakAt bs 0) .fallen =
+          fell-whole measure fallen bs penalty 0 0 (none ∷ []) whole ∙ rw (stored, one-fell ok) refl in
+          let no-more : fallen 0 0 line + bendInPlace samples (breakAt bs 0) .fallen + 0 ≡ fallen 0 0 line + bendInPlace samples (breakAt bs 0) .fallen = omega arith in
+          fell-by measure penalty bs 0 (states (best answer ∷ [])) one (both (bends crossing ok)) fallen
+          ∙ rw (pair, last, ap (lt (mul binary64 three penalty)) score-nan ∙ less-nan (mul binary64 three penalty)) no-more
+
       pub one-bent-refused : bendInPlace samples (breakAt bs 0) .ok ≡ false → optimizeOf measure bs penalty ≡ refused8
       unfolding bent bendInPlace
       one-bent-refused bad = optimized-by measure penalty bs 0 refused one (both (bends-not crossing bad))
 
 -- ---- as the code finds it
 module _ (samples : List (List Float)) (a : Break) where
-  pub bend-none : Crossing.Nowhere ≡ intersectOf (a .xy) (a .dir) (a .xy) (a .dir) → record { ok = true } ≡ bendInPlace samples a
+  pub bend-none : Crossing.Nowhere ≡ intersectOf (a .xy) (a .dir) (a .xy) (a .dir) → record { ok = true; fallen = 0 } ≡ bendInPlace samples a
   unfolding bendInPlace
   bend-none e = rw (← e) refl
 
-  pub bend-by : (p : Point) (r : Point) (w v : Measured) → Crossing.At p ≡ intersectOf (a .xy) (a .dir) (a .xy) (a .dir) → r ≡ roundPointOf p → w ≡ measureOf samples (a .s) (a .s) (record { p0 = a .xy; p1 = r; p2 = a .xy }) → w ≡ v →
-      measuredOk v ≡ bendInPlace samples a
-  unfolding bendInPlace
-  bend-by p r w v e f g h = rw (← e, ← f, ← g, h) refl
+  -- the bent piece, with its measure
+  module _ (p r : Point) (e : Crossing.At p ≡ intersectOf (a .xy) (a .dir) (a .xy) (a .dir)) (f : r ≡ roundPointOf p) where
+    abbrev q : Quad
+    q = record { p0 = a .xy; p1 = r; p2 = a .xy }
+
+    pub bend-by : (w : Measured) {n : ℕ} → measureOf samples (a .s) (a .s) q ≡ w → n ≡ fallenOf samples (a .s) (a .s) q → measuredOk w n ≡ bendInPlace samples a
+    unfolding bendInPlace
+    bend-by w g h = rw (h, ← e, ← f, g) refl
+
+-- at most 80 fall
+pub bend-most : (samples : List (List Float)) (a : Break) → bendInPlace samples a .fallen ≤ 80
+unfolding bendInPlace
+bend-most samples a = go (intersectOf (a .xy) (a .dir) (a .xy) (a .dir))
+  where
+    at-most : (w : Measured) (n : ℕ) → n ≤ 80 → measuredOk w n .fallen ≤ 80
+    at-most (Measured.At m) n h = h
+    at-most Measured.Last n h = omega arith
+
+    go : (c : Crossing) → bendOk samples a c .fallen ≤ 80
+    go Crossing.Nowhere = omega arith
+    go (Crossing.At p) =
+        let q : Quad = record { p0 = a .xy; p1 = roundPointOf p; p2 = a .xy } in
+        at-most (measureOf samples (a .s) (a .s) q) (fallenOf samples (a .s) (a .s) q) (fallen-most samples (a .s) (a .s) q)
 
 -- the straight piece of a point whose coordinates are doubles
-pub in-place : (samples : List (List Float)) (s : Float) (p : Point) {q : Quad} {r : Measured} → T (fits binary64 (p .x)) → T (fits binary64 (p .y)) →
-    q ≡ inPlace p → r ≡ measureOf samples s s q → (r ≡ measureOf samples s s (inPlace p)) × (isWhole p ≡ true → Spoilt r)
-in-place samples s p fx fy e f =
-    let is = f ∙ ap (measureOf samples s s) e in
-    (is, λ whole m h. still samples s s p fx fy whole m (sym is ∙ h))
+pub in-place : (samples : List (List Float)) (s : Float) (p : Point) {q : Quad} {r : Counted} → T (fits binary64 (p .x)) → T (fits binary64 (p .y)) →
+    q ≡ inPlace p → Counts (measureOf samples s s q) (fallenOf samples s s q) r →
+    Counts (measureOf samples s s (inPlace p)) (fallenOf samples s s (inPlace p)) r × (isWhole p ≡ true → Spoilt r)
+in-place samples s p {q} {r} fx fy e told = (is, λ whole m n h. still samples s s p fx fy whole m ((rw h at is) .0))
+  where
+    is : Counts (measureOf samples s s (inPlace p)) (fallenOf samples s s (inPlace p)) r
+    is = rw e at told
 
-pub measured-line : (samples : List (List Float)) (c : Break) {a : Break} {w v : Measured} → w ≡ measureOf samples (a .s) (a .s) (inPlace (a .xy)) → w ≡ v → a ≡ c →
-    measureOf samples (c .s) (c .s) (inPlace (c .xy)) ≡ v
-measured-line samples c e h f = rw (← f, ← e) h
+abbrev pub Straight : List (List Float) → Break → Counted → Type 0
+Straight samples c w = Counts (measureOf samples (c .s) (c .s) (inPlace (c .xy))) (fallenOf samples (c .s) (c .s) (inPlace (c .xy))) w
 
-pub bent-ok : (samples : List (List Float)) {a c : Break} {t : Tried} {u : Bool} → t ≡ bendInPlace samples a → a ≡ c → t .ok ≡ u → bendInPlace samples c .ok ≡ u
-bent-ok samples e f g = rw (← f, ← e) g
+pub measured-line : (samples : List (List Float)) (c : Break) {a : Break} (w v : Counted) → Straight samples a w → w ≡ v → a ≡ c → Straight samples c v
+measured-line samples c w v told e f = rw (e, f) at told
+
+pub bent-ok : (samples : List (List Float)) {a c : Break} {t : Tried} → t ≡ bendInPlace samples a → a ≡ c → bendInPlace samples c ≡ t
+bent-ok samples e f = rw (← f, ← e) refl
 
 first-total : (q line : Quad) (m penalty s : Float) (x : A.Answer) → x ≡ nothingAt 0 q → q ≡ line → s ≡ totalOf (bestOf x) q m penalty → s ≡ totalOf none line m penalty
 first-total q line m penalty s x e f g = g ∙ rw (e, f) refl

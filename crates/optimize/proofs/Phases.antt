@@ -1,15 +1,21 @@
 -- The pairs of each phase, and how one phase leads to the next. Assumes nothing.
 use Prim.Native.Nat.{ℕ, zero, suc, _+_, _*_, _-_, _%_, _≤_, _<_}
 use native.Mathlib.Omega.{arith}
-use mathlib.Core.Bool.{true, false}
+use mathlib.Core.Bool.{Bool, true, false}
 use mathlib.Core.List.{List, [], _∷_, _++_}
 use mathlib.Core.Logic.{_⊎_, inl, inr, ⊎-elim}
 use mathlib.Core.Path.{_≡_, refl, ap, _∙_}
 use lib.ListN.{length}
 use lib.Ieee.{Float}
-use Rattle.breaks.specs.Breaks.{Row}
-use Rattle.optimize.specs.Answers.{Best}
-use Rattle.optimize.specs.Optimize.{Measure, States, refused, states, onward, tryLineQuad, tryAll, splitsFrom, falling, searchFrom}
+use Rattle.geometry.specs.Geometry.{isWhole, lineQuad, intersectOf}
+use Rattle.geometry.specs.declared.Crossing.{Crossing}
+use Rattle.geometry.specs.declared.Crossing.the-variants as Crossing
+use Rattle.geometry.specs.declared.Quad.{Quad}
+use Rattle.measure.proofs.Asked.{fallen-most}
+use Rattle.breaks.specs.Breaks.{Row, breakAt}
+use Rattle.optimize.specs.Answers.{Best, okForHalf}
+use Rattle.optimize.specs.Fallen.{Fallen, fallenBetween, fellIf, fellBentAt, fellBent, fellThenBent, fellPair, fellOnward, fellAll}
+use Rattle.optimize.specs.Optimize.{Measure, bestAt, States, refused, states, straight, bentQuad, onward, tryLineQuad, tryAll, splitsFrom, falling, searchFrom}
 use Rattle.optimize.specs.declared.Tried.{Tried}
 use Rattle.optimize.specs.Stored.{Stands, lacks, has, Phase, early, late, Uses, Fresh, Rep, Room, Into, Ready, Holding, Becomes, stops, goes}
 use Rattle.optimize.proofs.Held.{wider}
@@ -94,6 +100,70 @@ module _ (measure : Measure) (breaks : Row) (penalty : Float) where
   unfolding tryAll
   all-none s = refl
 
+-- how many fell in them: of a piece at most 80
+pub between-most : (samples : List (List Float)) (breaks : Row) (i j : ℕ) (q : Quad) → fallenBetween samples breaks i j q ≤ 80
+between-most samples breaks i j q = fallen-most samples (breakAt breaks i .s) (breakAt breaks j .s) q
+
+module _ (measure : Measure) (fallen : Fallen) (breaks : Row) (penalty : Float) where
+  abbrev fell : List (ℕ × ℕ) → States → ℕ
+  fell ps s = fellAll measure fallen breaks penalty ps s
+
+  fell-joined : (ps qs : List (ℕ × ℕ)) (s : States) → fell (ps ++ qs) s ≡ fell ps s + fell qs (all measure breaks penalty ps s)
+  unfolding fellAll tryAll
+  fell-joined [] qs s = omega arith
+  fell-joined ((i, j) ∷ ps) qs s =
+      let later = fell-joined ps qs (onward measure breaks penalty i j s) in
+      omega arith
+
+  -- the first of them lead on
+  pub fell-step : (ps more rest : List (ℕ × ℕ)) (s t : States) → rest ≡ ps ++ more → all measure breaks penalty ps s ≡ t → fell rest s ≡ fell ps s + fell more t
+  fell-step ps more rest s t is e = rw (is, fell-joined ps more s, e) refl
+
+  pub fell-one : (i j : ℕ) (st : List Best) → fell ((i, j) ∷ []) (states st) ≡ fellPair measure fallen breaks penalty i j st
+  unfolding fellAll
+  fell-one i j st = omega arith
+
+  pub fell-none : (s : States) → fell [] s ≡ 0
+  unfolding fellAll
+  fell-none s = refl
+
+  -- ---- at most 80 an attempt, two attempts a pair
+  module _ (few : (i j : ℕ) (q : Quad) → fallen i j q ≤ 80) where
+    if-most : (b : Bool) (i j : ℕ) (q : Quad) → fellIf measure fallen breaks penalty b i j q ≤ 80
+    if-most true i j q = few i j q
+    if-most false i j q = omega arith
+
+    pub bent-most : (i j : ℕ) (st : List Best) → fellBent measure fallen breaks penalty i j st ≤ 80
+    unfolding fellBent
+    bent-most i j st = go (intersectOf (breakAt breaks i .xy) (breakAt breaks i .dir) (breakAt breaks j .xy) (breakAt breaks j .dir))
+      where
+        go : (c : Crossing) → fellBentAt measure fallen breaks penalty c i j st ≤ 80
+        go Crossing.Nowhere = omega arith
+        go (Crossing.At p) = if-most (okForHalf (bestAt st i) (bentQuad measure breaks penalty i j p)) i j (bentQuad measure breaks penalty i j p)
+
+    then-most : (i j : ℕ) (s : States) → fellThenBent measure fallen breaks penalty i j s ≤ 80
+    then-most i j refused = omega arith
+    then-most i j (states st) = bent-most i j st
+
+    pub pair-most : (i j : ℕ) (st : List Best) → fellPair measure fallen breaks penalty i j st ≤ 160
+    unfolding fellPair
+    pair-most i j st =
+        let first = if-most (isWhole (breakAt breaks i .xy)) i j (lineQuad (breakAt breaks i .xy) (breakAt breaks j .xy)) in
+        let second = then-most i j (straight measure breaks penalty i j st) in
+        omega arith
+
+    onward-most : (i j : ℕ) (s : States) → fellOnward measure fallen breaks penalty i j s ≤ 160
+    onward-most i j refused = omega arith
+    onward-most i j (states st) = pair-most i j st
+
+    pub all-most : (ps : List (ℕ × ℕ)) (s : States) → fell ps s ≤ 160 * length ps
+    unfolding fellAll
+    all-most [] s = omega arith
+    all-most ((i, j) ∷ ps) s =
+        let here = onward-most i j s in
+        let later = all-most ps (onward measure breaks penalty i j s) in
+        omega arith
+
 pub split-more : (i n : ℕ) → i < n → splitsFrom (n - i) i n ≡ ((0, i) ∷ (i, n) ∷ []) ++ splitsFrom (n - (i + 1)) (i + 1) n
 unfolding splitsFrom
 split-more i n h =
@@ -130,62 +200,97 @@ search-none i n h =
     let e : n + 1 - i ≡ 0 = omega arith in
     rw e
 
--- ---- while pairs are tried: those that are left from the states that the rows stand for now end as all of them do from the first states
-pub record Reached (measure : Measure) (penalty : Float) (f : Phase) (n : ℕ) (bs : Row) (rs : List (List Float)) (ls : List ℕ) (rest : List (ℕ × ℕ)) (end : States) : Type 0 where
+-- ---- while pairs are tried: those that are left from the states that the rows stand for now end as all of them do from the first states, and what fell
+-- in these is what fell so far and what will fall in those
+pub record Reached (measure : Measure) (fallen : Fallen) (penalty : Float) (f : Phase) (n : ℕ) (bs : Row) (rs : List (List Float)) (ls : List ℕ) (so-far : ℕ)
+    (rest : List (ℕ × ℕ)) (end : States) (total : ℕ) : Type 0 where
   pub now : List Best
   pub rep : Rep f n bs rs ls now
   pub left : end ≡ tryAll measure bs penalty rest (states now)
+  pub fell : total ≡ so-far + fellAll measure fallen bs penalty rest (states now)
 
-pub record Reaching (measure : Measure) (penalty : Float) (n : ℕ) (bs : Row) (f₀ : Phase) (rs₀ : List (List Float)) (ls₀ : List ℕ) (all : List (ℕ × ℕ)) (f : Phase) (rs : List (List Float)) (ls : List ℕ) (rest : List (ℕ × ℕ)) : Type 0 where
+pub record Reaching (measure : Measure) (fallen : Fallen) (penalty : Float) (n : ℕ) (bs : Row) (f₀ : Phase) (rs₀ : List (List Float)) (ls₀ : List ℕ)
+    (all : List (ℕ × ℕ)) (f : Phase) (rs : List (List Float)) (ls : List ℕ) (so-far : ℕ) (rest : List (ℕ × ℕ)) : Type 0 where
   pub same-rs : length rs ≡ length rs₀
   pub same-ls : length ls ≡ length ls₀
-  pub reach : (st : List Best) → Rep f₀ n bs rs₀ ls₀ st → Reached measure penalty f n bs rs ls rest (tryAll measure bs penalty all (states st))
+  pub reach : (st : List Best) → Rep f₀ n bs rs₀ ls₀ st →
+      Reached measure fallen penalty f n bs rs ls so-far rest (tryAll measure bs penalty all (states st)) (fellAll measure fallen bs penalty all (states st))
 
-pub sets-out : {measure : Measure} {penalty : Float} {n : ℕ} {bs : Row} {f : Phase} {rs : List (List Float)} {ls : List ℕ} {all : List (ℕ × ℕ)} →
-    Reaching measure penalty n bs f rs ls all f rs ls all
-sets-out = record { same-rs = refl; same-ls = refl; reach = λ st rep. record { now = st; rep = rep; left = refl } }
+pub sets-out : {measure : Measure} {fallen : Fallen} {penalty : Float} {n : ℕ} {bs : Row} {f : Phase} {rs : List (List Float)} {ls : List ℕ} {all : List (ℕ × ℕ)} →
+    Reaching measure fallen penalty n bs f rs ls all f rs ls 0 all
+sets-out = record { same-rs = refl; same-ls = refl; reach = λ st rep. record { now = st; rep = rep; left = refl; fell = omega arith } }
 
-module _ {measure : Measure} {penalty : Float} {n : ℕ} {bs : Row} {f₀ : Phase} {rs₀ : List (List Float)} {ls₀ : List ℕ} {all : List (ℕ × ℕ)} {f : Phase} {rs : List (List Float)} {ls : List ℕ} {rest : List (ℕ × ℕ)}
-    (x : Reaching measure penalty n bs f₀ rs₀ ls₀ all f rs ls rest) where
+module _ {measure : Measure} {fallen : Fallen} {penalty : Float} {n : ℕ} {bs : Row} {f₀ : Phase} {rs₀ : List (List Float)} {ls₀ : List ℕ} {all : List (ℕ × ℕ)} {f : Phase}
+    {rs : List (List Float)} {ls : List ℕ} {so-far : ℕ} {rest : List (ℕ × ℕ)} (x : Reaching measure fallen penalty n bs f₀ rs₀ ls₀ all f rs ls so-far rest) where
   pub holding : Holding f₀ n bs rs₀ ls₀ → Holding f n bs rs ls
   holding h = record { st = x .reach (h .st) (h .rep) .now; room = same-room (x .same-rs) (x .same-ls) (h .room); rep = x .reach (h .st) (h .rep) .rep }
 
+  -- what a call on some of the pairs makes of the rows
+  abbrev Calls : Phase → List (List Float) → List ℕ → List (ℕ × ℕ) → Tried → Type 0
+  Calls g rs' ls' ps r =
+      (st : List Best) → Rep f n bs rs ls st → Becomes g n bs rs' ls' (tryAll measure bs penalty ps (states st)) (fellAll measure fallen bs penalty ps (states st)) r
+
   pub moves : (ps more : List (ℕ × ℕ)) {g : Phase} {rs' : List (List Float)} {ls' : List ℕ} {r : Tried} → rest ≡ ps ++ more →
-      length rs' ≡ length rs → length ls' ≡ length ls → ((st : List Best) → Rep f n bs rs ls st → Becomes g n bs rs' ls' (tryAll measure bs penalty ps (states st)) r) → r .ok ≡ true →
-      Reaching measure penalty n bs f₀ rs₀ ls₀ all g rs' ls' more
+      length rs' ≡ length rs → length ls' ≡ length ls → Calls g rs' ls' ps r → r .ok ≡ true →
+      Reaching measure fallen penalty n bs f₀ rs₀ ls₀ all g rs' ls' (so-far + r .fallen) more
   moves ps more is e e' made ok = record {
     same-rs = e ∙ x .same-rs;
     same-ls = e' ∙ x .same-ls;
     reach = λ st rep.
         let t = x .reach st rep in
         let w = went (made (t .now) (t .rep)) ok in
-        record { now = w .st; rep = w .rep; left = t .left ∙ all-step measure bs penalty ps more rest (states (t .now)) (states (w .st)) is (w .is) };
+        let split = fell-step measure fallen bs penalty ps more rest (states (t .now)) (states (w .st)) is (w .is) in
+        record {
+          now = w .st;
+          rep = w .rep;
+          left = t .left ∙ all-step measure bs penalty ps more rest (states (t .now)) (states (w .st)) is (w .is);
+          fell = omega (arith, t .fell, split, w .fell);
+        };
   }
 
+  -- the count so far, and with one call more, is at most that of all pairs
+  pub counts : (ps more : List (ℕ × ℕ)) {g : Phase} {rs' : List (List Float)} {ls' : List ℕ} {r : Tried} → ((i j : ℕ) (q : Quad) → fallen i j q ≤ 80) →
+      rest ≡ ps ++ more → Calls g rs' ls' ps r → r .ok ≡ true → Holding f₀ n bs rs₀ ls₀ → so-far + r .fallen ≤ 160 * length all
+  counts ps more few is made ok h =
+      let t = x .reach (h .st) (h .rep) in
+      let w = went (made (t .now) (t .rep)) ok in
+      let split = fell-step measure fallen bs penalty ps more rest (states (t .now)) (states (w .st)) is (w .is) in
+      let most = all-most measure fallen bs penalty few all (states (h .st)) in
+      omega (arith, t .fell, split, w .fell, most)
+
   pub breaks-off : (ps more : List (ℕ × ℕ)) {g : Phase} (h : Phase) {rs' : List (List Float)} {ls' : List ℕ} {r : Tried} → rest ≡ ps ++ more →
-      ((st : List Best) → Rep f n bs rs ls st → Becomes g n bs rs' ls' (tryAll measure bs penalty ps (states st)) r) → r .ok ≡ false →
-      (st : List Best) → Rep f₀ n bs rs₀ ls₀ st → Becomes h n bs rs' ls' (tryAll measure bs penalty all (states st)) r
+      Calls g rs' ls' ps r → r .ok ≡ false → (st : List Best) → Rep f₀ n bs rs₀ ls₀ st →
+      Becomes h n bs rs' ls' (tryAll measure bs penalty all (states st)) (fellAll measure fallen bs penalty all (states st)) r
   breaks-off ps more h is made bad st rep =
       let t = x .reach st rep in
       rw (t .left ∙ all-step measure bs penalty ps more rest (states (t .now)) refused is (stopped (made (t .now) (t .rep)) bad) ∙ all-refused measure bs penalty more) (stops bad)
 
-  pub arrives : {g : Phase} {r : Tried} → f ≡ g → rest ≡ [] → r .ok ≡ true → (st : List Best) → Rep f₀ n bs rs₀ ls₀ st → Becomes g n bs rs ls (tryAll measure bs penalty all (states st)) r
-  arrives at is ok st rep =
+  pub arrives : {g : Phase} {r : Tried} → f ≡ g → rest ≡ [] → r .ok ≡ true → r .fallen ≡ so-far → (st : List Best) → Rep f₀ n bs rs₀ ls₀ st →
+      Becomes g n bs rs ls (tryAll measure bs penalty all (states st)) (fellAll measure fallen bs penalty all (states st)) r
+  arrives at is ok sum st rep =
       let t = x .reach st rep in
-      rw (← at, t .left ∙ all-step measure bs penalty [] [] rest (states (t .now)) (states (t .now)) is (all-none measure bs penalty (states (t .now))) ∙ all-none measure bs penalty (states (t .now))) (goes ok (t .rep))
+      rw (← at, t .left ∙ all-step measure bs penalty [] [] rest (states (t .now)) (states (t .now)) is (all-none measure bs penalty (states (t .now))) ∙ all-none measure bs penalty (states (t .now)))
+      (goes ok (sum ∙ ended t) (t .rep))
+    where
+      ended : {s : States} {c : ℕ} (t : Reached measure fallen penalty f n bs rs ls so-far rest s c) → so-far ≡ c
+      ended t =
+          let none = ap (λ (ps : List (ℕ × ℕ)). fellAll measure fallen bs penalty ps (states (t .now))) is ∙ fell-none measure fallen bs penalty (states (t .now)) in
+          omega (arith, t .fell, none)
 
 -- one pair alone, as the code tries it
-pub alone : (measure : Measure) (penalty : Float) (bs : Row) (i j : ℕ) {k : ℕ} {f : Phase} {n : ℕ} {rs rs' : List (List Float)} {ls ls' : List ℕ} {r : Tried} → Room n bs rs ls → Into f n i j k →
-    ((f : Phase) (n : ℕ) (st : List Best) → Room n bs rs ls → Into f n i j k → Rep f n bs rs ls st → Becomes f n bs rs' ls' (tryLineQuad measure bs penalty i j st) r) →
-    (st : List Best) → Rep f n bs rs ls st → Becomes f n bs rs' ls' (tryAll measure bs penalty ((i, j) ∷ []) (states st)) r
-alone measure penalty bs i j {f = f} {n = n} room into call st rep =
-    rw (all-one measure bs penalty i j [] st ∙ all-none measure bs penalty (tryLineQuad measure bs penalty i j st)) (call f n st room into rep)
+pub alone : (measure : Measure) (fallen : Fallen) (penalty : Float) (bs : Row) (i j : ℕ) {k : ℕ} {f : Phase} {n : ℕ} {rs rs' : List (List Float)} {ls ls' : List ℕ} {r : Tried} →
+    Room n bs rs ls → Into f n i j k →
+    ((f : Phase) (n : ℕ) (st : List Best) → Room n bs rs ls → Into f n i j k → Rep f n bs rs ls st →
+    Becomes f n bs rs' ls' (tryLineQuad measure bs penalty i j st) (fellPair measure fallen bs penalty i j st) r) → (st : List Best) → Rep f n bs rs ls st →
+    Becomes f n bs rs' ls' (tryAll measure bs penalty ((i, j) ∷ []) (states st)) (fellAll measure fallen bs penalty ((i, j) ∷ []) (states st)) r
+alone measure fallen penalty bs i j {f = f} {n = n} room into call st rep =
+    rw (all-one measure bs penalty i j [] st ∙ all-none measure bs penalty (tryLineQuad measure bs penalty i j st), fell-one measure fallen bs penalty i j st) (call f n st room into rep)
 
 pub ready : {f : Phase} {n i j k : ℕ} {bs : Row} {rs : List (List Float)} {ls : List ℕ} → Holding f n bs rs ls → Into f n i j k → Ready bs rs ls i j k
 ready {f} {n} h into = record { phase = f; last = n; st = h .st; room = h .room; into = into; rep = h .rep }
 
 -- a phase that leads to the next
-pub rephased : {f g : Phase} {n : ℕ} {bs : Row} {rs : List (List Float)} {ls : List ℕ} {s : States} {r : Tried} →
-    ((st : List Best) → Rep f n bs rs ls st → Rep g n bs rs ls st) → Becomes f n bs rs ls s r → Becomes g n bs rs ls s r
+pub rephased : {f g : Phase} {n : ℕ} {bs : Row} {rs : List (List Float)} {ls : List ℕ} {s : States} {c : ℕ} {r : Tried} →
+    ((st : List Best) → Rep f n bs rs ls st → Rep g n bs rs ls st) → Becomes f n bs rs ls s c r → Becomes g n bs rs ls s c r
 rephased h (stops e) = stops e
-rephased h (goes {st = st} e rep) = goes e (h st rep)
+rephased h (goes {st = st} e fell rep) = goes e fell (h st rep)

@@ -19,6 +19,7 @@ use Rattle.optimize.specs.declared.answer.Answer as A
 use Rattle.optimize.specs.declared.Tried.{Tried}
 use Rattle.optimize.specs.Answers.{Best, okForHalf, combined}
 use Rattle.optimize.specs.Optimize.{Measure, bestAt, States, refused, states, tryQuad, bentQuad, bent, thenBent, tryLineQuad}
+use Rattle.optimize.specs.Fallen.{Fallen, fellBent, fellThenBent, fellPair}
 use Rattle.optimize.specs.Stored.{bestOf, combineOf, slotAt, loaded, standingAt, rowOf, Inside, Phase, Room, Into, Rep, Ready, Becomes, stops, goes}
 use Rattle.optimize.proofs.Attempt.{readable, attempted}
 
@@ -35,11 +36,11 @@ module _ (measure : Measure) (breaks : Row) (penalty : Float) (i j : ℕ) (q : Q
 
 -- one that is made, and its answer x written
 module _ {f : Phase} {n : ℕ} {bs : Row} {rs : List (List Float)} {ls : List ℕ} {st : List Best} {i j k : ℕ} (room : Room n bs rs ls) (into : Into f n i j k) (rep : Rep f n bs rs ls st) where
-  pub made : (measure : Measure) (q : Quad) (m : M.Measure) (penalty : Float) (x : A.Answer) → q .p0 ≡ breakAt bs i .xy → q .p2 ≡ breakAt bs j .xy → measure i j q ≡ Measured.At m →
+  pub made : (measure : Measure) (q : Quad) (m : M.Measure) (penalty : Float) (x : A.Answer) {c c′ : ℕ} → c ≡ c′ → q .p0 ≡ breakAt bs i .xy → q .p2 ≡ breakAt bs j .xy → measure i j q ≡ Measured.At m →
       x ≡ combineOf (loaded bs rs ls (slotAt ls j)) (standingAt bs rs ls i) (m .error) q penalty →
-      Becomes f n bs (set rs k (rowOf x)) (set ls k (x .link)) (tryQuad measure bs penalty i j q st) (record { ok = true })
-  made measure q m penalty x begins ends e is =
-      rw (quad-made measure bs penalty i j q st m e) (goes refl (attempted room into rep q begins ends (m .error) penalty x is))
+      Becomes f n bs (set rs k (rowOf x)) (set ls k (x .link)) (tryQuad measure bs penalty i j q st) c′ (record { ok = true; fallen = c })
+  made measure q m penalty x fell begins ends e is =
+      rw (quad-made measure bs penalty i j q st m e) (goes refl fell (attempted room into rep q begins ends (m .error) penalty x is))
 
 -- ---- the bent piece
 pub crossing-of : {a b c d : Break} → a ≡ c → b ≡ d → intersectOf (a .xy) (a .dir) (b .xy) (b .dir) ≡ intersectOf (c .xy) (c .dir) (d .xy) (d .dir)
@@ -68,6 +69,22 @@ module _ (measure : Measure) (breaks : Row) (penalty : Float) (i j : ℕ) (st : 
     unfolding bent
     bent-not-allowed bad = rw (← e, bad) refl
 
+-- how many lookups of it fell
+module _ (measure : Measure) (fallen : Fallen) (breaks : Row) (penalty : Float) (i j : ℕ) (st : List Best) where
+  pub fell-nowhere : Crossing.Nowhere ≡ crossing measure breaks penalty i j st → fellBent measure fallen breaks penalty i j st ≡ 0
+  unfolding fellBent
+  fell-nowhere e = rw (← e) refl
+
+  module _ (p : Point) (e : Crossing.At p ≡ crossing measure breaks penalty i j st) where
+    pub fell-allowed : okForHalf (bestAt st i) (bentQuad measure breaks penalty i j p) ≡ true →
+        fellBent measure fallen breaks penalty i j st ≡ fallen i j (bentQuad measure breaks penalty i j p)
+    unfolding fellBent
+    fell-allowed ok = rw (← e, ok) refl
+
+    pub fell-not-allowed : okForHalf (bestAt st i) (bentQuad measure breaks penalty i j p) ≡ false → fellBent measure fallen breaks penalty i j st ≡ 0
+    unfolding fellBent
+    fell-not-allowed bad = rw (← e, bad) refl
+
 -- ---- what may be read
 module _ {bs : Row} {rs : List (List Float)} {ls : List ℕ} {i j k : ℕ} (r : Ready bs rs ls i j k) where
   pub break-to : j < length bs
@@ -88,19 +105,26 @@ module _ {bs : Row} {rs : List (List Float)} {ls : List ℕ} {i j k : ℕ} (r : 
   room-from = omega (arith, r .room .in-links, r .into .rising, r .into .upto)
 
 -- ---- after an attempt
-pub record Went (f : Phase) (n : ℕ) (bs : Row) (rs : List (List Float)) (ls : List ℕ) (s : States) : Type 0 where
+pub record Went (f : Phase) (n : ℕ) (bs : Row) (rs : List (List Float)) (ls : List ℕ) (s : States) (c : ℕ) (r : Tried) : Type 0 where
   pub st : List Best
   pub is : s ≡ states st
+  pub fell : r .fallen ≡ c
   pub rep : Rep f n bs rs ls st
 
 module _ {f : Phase} {n : ℕ} {bs : Row} {rs : List (List Float)} {ls : List ℕ} where
-  pub went : {s : States} {r : Tried} → Becomes f n bs rs ls s r → r .ok ≡ true → Went f n bs rs ls s
+  pub went : {s : States} {c : ℕ} {r : Tried} → Becomes f n bs rs ls s c r → r .ok ≡ true → Went f n bs rs ls s c r
   went (stops e) ok = absurd (false≢true (sym e ∙ ok))
-  went (goes {st = st} e rep) ok = record { st = st; is = refl; rep = rep }
+  went (goes {st = st} e fell rep) ok = record { st = st; is = refl; fell = fell; rep = rep }
 
-  pub stopped : {s : States} {r : Tried} → Becomes f n bs rs ls s r → r .ok ≡ false → s ≡ refused
+  pub stopped : {s : States} {c : ℕ} {r : Tried} → Becomes f n bs rs ls s c r → r .ok ≡ false → s ≡ refused
   stopped (stops e) bad = refl
-  stopped (goes e rep) bad = absurd (true≢false (sym e ∙ bad))
+  stopped (goes e fell rep) bad = absurd (true≢false (sym e ∙ bad))
+
+  -- two attempts, of which the first was not refused
+  pub thens : {s : States} {c k : ℕ} (t u r : Tried) → t .fallen ≡ k → Becomes f n bs rs ls s c u →
+      (r .ok ≡ u .ok) × (u .ok ≡ true → r .fallen ≡ t .fallen + u .fallen) → Becomes f n bs rs ls s (k + c) r
+  thens t u r first (stops e) is = stops (is .0 ∙ e)
+  thens {c = c} {k = k} t u r first (goes {st = st} e fell rep) is = goes {c = k + c} (is .0 ∙ e) (is .1 e ∙ rw (first, fell) refl) rep
 
 pub same-room : {n : ℕ} {bs : Row} {rs rs' : List (List Float)} {ls ls' : List ℕ} → length rs' ≡ length rs → length ls' ≡ length ls → Room n bs rs ls → Room n bs rs' ls'
 same-room e f room = record {
@@ -114,8 +138,8 @@ pub line-of : {a b c d : Break} {q : Quad} → q ≡ lineQuad (a .xy) (b .xy) �
 line-of e f g = e ∙ rw (f, g) refl
 
 -- the rows are ready for the next attempt of the pair
-pub again : {bs : Row} {rs rs' : List (List Float)} {ls ls' : List ℕ} {i j k : ℕ} {s : States} {r : Tried} (x : Ready bs rs ls i j k) → length rs' ≡ length rs → length ls' ≡ length ls →
-    Becomes (x .phase) (x .last) bs rs' ls' s r → r .ok ≡ true → Ready bs rs' ls' i j k
+pub again : {bs : Row} {rs rs' : List (List Float)} {ls ls' : List ℕ} {i j k : ℕ} {s : States} {c : ℕ} {r : Tried} (x : Ready bs rs ls i j k) → length rs' ≡ length rs → length ls' ≡ length ls →
+    Becomes (x .phase) (x .last) bs rs' ls' s c r → r .ok ≡ true → Ready bs rs' ls' i j k
 again x e f b ok =
     let w = went b ok in
     record { phase = x .phase; last = x .last; st = w .st; room = same-room e f (x .room); into = x .into; rep = w .rep }
@@ -130,6 +154,19 @@ module _ (measure : Measure) (breaks : Row) (penalty : Float) (i j : ℕ) (st : 
   pub from-half : isWhole (breakAt breaks i .xy) ≡ false → tryLineQuad measure breaks penalty i j st ≡ bent measure breaks penalty i j st
   unfolding tryLineQuad
   from-half e = rw e refl
+
+module _ (measure : Measure) (fallen : Fallen) (breaks : Row) (penalty : Float) (i j : ℕ) (st : List Best) where
+  abbrev line : Quad
+  line = lineQuad (breakAt breaks i .xy) (breakAt breaks j .xy)
+
+  pub fell-whole : isWhole (breakAt breaks i .xy) ≡ true →
+      fellPair measure fallen breaks penalty i j st ≡ fallen i j line + fellThenBent measure fallen breaks penalty i j (tryQuad measure breaks penalty i j line st)
+  unfolding fellPair
+  fell-whole e = rw e refl
+
+  pub fell-half : isWhole (breakAt breaks i .xy) ≡ false → fellPair measure fallen breaks penalty i j st ≡ fellBent measure fallen breaks penalty i j st
+  unfolding fellPair
+  fell-half e = rw e (omega arith)
 
 pub is-whole-of : {a c : Break} {t u : Bool} → t ≡ isWhole (a .xy) → a ≡ c → t ≡ u → isWhole (c .xy) ≡ u
 is-whole-of e f g = rw (← f, ← e) g

@@ -24,7 +24,7 @@ splits-count (suc k) i n = let e = splits-count k (i + 1) n in omega arith
 pub split-pairs : (n : ℕ) → length (splits n) ≡ 2 * (n - 1)
 split-pairs n = splits-count (n - 1) 1 n
 
-falling-count : (j i : ℕ) → length (falling j i) ≡ j
+pub falling-count : (j i : ℕ) → length (falling j i) ≡ j
 unfolding falling
 falling-count zero i = refl
 falling-count (suc j) i = ap suc (falling-count j i)
@@ -122,10 +122,9 @@ pairs-one {n} {p} e t = ⊎-elim (λ h. h) (⊎-elim (λ h. omega arith) (λ h. 
 abbrev pub mostPairs : ℕ
 mostPairs = 2100221
 
-abbrev pub Few : S.Solved → Type 0
-Few Solved.Last = Unit
-Few (Solved.Unchanged p) = p ≤ mostPairs
-Few (Solved.Done k p) = p ≤ mostPairs
+-- all pairs of a run
+pub all-few : (n : ℕ) → n < 2048 → 1 + length (splits n) + length (search n) ≤ mostPairs
+all-few n few = omega (arith, few-pairs n few, split-pairs n)
 
 tries-few : {n p : ℕ} → n < 2048 → Tries n p → p ≤ mostPairs
 tries-few {n} {p} few t =
@@ -142,12 +141,3 @@ module _ (measure : Measure) (breaks : Row) (penalty : Float) (few : length brea
 
   pub pairs-few-unchanged : {p : ℕ} → optimizeOf measure breaks penalty ≡ unchanged p → p ≤ mostPairs
   pairs-few-unchanged e = tries-few few-last (pairs-are-unchanged measure breaks penalty e)
-
-  few-by : {answers : List (List Float)} {links : List ℕ} {o : Optimised} {r : S.Solved} → optimizeOf measure breaks penalty ≡ o → Solves breaks answers links o r → Few r
-  few-by e (lost h) = subst Few (sym h) tt
-  few-by e (stays h) = subst Few (sym h) (pairs-few-unchanged e)
-  few-by e (found h holds) = subst Few (sym h) (pairs-few e)
-
-  -- of the result as the rows hold it
-  pub solves-few : {answers : List (List Float)} {links : List ℕ} {r : S.Solved} → Solves breaks answers links (optimizeOf measure breaks penalty) r → Few r
-  solves-few s = few-by refl s

@@ -1,6 +1,9 @@
+pub mod Tally
 pub mod Answers
 pub mod Optimize
+pub mod Fallen
 pub mod Stored
+pub mod Steps
 pub mod Laws
 pub mod Trace
 pub mod Unchanged

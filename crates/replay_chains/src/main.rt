@@ -100,7 +100,8 @@ fn put_checked(
         &mut answers,
         &mut links,
     );
-    put_verdict(text, at, v)
+    let verdict = v.verdict;
+    put_verdict(text, at, verdict)
 }
 
 // A chain in these rows, then the verdict on it and on it with a score that is one more.
@@ -172,12 +173,12 @@ fn put_run(text: &mut [u8], xs: &[i16], ys: &[i16], flags: &[u8], k: usize) -> u
         &mut links,
     ) {
         Chained::Refused(n) => lines::put_refused(text, 0, n),
-        Chained::Unchanged(pairs) => {
-            let a = put_pairs(text, 0, pairs);
+        Chained::Unchanged(t) => {
+            let a = put_pairs(text, 0, t.pairs);
             lines::put_all(text, a, b" unchanged")
         }
-        Chained::Pieces(n, score, pairs) => {
-            let a = put_pairs(text, 0, pairs);
+        Chained::Pieces(n, score, t) => {
+            let a = put_pairs(text, 0, t.pairs);
             let m = rows::least(n, 2047);
             put_chain(
                 text,

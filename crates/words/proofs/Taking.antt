@@ -54,16 +54,16 @@ is-same {r} k l (only, when) = by (sameBytes k l) refl r refl
 
 -- ---- a penalty
 
-pub capped : (s : Settings) (o : Option ℕ) → sixteenthsIn s (sizeOf o) ≡ sixteenths s o
+pub capped : (s : Settings) (told : Bool) (o : Option ℕ) → sixteenthsIn s told (sizeOf o) ≡ sixteenths s told o
 unfolding sixteenthsIn sizeOf sixteenths
-capped s none = refl
-capped s (some n) =
-    ap (λ (t : Bool). pick t (Reading.Has (withPenalty s (min n 4294967296))) Reading.Wrong) (cap-test n 4294967295 (omega arith))
+capped s told none = refl
+capped s told (some n) =
+    ap (λ (t : Bool). pick t (Reading.Has (withPenalty s (min n 4294967296)) told) Reading.Wrong) (cap-test n 4294967295 (omega arith))
     ∙ by (leb n 4294967295) refl
   where
     by : (t : Bool) → leb n 4294967295 ≡ t →
-        pick t (Reading.Has (withPenalty s (min n 4294967296))) Reading.Wrong ≡ pick t (Reading.Has (withPenalty s n)) Reading.Wrong
-    by true e = ap (λ (k : ℕ). Reading.Has (withPenalty s k)) (uncapped n 4294967295 (omega arith) e)
+        pick t (Reading.Has (withPenalty s (min n 4294967296)) told) Reading.Wrong ≡ pick t (Reading.Has (withPenalty s n) told) Reading.Wrong
+    by true e = ap (λ (k : ℕ). Reading.Has (withPenalty s k) told) (uncapped n 4294967295 (omega arith) e)
     by false e = refl
 
 -- ---- the words

@@ -24,6 +24,10 @@ wholeUnitsWord = 45 ∷ 45 ∷ 119 ∷ 104 ∷ 111 ∷ 108 ∷ 101 ∷ 45 ∷ 11
 abbrev pub closedWord : List ℕ
 closedWord = 45 ∷ 45 ∷ 99 ∷ 108 ∷ 111 ∷ 115 ∷ 101 ∷ 100 ∷ []
 
+-- `--fallen`
+abbrev pub fallenWord : List ℕ
+fallenWord = 45 ∷ 45 ∷ 102 ∷ 97 ∷ 108 ∷ 108 ∷ 101 ∷ 110 ∷ []
+
 -- the same bytes
 unfoldable pub sameBytes : List ℕ → List ℕ → Bool
 sameBytes [] [] = true
@@ -45,22 +49,23 @@ onWholeUnits s = record { penalty = s .penalty; «whole_units» = true; closed =
 abbrev pub inClosedMode : Settings → Settings
 inClosedMode s = record { penalty = s .penalty; «whole_units» = s .«whole_units»; closed = true }
 
--- a word that stands where none is awaited
-unfoldable pub optionOf : Settings → List ℕ → R.Reading
-optionOf s word =
-    pick (sameBytes word penaltyWord) (Reading.Penalty s)
-    (pick (sameBytes word wholeUnitsWord) (Reading.Has (onWholeUnits s))
-    (pick (sameBytes word closedWord) (Reading.Has (inClosedMode s)) Reading.Wrong))
+-- a word that stands where none is awaited; `told`: whether the lookups that fell are asked for
+unfoldable pub optionOf : Settings → Bool → List ℕ → R.Reading
+optionOf s told word =
+    pick (sameBytes word penaltyWord) (Reading.Penalty s told)
+    (pick (sameBytes word wholeUnitsWord) (Reading.Has (onWholeUnits s) told)
+    (pick (sameBytes word closedWord) (Reading.Has (inClosedMode s) told)
+    (pick (sameBytes word fallenWord) (Reading.Has s true) Reading.Wrong)))
 
 -- the penalty: decimal digits and nothing else, of any number below 2^32; zeros in front count for nothing
-unfoldable pub sixteenths : Settings → Option ℕ → R.Reading
-sixteenths s (some n) = pick (leb n 4294967295) (Reading.Has (withPenalty s n)) Reading.Wrong
-sixteenths s none = Reading.Wrong
+unfoldable pub sixteenths : Settings → Bool → Option ℕ → R.Reading
+sixteenths s told (some n) = pick (leb n 4294967295) (Reading.Has (withPenalty s n) told) Reading.Wrong
+sixteenths s told none = Reading.Wrong
 
 -- one word more
 unfoldable pub taken : R.Reading → List ℕ → R.Reading
-taken (Reading.Has s) word = optionOf s word
-taken (Reading.Penalty s) word = sixteenths s (wholeOf word)
+taken (Reading.Has s told) word = optionOf s told word
+taken (Reading.Penalty s told) word = sixteenths s told (wholeOf word)
 taken Reading.Wrong word = Reading.Wrong
 
 unfoldable pub allTaken : R.Reading → List (List ℕ) → R.Reading
@@ -69,10 +74,10 @@ allTaken r (word ∷ words) = allTaken (taken r word) words
 
 -- after the last word none may be awaited
 abbrev pub ended : R.Reading → A.Asked
-ended (Reading.Has s) = Asked.For s
-ended (Reading.Penalty s) = Asked.Usage
+ended (Reading.Has s told) = Asked.For s told
+ended (Reading.Penalty s told) = Asked.Usage
 ended Reading.Wrong = Asked.Usage
 
--- the settings that the words ask for, the default where they say nothing; or that they are wrong
+-- the settings that the words ask for, the default where they say nothing, and whether the lookups that fell are told; or that they are wrong
 unfoldable pub askedOf : List (List ℕ) → A.Asked
-askedOf words = ended (allTaken (Reading.Has defaultSettings) words)
+askedOf words = ended (allTaken (Reading.Has defaultSettings false) words)

@@ -9,55 +9,68 @@ ghost use Rattle.words.specs.Words.{optionOf, taken, ended, askedOf};
 ghost use Rattle.words.specs.Steps.{sixteenthsIn};
 
 pub enum Asked {
-    For(Settings),
+    // the settings, and whether the lookups that fell are told
+    For(Settings, bool),
     // a word that is not known, or a number that is not there or is none
     Usage,
 }
 
 // What the words so far ask for.
 pub enum Reading {
-    Has(Settings),
+    Has(Settings, bool),
     // the next word is the penalty
-    Penalty(Settings),
+    Penalty(Settings, bool),
     Wrong,
 }
 
 // A word that stands where none is awaited.
-fn option_of(s: Settings, word: &[u8]) -> Reading
-    ensures { λ r. ⌜ r ≡ optionOf s (now (word .entry)) ⌝ }
+fn option_of(s: Settings, told: bool, word: &[u8]) -> Reading
+    ensures { λ r. ⌜ r ≡ optionOf s told (now (word .entry)) ⌝ }
 {
     if check::same(word, b"--penalty") {
-        return Reading::Penalty(s);
+        return Reading::Penalty(s, told);
     }
     if check::same(word, b"--whole-units") {
-        return Reading::Has(Settings {
-            penalty: s.penalty,
-            whole_units: true,
-            closed: s.closed,
-        });
+        return Reading::Has(
+            Settings {
+                penalty: s.penalty,
+                whole_units: true,
+                closed: s.closed,
+            },
+            told,
+        );
     }
     if check::same(word, b"--closed") {
-        return Reading::Has(Settings {
-            penalty: s.penalty,
-            whole_units: s.whole_units,
-            closed: true,
-        });
+        return Reading::Has(
+            Settings {
+                penalty: s.penalty,
+                whole_units: s.whole_units,
+                closed: true,
+            },
+            told,
+        );
+    }
+    if check::same(word, b"--fallen") {
+        return Reading::Has(s, true);
     }
     Reading::Wrong
 }
 
 // A penalty of any size is taken: whoever is handed it judges it.
-fn sixteenths(s: Settings, n: Size) -> Reading
-    ensures { λ r. ⌜ r ≡ sixteenthsIn s n ⌝ }
+fn sixteenths(s: Settings, told: bool, n: Size) -> Reading
+    ensures { λ r. ⌜ r ≡ sixteenthsIn s told n ⌝ }
 {
     match n {
         Size::Is(v) => {
             if v <= 4294967295 {
-                return Reading::Has(Settings {
-                    penalty: v as u32,
-                    whole_units: s.whole_units,
-                    closed: s.closed,
-                });
+                return Reading::Has(
+                    Settings {
+                        penalty: v as u32,
+                        whole_units: s.whole_units,
+                        closed: s.closed,
+                    },
+                    told,
+                );
             }
             Reading::Wrong
         }
@@ -69,8 +82,8 @@ fn take(r: Reading, word: &[u8]) -> Reading
     ensures { λ r′. ⌜ r′ ≡ taken r (now (word .entry)) ⌝ }
 {
     match r {
-        Reading::Has(s) => option_of(s, word),
-        Reading::Penalty(s) => sixteenths(s, lines::read_size(word)),
+        Reading::Has(s, told) => option_of(s, told, word),
+        Reading::Penalty(s, told) => sixteenths(s, told, lines::read_size(word)),
         Reading::Wrong => Reading::Wrong,
     }
 }
@@ -79,8 +92,8 @@ fn end(r: Reading) -> Asked
     ensures { λ a. ⌜ a ≡ ended r ⌝ }
 {
     match r {
-        Reading::Has(s) => Asked::For(s),
-        Reading::Penalty(_) => Asked::Usage,
+        Reading::Has(s, told) => Asked::For(s, told),
+        Reading::Penalty(_, _) => Asked::Usage,
         Reading::Wrong => Asked::Usage,
     }
 }
@@ -88,11 +101,14 @@ fn end(r: Reading) -> Asked
 pub fn read(words: &[u8]) -> Asked
     ensures { λ r. ⌜ r ≡ askedOf (endedBy 0 (now (words .entry))) ⌝ }
 {
-    let mut r = Reading::Has(Settings {
-        penalty: DEFAULT_PENALTY,
-        whole_units: false,
-        closed: false,
-    });
+    let mut r = Reading::Has(
+        Settings {
+            penalty: DEFAULT_PENALTY,
+            whole_units: false,
+            closed: false,
+        },
+        false,
+    );
     let mut at = 0;
     while at < words.len() {
         let e = lines::end_of(words, at, 0);

@@ -1,6 +1,8 @@
 //! Rows of every length and content: rooms, refusals, and what is left in each row.
 
+use super::editions::{editions, EditionsReport};
 use super::*;
+use crate::rows::OwnRows;
 
 /// What the numbers below were recorded with.
 const AS_RECORDED: Settings = Settings::of_crate();
@@ -80,11 +82,24 @@ fn assert_untouched_chain(chain: &ChainRows, from: usize) {
     assert!(chain.spans.iter().skip(from).all(|&span| span == [99; 2]));
 }
 
+/// A refusal reports nothing else.
+const fn refused_crunch(number: u32) -> CrunchReport {
+    CrunchReport { number, points: 0, pairs: 0, fallen: 0 }
+}
+
+const fn refused_chain(number: u32) -> ChainReport {
+    ChainReport { number, pieces: 0, pairs: 0, score_bits: 0, fallen: 0 }
+}
+
+const fn refused_check(number: u32) -> CheckReport {
+    CheckReport { number, accepted: 0, fallen: 0 }
+}
+
 fn crunch_number(contour: &Contour, mut out: Output, mut scratch: Scratch) -> u32 {
     let report = crunch(contour, AS_RECORDED, &mut out, &mut scratch);
     assert_zero(&scratch);
     if report.number != 0 {
-        assert_eq!(report, CrunchReport { number: report.number, points: 0, pairs: 0 });
+        assert_eq!(report, refused_crunch(report.number));
         assert_untouched(&out, 0);
     }
     report.number
@@ -94,7 +109,7 @@ fn chain_number(contour: &Contour, run: usize, mut rows: ChainRows, mut scratch:
     let report = chain(contour, run, AS_RECORDED, &mut rows, &mut scratch);
     assert_zero(&scratch);
     if report.number != 0 {
-        assert_eq!(report, ChainReport { number: report.number, pieces: 0, pairs: 0, score_bits: 0 });
+        assert_eq!(report, refused_chain(report.number));
         assert_untouched_chain(&rows, 0);
     }
     report.number
@@ -103,7 +118,7 @@ fn chain_number(contour: &Contour, run: usize, mut rows: ChainRows, mut scratch:
 fn check_number(contour: &Contour, run: usize, rows: &ChainRows, mut scratch: Scratch) -> u32 {
     let report = check(contour, run, AS_RECORDED, rows, 0.0, &mut scratch);
     assert_zero(&scratch);
-    assert_eq!(report.accepted, 0);
+    assert_eq!(report, refused_check(report.number));
     report.number
 }
 
@@ -121,7 +136,7 @@ fn success_writes_the_first_places_and_leaves_scratch_zero() {
     let mut out = marked(20, 30, 40, 50);
     let mut scratch = littered_full();
     let report = crunch(&contour(&HILL), AS_RECORDED, &mut out, &mut scratch);
-    assert_eq!(report, CrunchReport { number: 0, points: 5, pairs: 937 });
+    assert_eq!(report, CrunchReport { number: 0, points: 5, pairs: 937, fallen: 0 });
     assert_eq!(out.xs[..5], [200, 130, 80, 0, 0]);
     assert_eq!(out.ys[..5], [-40, 120, 120, 60, 0]);
     assert_eq!(out.flags[..5], [1, 1, 0, 0, 1]);
@@ -200,17 +215,17 @@ fn a_penalty_that_is_refused_leaves_scratch_zero() {
     let settings = Settings { penalty: 0, ..AS_RECORDED };
     let (mut out, mut rows, mut scratch) = (marked(9, 9, 9, 9), marked_chain(9, 9, 9, 9), littered_full());
     let report = crunch(&contour(&HILL), settings, &mut out, &mut scratch);
-    assert_eq!(report, CrunchReport { number: 16, points: 0, pairs: 0 });
+    assert_eq!(report, refused_crunch(16));
     assert_untouched(&out, 0);
     assert_zero(&scratch);
     scratch = littered_full();
     let report = chain(&contour(&HILL), 0, settings, &mut rows, &mut scratch);
-    assert_eq!(report, ChainReport { number: 16, pieces: 0, pairs: 0, score_bits: 0 });
+    assert_eq!(report, refused_chain(16));
     assert_untouched_chain(&rows, 0);
     assert_zero(&scratch);
     scratch = littered_full();
     let report = check(&contour(&HILL), 0, settings, &rows, 1.0, &mut scratch);
-    assert_eq!(report, CheckReport { number: 16, accepted: 0 });
+    assert_eq!(report, refused_check(16));
     assert_zero(&scratch);
 }
 
@@ -313,7 +328,7 @@ fn in_closed_mode_the_last_run_goes_round() {
         crunch(&square, closed, &mut out, &mut littered_full())
     };
     // four corners, and the start not again
-    assert_eq!(room(4), CrunchReport { number: 0, points: 4, pairs: 1 });
+    assert_eq!(room(4), CrunchReport { number: 0, points: 4, pairs: 1, fallen: 0 });
     assert_eq!(room(3).number, 9);
 }
 
@@ -326,7 +341,7 @@ fn chain_rows_of_unequal_length_are_not_accepted() {
     let score = f64::from_bits(chain(&hill, 0, AS_RECORDED, &mut found, &mut scratch).score_bits);
     assert_eq!(
         check(&hill, 0, AS_RECORDED, &found, score, &mut scratch),
-        CheckReport { number: 0, accepted: 1 }
+        CheckReport { number: 0, accepted: 1, fallen: 0 }
     );
     for row in 0..4 {
         let mut uneven = marked_chain(0, 0, 0, 0);
@@ -342,7 +357,7 @@ fn chain_rows_of_unequal_length_are_not_accepted() {
         }
         assert_eq!(
             check(&hill, 0, AS_RECORDED, &uneven, score, &mut scratch),
-            CheckReport { number: 0, accepted: 0 }
+            CheckReport { number: 0, accepted: 0, fallen: 0 }
         );
         assert_zero(&scratch);
     }
@@ -354,20 +369,93 @@ fn an_unchanged_run_writes_no_piece_and_no_score() {
     let mut rows = marked_chain(9, 9, 9, 9);
     let mut scratch = littered_full();
     let report = chain(&still, 0, AS_RECORDED, &mut rows, &mut scratch);
-    assert_eq!(report, ChainReport { number: 0, pieces: 0, pairs: 1, score_bits: 0 });
+    assert_eq!(report, ChainReport { number: 0, pieces: 0, pairs: 1, score_bits: 0, fallen: 0 });
     assert_untouched_chain(&rows, 0);
     assert_zero(&scratch);
+}
+
+/// On whole units some lookups of run 0 fall past its samples.
+const FELL: [(i16, i16, u8); 5] = [(-1795, 0, 1), (-1794, 0, 1), (143, -4, 0), (-3, 7, 1), (-1795, -900, 1)];
+/// The same, refused by 8 after lookups fell.
+const FELL_AND_REFUSED: [(i16, i16, u8); 5] =
+    [(1858, 4, 1), (1857, 4, 1), (-154, 5, 0), (9, 3, 1), (1858, 508, 1)];
+const HIGH: Settings = Settings { penalty: 256, whole_units: true, closed: false };
+const FELL_POINTS: usize = 5;
+
+#[test]
+fn a_refusal_after_lookups_fell_counts_none() {
+    let fell = contour(&FELL);
+    let room = |places| marked(places, places, places, places);
+    let crunched = |places, mut scratch: Scratch| crunch(&fell, HIGH, &mut room(places), &mut scratch);
+    let report = crunched(FELL_POINTS, littered_full());
+    assert_eq!(report, CrunchReport { number: 0, points: FELL_POINTS, pairs: 3641, fallen: 4 });
+    assert_eq!(crunched(FELL_POINTS - 1, littered_full()), refused_crunch(9));
+    assert_eq!(crunched(9, littered(16_384, 2048, 99, 99)), refused_crunch(7));
+    let chained = |mut rows: ChainRows| chain(&fell, 0, HIGH, &mut rows, &mut littered_full());
+    assert_eq!(chained(marked_chain(2, 2, 2, 2)).fallen, 4);
+    assert_eq!(chained(marked_chain(2, 1, 2, 2)), refused_chain(9));
+    let eight = contour(&FELL_AND_REFUSED);
+    assert_eq!(crunch(&eight, HIGH, &mut room(9), &mut littered_full()), refused_crunch(8));
+    let mut rows = marked_chain(9, 9, 9, 9);
+    assert_eq!(chain(&eight, 0, HIGH, &mut rows, &mut littered_full()), refused_chain(8));
+}
+
+#[test]
+fn of_two_editions_only_the_one_that_is_refused_counts_none() {
+    let mut own = OwnRows::full();
+    let mut report = |settings, penalty, places| {
+        let (mut out_a, mut out_b) = (marked(9, 9, 9, 9), marked(places, places, places, places));
+        let contour = contour(&FELL);
+        editions(&contour, settings, penalty, &mut littered_full(), &mut out_a, &mut own, &mut out_b)
+    };
+    let whole = CrunchReport { number: 0, points: FELL_POINTS, pairs: 3641, fallen: 4 };
+    assert_eq!(report(HIGH, 256, 9), EditionsReport { a: whole, b: whole });
+    assert_eq!(report(HIGH, 256, FELL_POINTS - 1), EditionsReport { a: whole, b: refused_crunch(9) });
+    assert_eq!(report(HIGH, 257, 9), EditionsReport { a: whole, b: refused_crunch(16) });
+    let none = Settings { penalty: 0, ..HIGH };
+    assert_eq!(report(none, 256, 9), EditionsReport { a: refused_crunch(16), b: whole });
+}
+
+/// One piece over the whole run, which no optimiser takes: one place and one direction fall as it is measured.
+fn bent() -> (ChainRows, f64) {
+    let rows = ChainRows { starts: vec![0], ends: vec![1821], xs: vec![90.0], ys: vec![0.0], spans: vec![] };
+    (rows, f64::from_bits(0x4089_1b56_6b74_f7c1))
+}
+
+#[test]
+fn the_checker_counts_what_it_measures() {
+    let checked = |contour: &[(i16, i16, u8)], rows: &ChainRows, score| {
+        let mut scratch = littered_full();
+        let report = check(&self::contour(contour), 0, HIGH, rows, score, &mut scratch);
+        assert_zero(&scratch);
+        report
+    };
+    let (rows, score) = bent();
+    assert_eq!(checked(&FELL, &rows, score), CheckReport { number: 0, accepted: 1, fallen: 2 });
+    // another score is found out by measuring, and uneven rows or another shape before it
+    assert_eq!(checked(&FELL, &rows, score.next_up()), CheckReport { number: 0, accepted: 0, fallen: 2 });
+    let not_measured = CheckReport { number: 0, accepted: 0, fallen: 0 };
+    let uneven = ChainRows { ys: vec![0.0; 2], ..bent().0 };
+    assert_eq!(checked(&FELL, &uneven, score), not_measured);
+    let beside = ChainRows { xs: vec![90.5], ..bent().0 };
+    assert_eq!(checked(&FELL, &beside, score), not_measured);
+    let short = ChainRows { ends: vec![1820], ..bent().0 };
+    assert_eq!(checked(&FELL, &short, score), not_measured);
+    assert_eq!(checked(&FELL, &ChainRows::default(), score), not_measured);
 }
 
 #[test]
 fn reports_have_the_layout_of_the_header() {
     use std::mem::{offset_of, size_of};
-    assert_eq!(size_of::<CrunchReport>(), 24);
+    assert_eq!(size_of::<CrunchReport>(), 32);
     assert_eq!((offset_of!(CrunchReport, points), offset_of!(CrunchReport, pairs)), (8, 16));
-    assert_eq!(size_of::<ChainReport>(), 32);
-    assert_eq!((offset_of!(ChainReport, pieces), offset_of!(ChainReport, score_bits)), (8, 24));
-    assert_eq!(size_of::<CheckReport>(), 8);
-    assert_eq!(offset_of!(CheckReport, accepted), 4);
+    assert_eq!(offset_of!(CrunchReport, fallen), 24);
+    assert_eq!(size_of::<ChainReport>(), 40);
+    assert_eq!((offset_of!(ChainReport, pieces), offset_of!(ChainReport, pairs)), (8, 16));
+    assert_eq!((offset_of!(ChainReport, score_bits), offset_of!(ChainReport, fallen)), (24, 32));
+    assert_eq!(size_of::<CheckReport>(), 16);
+    assert_eq!((offset_of!(CheckReport, accepted), offset_of!(CheckReport, fallen)), (4, 8));
+    assert_eq!((size_of::<EditionsReport>(), offset_of!(EditionsReport, b)), (64, 32));
 }
 
 #[test]

@@ -57,7 +57,7 @@ returns c =
     let called = c .before .before .before .before .before .before .before .before .before .before .before .before .before .before .before in
     let args = called .before .before .before .before .before .before .before .before .before .before .before .args in
     let last = called .crunch-contour .last .1 .1 .1 .1 in
-    says fullRooms 16384 (args .settings) (args .xs .now) (args .ys .now) (args .flags .now) (called .crunch-contour .ensures .answer)
+    says fullRooms 16384 (args .settings) (args .xs .now) (args .ys .now) (args .flags .now) (called .crunch-contour .ensures .answer) (args .told)
     {o = outputs (last .0) (last .1 .0) (last .1 .1 .0)} refl (called .crunch-contour .ensures .outs) (c .before .before .put-outcome .ensures)
 
 pub put-full-spec : {M : Type 1} → statement M

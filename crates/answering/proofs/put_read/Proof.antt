@@ -60,7 +60,7 @@ returns : tie.Need-returns
 returns c =
     let called = c .before .before .before .before .before .before .before .before .before .before in
     let rows = called .parse .last .1 in
-    says-malformed (called .before .before .before .before .before .before .args .settings) (called .before .before .before .before .before .before .args .line .now) (rows .0) (rows .1 .0) (rows .1 .1 .0) (called .parse .ensures) (c .before .before .before .before .before .enum-told .given .1) (c .before .before .put-all .ensures)
+    says-malformed (called .before .before .before .before .before .before .args .settings) (called .before .before .before .before .before .before .args .told) (called .before .before .before .before .before .before .args .line .now) (rows .0) (rows .1 .0) (rows .1 .1 .0) (called .parse .ensures) (c .before .before .before .before .before .enum-told .given .1) (c .before .before .put-all .ensures)
 
 same-length-2 : tie.Need-same-length-2
 same-length-2 c = search needs
@@ -70,7 +70,7 @@ returns-2 c =
     let called = c .before .before .before .before .before .before .before .before .before .before .before .before .before .before in
     let rows = called .parse .last .1 in
     let kept = called .parse .kept .1 in
-    says-points (called .before .before .before .before .before .before .args .settings) (called .before .before .before .before .before .before .args .line .now) (rows .0) (rows .1 .0) (rows .1 .1 .0) (called .parse .ensures) _ (kept .0) (kept .1 .0) (kept .1 .1 .0) (c .before .before .before .before .before .before .before .before .before .n .given .1) (c .before .before .before .before .before .before .before .least .ensures) (c .before .before .put-crunched .ensures)
+    says-points (called .before .before .before .before .before .before .args .settings) (called .before .before .before .before .before .before .args .told) (called .before .before .before .before .before .before .args .line .now) (rows .0) (rows .1 .0) (rows .1 .1 .0) (called .parse .ensures) _ (kept .0) (kept .1 .0) (kept .1 .1 .0) (c .before .before .before .before .before .before .before .before .before .n .given .1) (c .before .before .before .before .before .before .before .least .ensures) (c .before .before .put-crunched .ensures)
 
 pub put-read-spec : {M : Type 1} → statement M
 put-read-spec =

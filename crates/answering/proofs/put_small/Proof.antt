@@ -67,7 +67,7 @@ returns-2 c =
     let fs = args .flags .now in
     let answer = called .crunch-contour .ensures .answer in
     let last = called .crunch-contour .last .1 .1 .1 .1 in
-    says smallRooms 1024 settings xs ys fs answer {o = outputs (last .0) (last .1 .0) (last .1 .1 .0)}
+    says smallRooms 1024 settings xs ys fs answer (args .told) {o = outputs (last .0) (last .1 .0) (last .1 .1 .0)}
     (small-same settings xs ys fs answer (c .before .before .before .before .before .before .before .before .is-short .ensures) (c .before .before .before .before .before .before .before .if1 .left)) (called .crunch-contour .ensures .outs) (c .before .before .put-outcome .ensures)
 
 pub put-small-spec : {M : Type 1} → statement M

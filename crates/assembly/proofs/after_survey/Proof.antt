@@ -1,10 +1,12 @@
 -- `assembly::after_survey` meets its contract. Assumes nothing.
+use Prim.Native.Nat.{_+_}
 use native.Mathlib.Omega.{arith}
 use mathlib.Core.Path.{refl, sym, ap, subst}
 use lib.Seq.{length-take-le}
 use Rattle.survey.specs.Survey.{samplesUsed, breaksUsed}
 use Rattle.edition.specs.Laws.{in-row}
 use Rattle.assembly.specs.Stands.{stops, ends, FoundIn}
+use Rattle.optimize.specs.Fallen.{nothing-upto, upto-more, plus-untried}
 use Rattle.assembly.proofs.Run.{surveyed-so}
 use Rattle.assembly.proofs.after_survey.Statement.{statement}
 use Rattle.assembly.proofs.after_survey.Tie as tie
@@ -31,7 +33,7 @@ step-requires : tie.Need-step-requires
 step-requires c κs = (subst (FoundIn (c .before .before .before .before .before .before .before .before .before .before .args .breaks .now)) (c .before .before .before .before .before .before .s2 .given .1) (c .before .before .before .before .before .before .before .before .before .before .pre .0 .found), c .before .before .before .before .before .before .before .before .before .before .pre .1)
 
 returns : tie.Need-returns
-returns c = record { stands = λ ps wrote. surveyed-so _ _ _ _ (c .before .before .before .before .before .args .samples .now) (c .before .before .before .before .before .args .breaks .now) (c .before .s .given .1) ps _ (stops refl); pairs = omega arith }
+returns c = record { stands = λ ps wrote. surveyed-so _ _ _ _ (c .before .before .before .before .before .args .samples .now) (c .before .before .before .before .before .args .breaks .now) (c .before .s .given .1) ps _ (stops refl); few = λ runs h. nothing-upto (runs + 1) }
 
 same-length : tie.Need-same-length
 same-length c = c .before .unchanged-in .kept .1 .1 .1 .1 .0
@@ -39,8 +41,8 @@ same-length c = c .before .unchanged-in .kept .1 .1 .1 .1 .0
 returns-2 : tie.Need-returns-2
 returns-2 c =
     record {
-      stands = λ ps wrote. surveyed-so _ _ _ _ (c .before .before .before .before .before .before .before .args .samples .now) (c .before .before .before .before .before .before .before .args .breaks .now) (c .before .before .before .enum-told .given .1) ps _ (ends refl (c .before .unchanged-in .ensures) (omega arith));
-      pairs = omega arith;
+      stands = λ ps wrote. surveyed-so _ _ _ _ (c .before .before .before .before .before .before .before .before .args .samples .now) (c .before .before .before .before .before .before .before .before .args .breaks .now) (c .before .before .before .before .enum-told .given .1) ps _ (ends refl (c .before .unchanged-in .ensures) (plus-untried _));
+      few = λ runs h. upto-more (omega arith) h;
     }
 
 same-length-2 : tie.Need-same-length-2
@@ -56,7 +58,7 @@ returns-3 : tie.Need-returns-3
 returns-3 c =
     record {
       stands = λ ps wrote. surveyed-so _ _ _ _ (c .before .before .before .before .before .before .before .before .before .before .before .before .before .before .before .args .samples .now) (c .before .before .before .before .before .before .before .before .before .before .before .before .before .before .before .args .breaks .now) (c .before .before .before .before .before .before .before .before .before .before .before .s2 .given .1) ps _ (c .before .before .before .before .step .ensures .stands ps wrote);
-      pairs = c .before .before .before .before .step .ensures .pairs;
+      few = c .before .before .before .before .step .ensures .few;
     }
 
 pub after-survey-spec : {M : Type 1} → statement M

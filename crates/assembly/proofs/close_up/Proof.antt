@@ -25,7 +25,7 @@ same-length : tie.Need-same-length
 same-length c = c .before .close .kept .0
 
 returns-3 : tie.Need-returns-3
-returns-3 c = going-closes _ (c .before .before .before .before .c3 .given .1) (c .before .close .ensures)
+returns-3 c = going-closes _ (c .before .before .before .before .before .c3 .given .1) (c .before .close .ensures)
 
 pub close-up-spec : {M : Type 1} → statement M
 close-up-spec =

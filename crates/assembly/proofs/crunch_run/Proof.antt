@@ -1,5 +1,6 @@
 -- `assembly::crunch_run` meets its contract. Assumes nothing.
 use native.Mathlib.Omega.{arith}
+use Rattle.optimize.specs.Fallen.{upto-more}
 use Rattle.assembly.proofs.Run.{copied-stands, worked-stands}
 use Rattle.assembly.proofs.crunch_run.Statement.{statement}
 use Rattle.assembly.proofs.crunch_run.Tie as tie
@@ -23,8 +24,8 @@ returns : tie.Need-returns
 returns c =
     record {
       stands = λ ps wrote.
-          copied-stands _ _ _ _ _ _ (c .before .before .before .before .before .before .start-of .ensures) (c .before .before .before .before .before .is-copied-from .ensures) (c .before .before .before .before .if1 .taken) (c .before .before .read-from .ensures) ps _ (c .before .push-seg .ensures) wrote;
-      pairs = omega arith;
+          copied-stands _ _ _ _ _ _ (c .before .before .before .before .before .before .before .start-of .ensures) (c .before .before .before .before .before .before .is-copied-from .ensures) (c .before .before .before .before .before .if1 .taken) (c .before .before .read-from .ensures) ps _ (c .before .push-seg .ensures) wrote;
+      few = λ runs h. upto-more (omega arith) h;
     }
 
 work-run-requires : tie.Need-work-run-requires
@@ -49,7 +50,7 @@ returns-2 : tie.Need-returns-2
 returns-2 c =
     record {
       stands = λ ps wrote. worked-stands _ _ _ _ _ _ (c .before .before .before .before .before .before .before .before .before .before .before .before .before .before .start-of .ensures) (c .before .before .before .before .before .before .before .before .before .before .before .before .before .is-copied-from .ensures) (c .before .before .before .before .before .before .before .before .before .before .before .before .if1 .left) ps _ (c .before .before .before .before .before .before .work-run .ensures .stands ps wrote);
-      pairs = c .before .before .before .before .before .before .work-run .ensures .pairs;
+      few = c .before .before .before .before .before .before .work-run .ensures .few;
     }
 
 pub crunch-run-spec : {M : Type 1} → statement M

@@ -100,7 +100,7 @@ loop-less c = omega (arith, c .before .before .before .before .before .before .b
 loop-again : tie.Need-loop-again Inv-loop μ-loop
 loop-again c =
     let turn = c .before .before .before .before .before .before .before .before .before .crunch-run in
-    run-on _ _ _ _ _ _ _ _ _ _ _ (c .before .before .before .before .before .before .before .before .before .before .before .before .before .before .before .before .before .before .before .before .loop .inv) (c .before .before .before .before .before .before .before .before .before .before .before .before .before .before .before .before .before .before .run-at .ensures) (c .before .before .before .before .before .before .before .before .before .before .before .before .before .before .before .before .first .given .1) (turn .ensures .stands) (c .before .q .given .1) (turn .ensures .pairs) (c .before .before .before .before .before .before .before .before .before .before .before .before .before .before .before .before .before .before .before .loop-test .taken) (turn .kept .1 .1 .1 .1 .1 .1 .1 .0) (turn .kept .1 .1 .1 .1 .1 .1 .1 .1 .0) (turn .kept .1 .1 .1 .1 .1 .1 .1 .1 .1 .0) (turn .kept .1 .1 .1 .1 .1 .1 .1 .1 .1 .1 .0) (turn .kept .1 .1 .1 .1 .1 .1 .1 .1 .1 .1 .1 .0)
+    run-on _ _ _ _ _ _ _ _ _ _ _ (c .before .before .before .before .before .before .before .before .before .before .before .before .before .before .before .before .before .before .before .before .loop .inv) (c .before .before .before .before .before .before .before .before .before .before .before .before .before .before .before .before .before .before .run-at .ensures) (c .before .before .before .before .before .before .before .before .before .before .before .before .before .before .before .before .first .given .1) (turn .ensures .stands) (c .before .q .given .1) (turn .ensures .few) (c .before .before .before .before .before .before .before .before .before .before .before .before .before .before .before .before .before .before .before .loop-test .taken) (turn .kept .1 .1 .1 .1 .1 .1 .1 .0) (turn .kept .1 .1 .1 .1 .1 .1 .1 .1 .0) (turn .kept .1 .1 .1 .1 .1 .1 .1 .1 .1 .0) (turn .kept .1 .1 .1 .1 .1 .1 .1 .1 .1 .1 .0) (turn .kept .1 .1 .1 .1 .1 .1 .1 .1 .1 .1 .1 .0)
 
 same-length-16 : tie.Need-same-length-16 Inv-loop μ-loop
 same-length-16 c = c .before .loop .inv .samples

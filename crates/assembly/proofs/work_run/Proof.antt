@@ -36,7 +36,7 @@ returns c =
     let args = c .before .before .before .before .before .before .before .before .before .before .before .before .before .before .before .before .before .before .args in
     let last = c .before .before .before .before .before .before .before .before .before .before .before .before .survey .last in
     let is = worked (args .xs .now) (args .ys .now) (args .flags .now) (args .first) (args .count) (c .before .before .before .before .before .before .before .before .before .before .before .before .before .before .before .grid .result) (last .1 .1 .1 .1 .1 .1 .0) (last .1 .1 .1 .1 .1 .1 .1 .0) (c .before .before .before .before .before .before .before .before .before .before .before .before .survey .result) _ (c .before .before .before .before .before .before .before .before .before .before .before .before .survey .ensures .0) _ (c .before .before .before .before .before .before .before .before .before .before .before .before .before .before .before .grid .ensures) in
-    record { stands = λ ps wrote. worked-so _ ps _ is (c .before .before .before .before .after-survey .ensures .stands ps wrote); pairs = c .before .before .before .before .after-survey .ensures .pairs }
+    record { stands = λ ps wrote. worked-so _ ps _ is (c .before .before .before .before .after-survey .ensures .stands ps wrote); few = c .before .before .before .before .after-survey .ensures .few }
 
 pub work-run-spec : {M : Type 1} → statement M
 work-run-spec =

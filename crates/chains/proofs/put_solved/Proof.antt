@@ -44,7 +44,7 @@ same-length-4 c = c .before .before .before .before .before .before .before .bef
 returns : tie.Need-returns
 returns c =
     let args = c .before .before .before .before .before .before .before .before .before .before .before .before .before .before .before .before .before .before .before .before .args in
-    λ b a h. put-nothing a (args .breaks .now) (chain (args .starts .now) (args .ends .now) (args .cxs .now) (args .cys .now)) (args .spans .now) (args .pairs) _ (c .before .before .before .before .before .before .before .before .before .before .put-chain .ensures b a h) (c .enum-told .given .1)
+    λ b a h. put-nothing a (args .breaks .now) (chain (args .starts .now) (args .ends .now) (args .cxs .now) (args .cys .now)) (args .spans .now) (args .tally) _ (c .before .before .before .before .before .before .before .before .before .before .put-chain .ensures b a h) (c .enum-told .given .1)
 
 same-length-5 : tie.Need-same-length-5
 same-length-5 c = c .before .before .before .before .before .before .before .before .before .before .before .before .before .before .before .before .before .put-chain .kept .1 .1 .1 .1 .0
@@ -64,7 +64,7 @@ same-length-9 c = c .before .before .put-spans .kept .1 .1 .1 .1 .0
 returns-2 : tie.Need-returns-2
 returns-2 c =
     let args = c .before .before .before .before .before .before .before .before .before .before .before .before .before .before .before .before .before .before .before .before .before .before .before .before .before .before .before .args in
-    λ b a h. put-pieces a (args .breaks .now) (chain (args .starts .now) (args .ends .now) (args .cxs .now) (args .cys .now)) (args .spans .now) (args .pairs) _ _ _ _ (c .before .before .before .before .before .before .before .before .before .before .before .before .before .before .before .before .before .put-chain .ensures b a h) (c .before .before .before .before .before .before .before .n .given .1) (c .before .before .put-spans .ensures) (score-is h)
+    λ b a h. put-pieces a (args .breaks .now) (chain (args .starts .now) (args .ends .now) (args .cxs .now) (args .cys .now)) (args .spans .now) (args .tally) _ _ _ _ (c .before .before .before .before .before .before .before .before .before .before .before .before .before .before .before .before .before .put-chain .ensures b a h) (c .before .before .before .before .before .before .before .n .given .1) (c .before .before .put-spans .ensures) (score-is h)
 
 pub put-solved-spec : {M : Type 1} → statement M
 put-solved-spec =

@@ -33,7 +33,7 @@ returns c =
     let kept = c .before .before .before .before .before .before .before .before .before .before .before .before .check-judged .kept .1 .1 .1 .1 .1 .1 .1 .1 .1 .1 .1 in
     let chain : Given = record { starts = args .starts .now; ends = args .ends .now; xs = args .cxs .now; ys = args .cys .now; score = args .score } in
     record {
-      verdict = whole-is (args .xs .now) (args .ys .now) (args .flags .now) (args .k) (args .settings) chain (args .samples .now) (args .breaks .now) (args .answers .now) (args .links .now) (c .before .before .before .before .before .before .before .before .before .before .before .before .before .before .before .least .ensures) (c .before .before .before .before .before .before .before .before .before .before .before .before .check-judged .ensures);
+      ruling = whole-is (args .xs .now) (args .ys .now) (args .flags .now) (args .k) (args .settings) chain (args .samples .now) (args .breaks .now) (args .answers .now) (args .links .now) (c .before .before .before .before .before .before .before .before .before .before .before .before .before .before .before .least .ensures) (c .before .before .before .before .before .before .before .before .before .before .before .before .check-judged .ensures);
       left = cleared-work (args .samples .now) (args .breaks .now) (args .answers .now) (args .links .now) (c .before .before .before .before .before .clear-work .ensures) (kept .0) (kept .1 .0) refl refl;
     }
 

@@ -1,5 +1,4 @@
 -- `checks::check_fine` meets its contract. Assumes nothing.
-use mathlib.Core.Path.{refl}
 use Rattle.checks.proofs.check_fine.Statement.{statement}
 use Rattle.checks.proofs.check_fine.Tie as tie
 
@@ -9,6 +8,9 @@ numbered-run-requires c κs = tt
 enum-told : tie.Need-enum-told
 enum-told c = c .match .keys1
 
+refused-requires : tie.Need-refused-requires
+refused-requires c κs = tt
+
 enum-known-first : tie.Need-enum-known-first
 enum-known-first c = c .match .keys2
 
@@ -16,7 +18,7 @@ check-run-requires : tie.Need-check-run-requires
 check-run-requires c κs = tt
 
 returns : tie.Need-returns
-returns c = rw (← c .before .before .numbered-run .ensures, c .enum-told .given .1) refl
+returns c = rw (← c .before .before .before .numbered-run .ensures, c .before .enum-told .given .1) (c .refused .ensures)
 
 same-length : tie.Need-same-length
 same-length c = c .before .before .check-run .kept .1 .1 .1 .1 .1 .1 .1 .1 .1 .1 .1 .1 .0
@@ -33,6 +35,7 @@ check-fine-spec =
     (tie.spec
     numbered-run-requires
     enum-told
+    refused-requires
     enum-known-first
     check-run-requires
     returns

@@ -1,5 +1,4 @@
 -- `checks::check_judged` meets its contract. Assumes nothing.
-use mathlib.Core.Path.{refl}
 use Rattle.checks.proofs.check_judged.Statement.{statement}
 use Rattle.checks.proofs.check_judged.Tie as tie
 
@@ -9,6 +8,9 @@ judge-requires c κs = tt
 enum-known-n : tie.Need-enum-known-n
 enum-known-n c = c .match .keys1
 
+refused-requires : tie.Need-refused-requires
+refused-requires c κs = tt
+
 enum-told : tie.Need-enum-told
 enum-told c = c .match .keys2
 
@@ -16,7 +18,7 @@ check-fine-requires : tie.Need-check-fine-requires
 check-fine-requires c κs = tt
 
 returns : tie.Need-returns
-returns c = rw (← c .before .before .before .judge .ensures, c .before .n .given .1) refl
+returns c = rw (← c .before .before .before .before .judge .ensures, c .before .before .n .given .1) (c .refused .ensures)
 
 same-length : tie.Need-same-length
 same-length c = c .before .before .check-fine .kept .1 .1 .1 .1 .1 .1 .1 .1 .1 .1 .1 .0
@@ -33,6 +35,7 @@ check-judged-spec =
     (tie.spec
     judge-requires
     enum-known-n
+    refused-requires
     enum-told
     check-fine-requires
     returns

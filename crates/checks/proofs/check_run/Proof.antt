@@ -16,8 +16,14 @@ survey-requires c κs = tt
 enum-known-n : tie.Need-enum-known-n
 enum-known-n c = c .match .keys1
 
+refused-requires : tie.Need-refused-requires
+refused-requires c κs = tt
+
 enum-told : tie.Need-enum-told
 enum-told c = c .match .keys2
+
+refused-requires-2 : tie.Need-refused-requires-2
+refused-requires-2 c κs = tt
 
 enum-known-n-2 : tie.Need-enum-known-n-2
 enum-known-n-2 c = c .match .keys3
@@ -40,33 +46,34 @@ check-surveyed-requires : tie.Need-check-surveyed-requires
 check-surveyed-requires c κs =
     let args = c .before .before .before .before .before .before .before .before .before .before .before .before .before .before .before .before .args in
     let last = c .before .before .before .before .before .before .before .survey .last .1 .1 .1 .1 .1 .1 in
-    found-rows _ _ (args .xs .now) (args .ys .now) (args .flags .now) (args .first) (args .count) (c .before .before .before .before .before .before .before .before .before .before .grid .result) (last .0) (last .1 .0) (c .before .before .before .before .before .before .before .survey .ensures .0) (c .before .before .before .n2 .given .1) .some
+    let found = found-rows _ _ (args .xs .now) (args .ys .now) (args .flags .now) (args .first) (args .count) (c .before .before .before .before .before .before .before .before .before .before .grid .result) (last .0) (last .1 .0) (c .before .before .before .before .before .before .before .survey .ensures .0) (c .before .before .before .n2 .given .1) in
+    (found .some, found .few)
 
 same-length : tie.Need-same-length
-same-length c = c .before .before .before .before .before .survey .kept .1 .1 .1 .1 .1 .1 .0
+same-length c = c .before .before .before .before .before .before .survey .kept .1 .1 .1 .1 .1 .1 .0
 
 same-length-2 : tie.Need-same-length-2
-same-length-2 c = c .before .before .before .before .before .survey .kept .1 .1 .1 .1 .1 .1 .1 .0
+same-length-2 c = c .before .before .before .before .before .before .survey .kept .1 .1 .1 .1 .1 .1 .1 .0
 
 returns : tie.Need-returns
 returns c =
-    let args = c .before .before .before .before .before .before .before .before .before .before .before .before .before .before .args in
-    let last = c .before .before .before .before .before .survey .last .1 .1 .1 .1 .1 .1 in
-    let is = survey-is _ _ (args .xs .now) (args .ys .now) (args .flags .now) (args .first) (args .count) (last .0) (last .1 .0) (c .before .before .before .before .before .before .before .before .grid .ensures) (c .before .before .before .before .before .survey .ensures .0) (c .before .n .given .1) in
-    rw (← is) refl
+    let args = c .before .before .before .before .before .before .before .before .before .before .before .before .before .before .before .args in
+    let last = c .before .before .before .before .before .before .survey .last .1 .1 .1 .1 .1 .1 in
+    let is = survey-is _ _ (args .xs .now) (args .ys .now) (args .flags .now) (args .first) (args .count) (last .0) (last .1 .0) (c .before .before .before .before .before .before .before .before .before .grid .ensures) (c .before .before .before .before .before .before .survey .ensures .0) (c .before .before .n .given .1) in
+    rw (← is) (c .refused .ensures)
 
 same-length-3 : tie.Need-same-length-3
-same-length-3 c = c .before .before .before .before .survey .kept .1 .1 .1 .1 .1 .1 .0
+same-length-3 c = c .before .before .before .before .before .survey .kept .1 .1 .1 .1 .1 .1 .0
 
 same-length-4 : tie.Need-same-length-4
-same-length-4 c = c .before .before .before .before .survey .kept .1 .1 .1 .1 .1 .1 .1 .0
+same-length-4 c = c .before .before .before .before .before .survey .kept .1 .1 .1 .1 .1 .1 .1 .0
 
 returns-2 : tie.Need-returns-2
 returns-2 c =
-    let args = c .before .before .before .before .before .before .before .before .before .before .before .before .before .args in
-    let last = c .before .before .before .before .survey .last .1 .1 .1 .1 .1 .1 in
-    let is = survey-is _ _ (args .xs .now) (args .ys .now) (args .flags .now) (args .first) (args .count) (last .0) (last .1 .0) (c .before .before .before .before .before .before .before .grid .ensures) (c .before .before .before .before .survey .ensures .0) (c .enum-told .given .1) in
-    rw (← is) refl
+    let args = c .before .before .before .before .before .before .before .before .before .before .before .before .before .before .args in
+    let last = c .before .before .before .before .before .survey .last .1 .1 .1 .1 .1 .1 in
+    let is = survey-is _ _ (args .xs .now) (args .ys .now) (args .flags .now) (args .first) (args .count) (last .0) (last .1 .0) (c .before .before .before .before .before .before .before .before .grid .ensures) (c .before .before .before .before .before .survey .ensures .0) (c .before .enum-told .given .1) in
+    rw (← is) (c .refused2 .ensures)
 
 same-length-5 : tie.Need-same-length-5
 same-length-5 c = c .before .before .before .before .before .before .before .before .survey .kept .1 .1 .1 .1 .1 .1 .0
@@ -88,7 +95,9 @@ check-run-spec =
     grid-requires
     survey-requires
     enum-known-n
+    refused-requires
     enum-told
+    refused-requires-2
     enum-known-n-2
     slice-reshare-prefix-check-surveyed
     slice-aggregate-check-surveyed

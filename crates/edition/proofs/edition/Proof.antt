@@ -21,8 +21,8 @@ optimize-requires c κs = search needs
 enum-told : tie.Need-enum-told
 enum-told c = search needs
 
-enum-known-pairs : tie.Need-enum-known-pairs
-enum-known-pairs c = search needs
+enum-known-t : tie.Need-enum-known-t
+enum-known-t c = search needs
 
 enum-known-k : tie.Need-enum-known-k
 enum-known-k c = search needs
@@ -51,7 +51,7 @@ returns-3 c =
     let solving = c .before .before .before .before .before .before in
     let tested = solving .before .before .before in
     let args = tested .before .before .before .args in
-    edited _ _ (args .samples .now) (args .breaks .now) (args .penalty) (tested .before .before .before .pre) (tested .before .least .ensures) (tested .if1 .left) (solving .optimize .ensures) (c .before .pairs .given .1)
+    edited _ _ (args .samples .now) (args .breaks .now) (args .penalty) (tested .before .before .before .pre) (tested .before .least .ensures) (tested .if1 .left) (solving .optimize .ensures) (c .before .t .given .1)
 
 same-length-5 : tie.Need-same-length-5
 same-length-5 c = search needs
@@ -74,7 +74,7 @@ edition-spec =
     returns
     optimize-requires
     enum-told
-    enum-known-pairs
+    enum-known-t
     enum-known-k
     same-length
     same-length-2

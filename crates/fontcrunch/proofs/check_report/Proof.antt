@@ -4,11 +4,11 @@ use borrow.Author.Needs.{needs}
 use Rattle.fontcrunch.proofs.check_report.Statement.{statement}
 use Rattle.fontcrunch.proofs.check_report.Tie as tie
 
-enum-known-v : tie.Need-enum-known-v
-enum-known-v c = search needs
+enum-known-verdict : tie.Need-enum-known-verdict
+enum-known-verdict c = search needs
 
-cast-t4 : tie.Need-cast-t4
-cast-t4 c = search needs
+cast-t5 : tie.Need-cast-t5
+cast-t5 c = search needs
 
 enum-told : tie.Need-enum-told
 enum-told c = search needs
@@ -17,7 +17,7 @@ enum-told-2 : tie.Need-enum-told-2
 enum-told-2 c = search needs
 
 returns : tie.Need-returns
-returns c = rw (c .before .v .given .1) refl
+returns c = rw (c .before .verdict .given .1) refl
 
 returns-2 : tie.Need-returns-2
 returns-2 c = rw (c .enum-told .given .1) refl
@@ -27,4 +27,4 @@ returns-3 c = rw (c .enum-told2 .given .1) refl
 
 pub check-report-spec : {M : Type 1} → statement M
 check-report-spec =
-    tie.close (tie.spec enum-known-v cast-t4 enum-told enum-told-2 returns returns-2 returns-3)
+    tie.close (tie.spec enum-known-verdict cast-t5 enum-told enum-told-2 returns returns-2 returns-3)

@@ -4,10 +4,12 @@ use native.Mathlib.Omega.{arith}
 use mathlib.Core.Path.{_≡_, refl, sym, _∙_}
 use lib.ListN.{length}
 use Rattle.optimize.specs.Optimize.{measureBy, refused, states}
+use Rattle.optimize.specs.Optimize as O
+use Rattle.optimize.specs.Fallen.{fallenBetween}
 use Rattle.optimize.specs.Stored.{lost}
 use Rattle.optimize.specs.Laws.{split-pairs, few-pairs}
-use Rattle.optimize.proofs.Phases.{to-search}
-use Rattle.optimize.proofs.Solving.{after-search, splits-on, splits-off}
+use Rattle.optimize.proofs.Phases.{to-search, between-most, all-most}
+use Rattle.optimize.proofs.Solving.{after-search, splits-on, splits-fell, splits-off}
 use Rattle.optimize.proofs.Trying.{went, stopped}
 use borrow.Author.Needs.{needs}
 use Rattle.optimize.proofs.after_splits.Statement.{statement}
@@ -35,6 +37,20 @@ add-standing-last c =
     let start = c .before .before .before .before .before .before .before .before .before .before .before .before .before .before .before in
     omega (arith, c .search-pairs .ensures, c .before .before .before .before .before .before .before .before .before .before .before .before .before .split-pairs .ensures, split-pairs (start .args .n), few-pairs (start .args .n) (start .pre .1 .room .few), start .pre .1 .room .few)
 
+add-standing-last-2 : tie.Need-add-standing-last-2
+add-standing-last-2 c =
+    let start = c .before .before .before .before .before .before .before .before .before .before .before .before .before .before .before .before in
+    let args = start .args in
+    let bs = args .breaks .now in
+    let w = went (c .before .before .before .before .before .before .before .search .ensures (start .pre .1 .st) (to-search (args .n) (start .pre .1 .rep))) (c .before .before .before .if2 .taken) in
+    omega (
+      arith,
+      w .fell,
+      all-most (measureBy (args .samples .now) bs) (fallenBetween (args .samples .now) bs) bs (args .penalty) (between-most (args .samples .now) bs) (O.search (args .n)) (states (start .pre .1 .st)),
+      few-pairs (args .n) (start .pre .1 .room .few),
+      start .pre .2,
+    )
+
 standing-last-requires : tie.Need-standing-last-requires
 standing-last-requires c κs = search needs
 
@@ -46,17 +62,21 @@ same-length-2 c = search needs
 
 returns : tie.Need-returns
 returns c = λ st rep.
-    let searching = c .before .before .before .before .before .before .before in
-    let tested = searching .before .before .before in
-    let start = tested .before .before .before .before .before .before in
+    let searching = c .before .before .before .before .before .before .before .before in
+    let tested = c .before .before .before .before .before .before .before .before .before .before .before in
+    let start = c .before .before .before .before .before .before .before .before .before .before .before .before .before .before .before .before .before in
     let args = start .args in
     let bs = args .breaks .now in
     let measure = measureBy (args .samples .now) bs in
+    let fallen = fallenBetween (args .samples .now) bs in
     let last : length bs - 1 ≡ args .n = omega (arith, start .pre .1 .room .all-breaks) in
     let standing = rep .stands (args .n) (omega arith) in
-    let w = went (searching .search .ensures st (to-search (args .n) rep)) (c .before .before .before .if2 .taken) in
-    rw (splits-on measure (args .penalty) bs (args .n) last st (args .answers .now) (args .links .now) standing (states (w .st)) (sym (tested .before .above .ensures) ∙ tested .if1 .taken) (w .is))
-    (after-search measure (args .penalty) bs (args .n) last (w .st) (c .standing-last .ensures ∙ rw (c .before .search-pairs .ensures, tested .before .before .before .before .split-pairs .ensures) refl) (w .rep .stands (args .n) (omega arith)))
+    let w = went (searching .search .ensures st (to-search (args .n) rep)) (c .before .before .before .before .if2 .taken) in
+    rw (
+      splits-on measure fallen (args .penalty) bs (args .n) last st (args .answers .now) (args .links .now) standing (states (w .st)) (sym (c .before .before .before .before .before .before .before .before .before .before .before .before .above .ensures) ∙ tested .if1 .taken) (w .is),
+      splits-fell measure fallen (args .penalty) bs (args .n) last st (args .answers .now) (args .links .now) standing (sym (c .before .before .before .before .before .before .before .before .before .before .before .before .above .ensures) ∙ tested .if1 .taken),
+    )
+    (after-search measure fallen (args .penalty) bs (args .n) last (w .st) _ (c .standing-last .ensures ∙ rw (c .before .before .search-pairs .ensures, c .before .before .before .before .before .before .before .before .before .before .before .before .before .before .before .split-pairs .ensures, w .fell) refl) (w .rep .stands (args .n) (omega arith)))
 
 same-length-3 : tie.Need-same-length-3
 same-length-3 c = search needs
@@ -67,14 +87,15 @@ same-length-4 c = search needs
 returns-2 : tie.Need-returns-2
 returns-2 c = λ st rep.
     let searching = c .before .before .before .before in
-    let tested = searching .before .before .before in
-    let start = tested .before .before .before .before .before .before in
+    let tested = c .before .before .before .before .before .before .before in
+    let start = c .before .before .before .before .before .before .before .before .before .before .before .before .before in
     let args = start .args in
     let bs = args .breaks .now in
     let measure = measureBy (args .samples .now) bs in
+    let fallen = fallenBetween (args .samples .now) bs in
     let last : length bs - 1 ≡ args .n = omega (arith, start .pre .1 .room .all-breaks) in
     let standing = rep .stands (args .n) (omega arith) in
-    rw (splits-on measure (args .penalty) bs (args .n) last st (args .answers .now) (args .links .now) standing refused (sym (tested .before .above .ensures) ∙ tested .if1 .taken) (stopped (searching .search .ensures st (to-search (args .n) rep)) (c .if2 .left)))
+    rw (splits-on measure fallen (args .penalty) bs (args .n) last st (args .answers .now) (args .links .now) standing refused (sym (c .before .before .before .before .before .before .before .before .above .ensures) ∙ tested .if1 .taken) (stopped (searching .search .ensures st (to-search (args .n) rep)) (c .if2 .left)))
     (lost refl)
 
 standing-last-requires-2 : tie.Need-standing-last-requires-2
@@ -89,14 +110,15 @@ same-length-6 c = search needs
 returns-3 : tie.Need-returns-3
 returns-3 c = λ st rep.
     let tested = c .before .before in
-    let start = tested .before .before .before .before .before .before in
+    let start = c .before .before .before .before .before .before .before .before in
     let args = start .args in
     let bs = args .breaks .now in
     let measure = measureBy (args .samples .now) bs in
+    let fallen = fallenBetween (args .samples .now) bs in
     let last : length bs - 1 ≡ args .n = omega (arith, start .pre .1 .room .all-breaks) in
     let standing = rep .stands (args .n) (omega arith) in
-    splits-off measure (args .penalty) bs (args .n) last st (args .answers .now) (args .links .now) standing (sym (tested .before .above .ensures) ∙ tested .if1 .left)
-    (c .standing-last2 .ensures ∙ rw (tested .before .before .before .before .split-pairs .ensures) refl)
+    splits-off measure fallen (args .penalty) bs (args .n) last st (args .answers .now) (args .links .now) standing (args .fallen) (sym (c .before .before .before .above .ensures) ∙ tested .if1 .left)
+    (c .standing-last2 .ensures ∙ rw (c .before .before .before .before .before .before .split-pairs .ensures) refl)
 
 pub after-splits-spec : {M : Type 1} → statement M
 after-splits-spec =
@@ -108,6 +130,7 @@ after-splits-spec =
     search-requires
     search-pairs-requires
     add-standing-last
+    add-standing-last-2
     standing-last-requires
     same-length
     same-length-2

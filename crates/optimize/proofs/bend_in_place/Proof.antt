@@ -1,5 +1,6 @@
 -- `optimize::bend_in_place` meets its contract. Assumes nothing.
-use mathlib.Core.Path.{sym, _∙_}
+use mathlib.Core.Path.{refl, sym, _∙_}
+use Rattle.measure.specs.declared.Measured.the-variants as Measured
 use Rattle.optimize.proofs.One.{bend-none, bend-by}
 use borrow.Author.Needs.{needs}
 use Rattle.optimize.proofs.bend_in_place.Statement.{statement}
@@ -23,27 +24,29 @@ round-requires c κs = search needs
 measure-quad-requires : tie.Need-measure-quad-requires
 measure-quad-requires c κs = search needs
 
+enum-known-fallen : tie.Need-enum-known-fallen
+enum-known-fallen c = search needs
+
 enum-told-2 : tie.Need-enum-told-2
 enum-told-2 c = search needs
-
-enum-told-3 : tie.Need-enum-told-3
-enum-told-3 c = search needs
 
 returns-2 : tie.Need-returns-2
 returns-2 c =
     let measuring = c .before .before in
-    let found = measuring .before .before .before in
-    let crossing = found .before .before in
-    let start = crossing .before .before in
-    bend-by (start .args .samples .now) (start .args .a) _ _ _ _ (sym (found .p .given .1) ∙ crossing .intersect .ensures) (measuring .before .round .ensures) (measuring .measure-quad .ensures) (c .enum-told3 .given .1)
+    let found = c .before .before .before .before .before in
+    let crossing = c .before .before .before .before .before .before .before in
+    let start = c .before .before .before .before .before .before .before .before .before in
+    bend-by (start .args .samples .now) (start .args .a) _ _ (sym (found .p .given .1) ∙ crossing .intersect .ensures) (c .before .before .before .round .ensures) Measured.Last
+    (rw (c .enum-told2 .given .1) at (measuring .measure-quad .ensures)) refl
 
 returns-3 : tie.Need-returns-3
 returns-3 c =
-    let measuring = c .before .before in
-    let found = measuring .before .before .before in
-    let crossing = found .before .before in
-    let start = crossing .before .before in
-    bend-by (start .args .samples .now) (start .args .a) _ _ _ _ (sym (found .p .given .1) ∙ crossing .intersect .ensures) (measuring .before .round .ensures) (measuring .measure-quad .ensures) (c .enum-told2 .given .1)
+    let measuring = c .before .before .before in
+    let found = c .before .before .before .before .before .before in
+    let crossing = c .before .before .before .before .before .before .before .before in
+    let start = c .before .before .before .before .before .before .before .before .before .before in
+    let told = rw (c .before .fallen .given .1) at (measuring .measure-quad .ensures) in
+    bend-by (start .args .samples .now) (start .args .a) _ _ (sym (found .p .given .1) ∙ crossing .intersect .ensures) (c .before .before .before .before .round .ensures) (Measured.At _) (told .0) (told .1)
 
 pub bend-in-place-spec : {M : Type 1} → statement M
 bend-in-place-spec =
@@ -55,7 +58,7 @@ bend-in-place-spec =
     returns
     round-requires
     measure-quad-requires
+    enum-known-fallen
     enum-told-2
-    enum-told-3
     returns-2
     returns-3)

@@ -14,7 +14,7 @@ returns : tie.Need-returns
 returns c = λ seen.
     let staying = c .before in
     let m = c .sees-all .ensures seen in
-    record { error = m .error; is = m .is; same = staying .before .stays .ensures (staying .if1 .taken) (m .error) (m .sign) }
+    record { error = m .error; is = m .is; same = c .before .before .stays .ensures (staying .if1 .taken) (m .error) (m .sign); none = m .none }
 
 returns-2 : tie.Need-returns-2
 returns-2 c = λ e. absurd (false≢true e)

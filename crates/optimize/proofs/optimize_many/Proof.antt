@@ -5,10 +5,11 @@ use mathlib.Core.Path.{_≡_, refl}
 use lib.ListN.{replicate}
 use Rattle.optimize.specs.Answers.{none}
 use Rattle.optimize.specs.Optimize.{measureBy, refused, states}
+use Rattle.optimize.specs.Fallen.{fallenBetween, fellAfterFirst, fellOf}
 use Rattle.optimize.specs.Stored.{early, lost}
 use Rattle.optimize.proofs.Fresh.{no-answer}
-use Rattle.optimize.proofs.Phases.{into-last, ready}
-use Rattle.optimize.proofs.Solving.{optimized-by}
+use Rattle.optimize.proofs.Phases.{into-last, ready, between-most, pair-most}
+use Rattle.optimize.proofs.Solving.{optimized-by, fell-by}
 use Rattle.optimize.proofs.Trying.{went, stopped, same-room}
 use borrow.Author.Needs.{needs}
 use Rattle.optimize.proofs.optimize_many.Statement.{statement}
@@ -29,7 +30,7 @@ mul-try-line-quad c = search needs
 try-line-quad-requires : tie.Need-try-line-quad-requires
 try-line-quad-requires c κs =
     let cleared = c .before .before .before .before in
-    let start = cleared .before .before .before in
+    let start = c .before .before .before .before .before .before .before in
     ready
     (record {
       st = replicate (start .args .n + 1) none;
@@ -41,16 +42,19 @@ try-line-quad-requires c κs =
 after-first-requires : tie.Need-after-first-requires
 after-first-requires c κs =
     let tested = c .before .before in
-    let trying = tested .before .before .before .before in
-    let cleared = trying .before .before .before .before .before in
-    let start = cleared .before .before .before in
+    let trying = c .before .before .before .before .before .before in
+    let cleared = c .before .before .before .before .before .before .before .before .before .before .before in
+    let start = c .before .before .before .before .before .before .before .before .before .before .before .before .before .before in
     let args = start .args in
     let room = same-room refl (cleared .clear .kept .0) (start .pre .1) in
     let rep = no-answer (args .n) (args .links .now) _ (cleared .clear .ensures) (args .breaks .now) (args .answers .now) in
     let into = into-last 0 0 (args .n) (start .pre .0) (omega arith) in
     let became = trying .try-line-quad .ensures (early 1) (args .n) (replicate (args .n + 1) none) room into rep in
-    let w = went became (tested .if1 .taken) in
-    (start .pre .0, record { st = w .st; room = same-room (trying .try-line-quad .kept .1 .1 .0) (trying .try-line-quad .kept .1 .1 .1 .0) room; rep = w .rep })
+    let w = went became (tested .if1 .taken) in (
+      start .pre .0,
+      record { st = w .st; room = same-room (trying .try-line-quad .kept .1 .1 .0) (trying .try-line-quad .kept .1 .1 .1 .0) room; rep = w .rep },
+      omega (arith, w .fell, pair-most (measureBy (args .samples .now) (args .breaks .now)) (fallenBetween (args .samples .now) (args .breaks .now)) (args .breaks .now) (args .penalty) (between-most (args .samples .now) (args .breaks .now)) 0 (args .n) (replicate (args .n + 1) none)),
+    )
 
 same-length : tie.Need-same-length
 same-length c = search needs
@@ -61,17 +65,22 @@ same-length-2 c = search needs
 returns : tie.Need-returns
 returns c =
     let going = c .before .before .before in
-    let tested = going .before .before .before in
-    let trying = tested .before .before .before .before in
-    let cleared = trying .before .before .before .before .before in
-    let start = cleared .before .before .before in
+    let tested = c .before .before .before .before .before .before in
+    let trying = c .before .before .before .before .before .before .before .before .before .before in
+    let cleared = c .before .before .before .before .before .before .before .before .before .before .before .before .before .before .before in
+    let start = c .before .before .before .before .before .before .before .before .before .before .before .before .before .before .before .before .before .before in
     let args = start .args in
     let room = same-room refl (cleared .clear .kept .0) (start .pre .1) in
     let rep = no-answer (args .n) (args .links .now) _ (cleared .clear .ensures) (args .breaks .now) (args .answers .now) in
     let into = into-last 0 0 (args .n) (start .pre .0) (omega arith) in
     let became = trying .try-line-quad .ensures (early 1) (args .n) (replicate (args .n + 1) none) room into rep in
     let w = went became (tested .if1 .taken) in
-    rw (optimized-by (measureBy (args .samples .now) (args .breaks .now)) (args .penalty) (args .breaks .now) (args .n) (states (w .st)) (start .pre .1 .all-breaks) (w .is))
+    let measure = measureBy (args .samples .now) (args .breaks .now) in
+    let fallen = fallenBetween (args .samples .now) (args .breaks .now) in
+    let counted : fellOf measure fallen (args .breaks .now) (args .penalty) ≡
+    trying .try-line-quad .result .fallen + fellAfterFirst measure fallen (args .breaks .now) (args .penalty) (states (w .st)) =
+    omega (arith, fell-by measure (args .penalty) (args .breaks .now) (args .n) (states (w .st)) (start .pre .1 .all-breaks) (w .is) fallen, w .fell) in
+    rw (optimized-by (measureBy (args .samples .now) (args .breaks .now)) (args .penalty) (args .breaks .now) (args .n) (states (w .st)) (start .pre .1 .all-breaks) (w .is), counted)
     (going .after-first .ensures (w .st) (w .rep))
 
 same-length-3 : tie.Need-same-length-3
@@ -83,8 +92,8 @@ same-length-4 c = search needs
 returns-2 : tie.Need-returns-2
 returns-2 c =
     let trying = c .before .before .before .before in
-    let cleared = trying .before .before .before .before .before in
-    let start = cleared .before .before .before in
+    let cleared = c .before .before .before .before .before .before .before .before .before in
+    let start = c .before .before .before .before .before .before .before .before .before .before .before .before in
     let args = start .args in
     let room = same-room refl (cleared .clear .kept .0) (start .pre .1) in
     let rep = no-answer (args .n) (args .links .now) _ (cleared .clear .ensures) (args .breaks .now) (args .answers .now) in

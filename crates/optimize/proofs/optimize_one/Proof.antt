@@ -4,8 +4,10 @@ use mathlib.Core.Path.{_≡_, refl, sym, ap, _∙_}
 use borrow.Author.Needs.{needs}
 use borrow.Author.Tests.{not-true, not-false}
 use Rattle.breaks.specs.Breaks.{breakAt}
-use Rattle.optimize.specs.Stored.{lost, stays, found}
-use Rattle.optimize.proofs.One.{off-whole, one-refused, one-solved, one-bent-refused, measured-line, bent-ok, held}
+use Rattle.optimize.specs.Stored.{lost, stays, found, inPlace}
+use Rattle.optimize.specs.declared.Tried.{Tried}
+use Rattle.measure.proofs.Asked.{fallen-most}
+use Rattle.optimize.proofs.One.{off-whole, off-whole-fell, one-refused, one-solved, one-solved-fell, one-bent-refused, bend-most, measured-line, bent-ok, held}
 use Rattle.optimize.proofs.Trying.{is-whole-of, line-of}
 use Rattle.optimize.proofs.optimize_one.Statement.{statement}
 use Rattle.optimize.proofs.optimize_one.Tie as tie
@@ -19,10 +21,13 @@ is-whole-requires c κs = search needs
 returns : tie.Need-returns
 returns c =
     let reading = c .before .before .before in
-    let start = reading .before .before in
+    let start = c .before .before .before .before .before in
     let args = start .args in
     let off = is-whole-of (c .before .is-whole .ensures) (reading .read .ensures) (not-true _ (c .if1 .taken)) in
-    rw (off-whole (args .samples .now) (args .breaks .now) (args .penalty) (start .pre .all-breaks) off) (stays refl)
+    rw (
+      off-whole (args .samples .now) (args .breaks .now) (args .penalty) (start .pre .all-breaks) off,
+      off-whole-fell (args .samples .now) (args .breaks .now) (args .penalty) (start .pre .all-breaks) off,
+    ) (stays refl)
 
 straight-in-place-requires : tie.Need-straight-in-place-requires
 straight-in-place-requires c κs = search needs
@@ -36,14 +41,14 @@ enum-told c = search needs
 returns-2 : tie.Need-returns-2
 returns-2 c =
     let measuring = c .before .before in
-    let tested = measuring .before in
-    let reading = tested .before .before .before in
-    let start = reading .before .before in
+    let tested = c .before .before .before in
+    let reading = c .before .before .before .before .before .before in
+    let start = c .before .before .before .before .before .before .before .before in
     let args = start .args in
     let samples = args .samples .now in
     let bs = args .breaks .now in
-    let whole = is-whole-of (tested .before .is-whole .ensures) (reading .read .ensures) (not-false _ (tested .if1 .left)) in
-    let made = measured-line samples (breakAt bs 0) (measuring .straight-in-place .ensures .0) (c .enum-told .given .1) (reading .read .ensures) in
+    let whole = is-whole-of (c .before .before .before .before .is-whole .ensures) (reading .read .ensures) (not-false _ (tested .if1 .left)) in
+    let made = measured-line samples (breakAt bs 0) _ _ (measuring .straight-in-place .ensures .0) (c .enum-told .given .1) (reading .read .ensures) in
     rw (one-refused samples bs (args .penalty) (start .pre .all-breaks) whole made) (lost refl)
 
 line-requires : tie.Need-line-requires
@@ -69,26 +74,49 @@ same-length c = search needs
 same-length-2 : tie.Need-same-length-2
 same-length-2 c = search needs
 
+add-t23 : tie.Need-add-t23
+add-t23 c =
+    let bending = c .before .before in
+    let reading = c .before .before .before .before .before .before .before .before .before .before .before .before .before .before .before .before .before .before .before in
+    let start = c .before .before .before .before .before .before .before .before .before .before .before .before .before .before .before .before .before .before .before .before .before in
+    let samples = start .args .samples .now in
+    let bs = start .args .breaks .now in
+    let read = reading .read .ensures in
+    let made = measured-line samples (breakAt bs 0) _ _ (c .before .before .before .before .before .before .before .before .before .before .before .before .before .before .before .straight-in-place .ensures .0) (c .before .before .before .before .before .before .before .before .before .before .before .before .before .m .given .1) read in
+    omega (
+      arith,
+      made .1,
+      fallen-most samples (breakAt bs 0 .s) (breakAt bs 0 .s) (inPlace (breakAt bs 0 .xy)),
+      rw (← bending .bend-in-place .ensures) at (bend-most samples (reading .read .result)),
+    )
+
 returns-3 : tie.Need-returns-3
 returns-3 c =
-    let bending = c .before in
-    let storing = bending .before .before .before .before in
-    let totalling = storing .before .before .before in
-    let starting = totalling .before in
-    let drawn = starting .before in
-    let found-m = drawn .before .before in
-    let measuring = found-m .before .before in
-    let tested = measuring .before in
-    let reading = tested .before .before .before in
-    let start = reading .before .before in
+    let bending = c .before .before in
+    let storing = c .before .before .before .before .before .before in
+    let totalling = c .before .before .before .before .before .before .before .before .before in
+    let starting = c .before .before .before .before .before .before .before .before .before .before in
+    let drawn = c .before .before .before .before .before .before .before .before .before .before .before in
+    let found-m = c .before .before .before .before .before .before .before .before .before .before .before .before .before in
+    let measuring = c .before .before .before .before .before .before .before .before .before .before .before .before .before .before .before in
+    let tested = c .before .before .before .before .before .before .before .before .before .before .before .before .before .before .before .before in
+    let reading = c .before .before .before .before .before .before .before .before .before .before .before .before .before .before .before .before .before .before .before in
+    let start = c .before .before .before .before .before .before .before .before .before .before .before .before .before .before .before .before .before .before .before .before .before in
     let args = start .args in
     let samples = args .samples .now in
     let bs = args .breaks .now in
     let read = reading .read .ensures in
-    let whole = is-whole-of (tested .before .is-whole .ensures) read (not-false _ (tested .if1 .left)) in
-    let made = measured-line samples (breakAt bs 0) (measuring .straight-in-place .ensures .0) (found-m .m .given .1) read in
-    let spoilt = measuring .straight-in-place .ensures .1 (sym (tested .before .is-whole .ensures) ∙ not-false _ (tested .if1 .left)) _ (found-m .m .given .1) in
-    rw (one-solved samples bs (args .penalty) (start .pre .all-breaks) whole _ made spoilt (bent-ok samples (bending .bend-in-place .ensures) read (c .if2 .taken)))
+    let whole = is-whole-of (c .before .before .before .before .before .before .before .before .before .before .before .before .before .before .before .before .before .is-whole .ensures) read (not-false _ (tested .if1 .left)) in
+    let made = measured-line samples (breakAt bs 0) _ _ (measuring .straight-in-place .ensures .0) (found-m .m .given .1) read in
+    let spoilt = measuring .straight-in-place .ensures .1 (sym (c .before .before .before .before .before .before .before .before .before .before .before .before .before .before .before .before .before .is-whole .ensures) ∙ not-false _ (tested .if1 .left)) _ _ (found-m .m .given .1) in
+    let bent = bent-ok samples (bending .bend-in-place .ensures) read in
+    let ok = ap (λ (t : Tried). t .ok) bent ∙ c .before .if2 .taken in
+    rw (
+      one-solved samples bs (args .penalty) (start .pre .all-breaks) whole _ (made .0) spoilt ok,
+      one-solved-fell samples bs (args .penalty) (start .pre .all-breaks) whole _ (made .0) spoilt ok,
+      ← made .1,
+      bent,
+    )
     (found refl
     (held bs (args .penalty) (args .answers .now) (args .links .now) (omega (arith, start .pre .in-answers)) (omega (arith, start .pre .in-links)) _ _ _ _
     (starting .start .ensures) (line-of (drawn .line .ensures) read read) (totalling .total .ensures) (storing .store .ensures .0) (storing .store .ensures .1)))
@@ -102,19 +130,20 @@ same-length-4 c = search needs
 returns-4 : tie.Need-returns-4
 returns-4 c =
     let bending = c .before in
-    let found-m = bending .before .before .before .before .before .before .before .before .before .before .before in
-    let measuring = found-m .before .before in
-    let tested = measuring .before in
-    let reading = tested .before .before .before in
-    let start = reading .before .before in
+    let found-m = c .before .before .before .before .before .before .before .before .before .before .before .before in
+    let measuring = c .before .before .before .before .before .before .before .before .before .before .before .before .before .before in
+    let tested = c .before .before .before .before .before .before .before .before .before .before .before .before .before .before .before in
+    let reading = c .before .before .before .before .before .before .before .before .before .before .before .before .before .before .before .before .before .before in
+    let start = c .before .before .before .before .before .before .before .before .before .before .before .before .before .before .before .before .before .before .before .before in
     let args = start .args in
     let samples = args .samples .now in
     let bs = args .breaks .now in
     let read = reading .read .ensures in
-    let whole = is-whole-of (tested .before .is-whole .ensures) read (not-false _ (tested .if1 .left)) in
-    let made = measured-line samples (breakAt bs 0) (measuring .straight-in-place .ensures .0) (found-m .m .given .1) read in
-    let spoilt = measuring .straight-in-place .ensures .1 (sym (tested .before .is-whole .ensures) ∙ not-false _ (tested .if1 .left)) _ (found-m .m .given .1) in
-    rw (one-bent-refused samples bs (args .penalty) (start .pre .all-breaks) whole _ made spoilt (bent-ok samples (bending .bend-in-place .ensures) read (c .if2 .left))) (lost refl)
+    let whole = is-whole-of (c .before .before .before .before .before .before .before .before .before .before .before .before .before .before .before .before .is-whole .ensures) read (not-false _ (tested .if1 .left)) in
+    let made = measured-line samples (breakAt bs 0) _ _ (measuring .straight-in-place .ensures .0) (found-m .m .given .1) read in
+    let spoilt = measuring .straight-in-place .ensures .1 (sym (c .before .before .before .before .before .before .before .before .before .before .before .before .before .before .before .before .is-whole .ensures) ∙ not-false _ (tested .if1 .left)) _ _ (found-m .m .given .1) in
+    rw (one-bent-refused samples bs (args .penalty) (start .pre .all-breaks) whole _ (made .0) spoilt
+    (ap (λ (t : Tried). t .ok) (bent-ok samples (bending .bend-in-place .ensures) read) ∙ c .if2 .left)) (lost refl)
 
 pub optimize-one-spec : {M : Type 1} → statement M
 optimize-one-spec =
@@ -132,6 +161,7 @@ optimize-one-spec =
     total-requires
     store-requires
     bend-in-place-requires
+    add-t23
     same-length
     same-length-2
     returns-3

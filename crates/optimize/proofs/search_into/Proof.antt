@@ -5,16 +5,19 @@ use mathlib.Core.List.{[], _∷_}
 use mathlib.Core.Path.{_≡_, refl, _∙_}
 use borrow.Author.Tests.{not-true, not-false}
 use Rattle.optimize.specs.Optimize.{measureBy, falling}
+use Rattle.optimize.specs.Fallen.{fallenBetween}
 use Rattle.optimize.specs.Stored.{late}
-use Rattle.optimize.proofs.Phases.{into-search, fall-more, fall-none, Reaching, sets-out, holding, moves, breaks-off, arrives, alone, ready}
+use Rattle.optimize.specs.Laws.{falling-count}
+use Rattle.optimize.proofs.Phases.{between-most, into-search, fall-more, fall-none, Reaching, sets-out, holding, moves, counts, breaks-off, arrives, alone, ready}
 use Rattle.optimize.proofs.search_into.Statement.{statement}
 use Rattle.optimize.proofs.search_into.Tie as tie
 
 abbrev Inv-loop : tie.InvT-loop
-Inv-loop samples breaks answers₀ links₀ i n penalty j₀ answers links j = (j ≤ i) × Reaching (measureBy samples breaks) penalty n breaks (late i) answers₀ links₀ (falling i i) (late i) answers links (falling j i)
+Inv-loop samples breaks answers₀ links₀ i n penalty fallen₀ j₀ answers links fallen j =
+    (j ≤ i) × Reaching (measureBy samples breaks) (fallenBetween samples breaks) penalty n breaks (late i) answers₀ links₀ (falling i i) (late i) answers links fallen (falling j i)
 
 abbrev μ-loop : tie.MeasureT-loop
-μ-loop samples breaks answers₀ links₀ i n penalty j₀ answers links j = j
+μ-loop samples breaks answers₀ links₀ i n penalty fallen₀ j₀ answers links fallen j = j
 
 loop-holds : tie.Need-loop-holds Inv-loop μ-loop
 loop-holds c = (omega arith, sets-out)
@@ -31,8 +34,8 @@ add-try-line-quad c = omega (arith, c .before .before .before .before .before .p
 try-line-quad-requires : tie.Need-try-line-quad-requires Inv-loop μ-loop
 try-line-quad-requires c κs =
     let turning = c .before .before in
-    let head = turning .before in
-    let start = head .before .before in
+    let head = c .before .before .before in
+    let start = c .before .before .before .before .before in
     ready (holding (head .loop .inv .1) (start .pre .2)) (into-search _ _ _ (omega (arith, head .loop .inv .0, turning .loop-test .taken)) (start .pre .1))
 
 same-length : tie.Need-same-length Inv-loop μ-loop
@@ -44,32 +47,52 @@ same-length-2 c = c .before .before .before .before .before .try-line-quad .kept
 returns : tie.Need-returns Inv-loop μ-loop
 returns c =
     let call = c .before .before .before .before .before in
-    let turning = call .before .before .before in
-    let head = turning .before in
-    let start = head .before .before in
+    let turning = c .before .before .before .before .before .before .before .before in
+    let head = c .before .before .before .before .before .before .before .before .before in
+    let start = c .before .before .before .before .before .before .before .before .before .before .before in
     let args = start .args in
     let j = head .loop .j - 1 in
     let bs = args .breaks .now in
     breaks-off (head .loop .inv .1) ((j, args .i) ∷ []) (falling j (args .i)) (late (args .i)) (fall-more _ _ (turning .loop-test .taken))
-    (alone (measureBy (args .samples .now) bs) (args .penalty) bs j (args .i) (holding (head .loop .inv .1) (start .pre .2) .room) (into-search j (args .i) (args .n) (omega (arith, head .loop .inv .0, turning .loop-test .taken)) (start .pre .1)) (call .try-line-quad .ensures))
+    (alone (measureBy (args .samples .now) bs) (fallenBetween (args .samples .now) bs) (args .penalty) bs j (args .i) (holding (head .loop .inv .1) (start .pre .2) .room) (into-search j (args .i) (args .n) (omega (arith, head .loop .inv .0, turning .loop-test .taken)) (start .pre .1)) (call .try-line-quad .ensures))
     (not-true _ (c .if1 .taken))
+
+add-fallen : tie.Need-add-fallen Inv-loop μ-loop
+add-fallen c =
+    let call = c .before .before .before .before .before .before in
+    let turning = c .before .before .before .before .before .before .before .before .before in
+    let head = c .before .before .before .before .before .before .before .before .before .before in
+    let start = c .before .before .before .before .before .before .before .before .before .before .before .before in
+    let args = start .args in
+    let j = head .loop .j - 1 in
+    let bs = args .breaks .now in
+    omega (
+      arith,
+      counts (head .loop .inv .1) ((j, args .i) ∷ []) (falling j (args .i)) (between-most (args .samples .now) bs) (fall-more _ _ (turning .loop-test .taken))
+          (alone (measureBy (args .samples .now) bs) (fallenBetween (args .samples .now) bs) (args .penalty) bs j (args .i) (holding (head .loop .inv .1) (start .pre .2) .room)
+          (into-search j (args .i) (args .n) (omega (arith, head .loop .inv .0, turning .loop-test .taken)) (start .pre .1)) (call .try-line-quad .ensures))
+          (not-false _ (c .before .if1 .left)) (start .pre .2),
+      falling-count (args .i) (args .i),
+      start .pre .1,
+      start .pre .2 .room .few,
+    )
 
 loop-less : tie.Need-loop-less Inv-loop μ-loop
 loop-less c = omega arith
 
 loop-again : tie.Need-loop-again Inv-loop μ-loop
 loop-again c =
-    let call = c .before .before .before .before .before in
-    let turning = call .before .before .before in
-    let head = turning .before in
-    let start = head .before .before in
+    let call = c .before .before .before .before .before .before in
+    let turning = c .before .before .before .before .before .before .before .before .before in
+    let head = c .before .before .before .before .before .before .before .before .before .before in
+    let start = c .before .before .before .before .before .before .before .before .before .before .before .before in
     let args = start .args in
     let j = head .loop .j - 1 in
     let bs = args .breaks .now in (
       omega (arith, head .loop .inv .0),
       moves (head .loop .inv .1) ((j, args .i) ∷ []) (falling j (args .i)) (fall-more _ _ (turning .loop-test .taken)) (call .try-line-quad .kept .1 .1 .0) (call .try-line-quad .kept .1 .1 .1 .0)
-          (alone (measureBy (args .samples .now) bs) (args .penalty) bs j (args .i) (holding (head .loop .inv .1) (start .pre .2) .room) (into-search j (args .i) (args .n) (omega (arith, head .loop .inv .0, turning .loop-test .taken)) (start .pre .1)) (call .try-line-quad .ensures))
-          (not-false _ (c .if1 .left)),
+          (alone (measureBy (args .samples .now) bs) (fallenBetween (args .samples .now) bs) (args .penalty) bs j (args .i) (holding (head .loop .inv .1) (start .pre .2) .room) (into-search j (args .i) (args .n) (omega (arith, head .loop .inv .0, turning .loop-test .taken)) (start .pre .1)) (call .try-line-quad .ensures))
+          (not-false _ (c .before .if1 .left)),
     )
 
 same-length-3 : tie.Need-same-length-3 Inv-loop μ-loop
@@ -79,7 +102,7 @@ same-length-4 : tie.Need-same-length-4 Inv-loop μ-loop
 same-length-4 c = c .before .loop .inv .1 .same-ls
 
 returns-2 : tie.Need-returns-2 Inv-loop μ-loop
-returns-2 c = λ st rep. arrives (c .before .loop .inv .1) refl (fall-none _ _ (c .loop-test .left)) refl st rep
+returns-2 c = λ st rep. arrives (c .before .loop .inv .1) refl (fall-none _ _ (c .loop-test .left)) refl refl st rep
 
 pub search-into-spec : {M : Type 1} → statement M
 search-into-spec =
@@ -95,6 +118,7 @@ search-into-spec =
     same-length
     same-length-2
     returns
+    add-fallen
     loop-less
     loop-again
     same-length-3

@@ -13,9 +13,10 @@ use Rattle.geometry.specs.declared.Quad.{Quad}
 use Rattle.breaks.specs.Breaks.{Row, breakAt}
 use Rattle.optimize.specs.Answers.{Best, okForHalf}
 use Rattle.optimize.specs.Optimize.{Measure, measureBy, bestAt, bentQuad}
+use Rattle.optimize.specs.Fallen.{Fallen, fallenBetween}
 use Rattle.optimize.specs.Stored.{Phase, Into, Rep, goes}
 use Rattle.optimize.proofs.Attempt.{stands-half}
-use Rattle.optimize.proofs.Trying.{crossing-of, quad-of, half-of, bent-nowhere, bent-allowed, bent-not-allowed, break-to, break-from, readable-from, room-from}
+use Rattle.optimize.proofs.Trying.{crossing-of, quad-of, half-of, bent-nowhere, bent-allowed, bent-not-allowed, fell-nowhere, fell-allowed, fell-not-allowed, break-to, break-from, readable-from, room-from}
 use Rattle.optimize.proofs.try_bent.Statement.{statement}
 use Rattle.optimize.proofs.try_bent.Tie as tie
 
@@ -29,6 +30,9 @@ module _ (c : tie.After-ok-for-half) where
 
   abbrev measure : Measure
   measure = measureBy (start .args .samples .now) bs
+
+  abbrev fallen : Fallen
+  fallen = fallenBetween (start .args .samples .now) bs
 
   abbrev reading : tie.After-read2
   reading = c .before .before .before .before .before .before .before .before .before .before .before
@@ -75,10 +79,13 @@ enum-told c = search needs
 returns : tie.Need-returns
 returns c = λ f n st room into rep.
     let crossing = c .before .before in
-    let reading = crossing .before .before .before in
-    let args = reading .before .before .before .args in
-    let none = sym (c .enum-told .given .1) ∙ crossing .intersect .ensures ∙ crossing-of (reading .before .read .ensures) (reading .read2 .ensures) in
-    rw (bent-nowhere (measureBy (args .samples .now) (args .breaks .now)) (args .breaks .now) (args .penalty) (args .i) (args .j) st none) (goes refl rep)
+    let reading = c .before .before .before .before .before in
+    let args = c .before .before .before .before .before .before .before .before .args in
+    let none = sym (c .enum-told .given .1) ∙ crossing .intersect .ensures ∙ crossing-of (c .before .before .before .before .before .before .read .ensures) (reading .read2 .ensures) in
+    let bs = args .breaks .now in
+    let measure = measureBy (args .samples .now) bs in
+    rw (bent-nowhere measure bs (args .penalty) (args .i) (args .j) st none, fell-nowhere measure (fallenBetween (args .samples .now) bs) bs (args .penalty) (args .i) (args .j) st none)
+    (goes refl refl rep)
 
 round-requires : tie.Need-round-requires
 round-requires c κs = search needs
@@ -94,8 +101,8 @@ ok-for-half-requires c κs = search needs
 try-quad-requires : tie.Need-try-quad-requires
 try-quad-requires c κs =
     let reading = c .before .before .before .before .before .before .before .before .before .before .before .before .before .before in
-    let start = reading .before .before .before in
-    (start .pre, (ap (λ (b : Break). b .xy) (reading .before .read .ensures), ap (λ (b : Break). b .xy) (reading .read2 .ensures)))
+    let start = c .before .before .before .before .before .before .before .before .before .before .before .before .before .before .before .before .before in
+    (start .pre, (ap (λ (b : Break). b .xy) (c .before .before .before .before .before .before .before .before .before .before .before .before .before .before .before .read .ensures), ap (λ (b : Break). b .xy) (reading .read2 .ensures)))
 
 same-length : tie.Need-same-length
 same-length c = search needs
@@ -106,9 +113,13 @@ same-length-2 c = search needs
 returns-2 : tie.Need-returns-2
 returns-2 c = λ f n st room into rep.
     let trying = c .before .before .before in
-    let tested = trying .before .before .before in
-    let o = tested .before in
-    rw (bent-allowed (measure o) (bs o) (start o .args .penalty) (start o .args .i) (start o .args .j) st (p o) (crosses o) (allows o true into rep (tested .if1 .taken)), ← bends o)
+    let tested = c .before .before .before .before .before .before in
+    let o = c .before .before .before .before .before .before .before in
+    rw (
+      bent-allowed (measure o) (bs o) (start o .args .penalty) (start o .args .i) (start o .args .j) st (p o) (crosses o) (allows o true into rep (tested .if1 .taken)),
+      fell-allowed (measure o) (fallen o) (bs o) (start o .args .penalty) (start o .args .i) (start o .args .j) st (p o) (crosses o) (allows o true into rep (tested .if1 .taken)),
+      ← bends o,
+    )
     (trying .try-quad .ensures f n st room into rep)
 
 same-length-3 : tie.Need-same-length-3
@@ -120,7 +131,11 @@ same-length-4 c = search needs
 returns-3 : tie.Need-returns-3
 returns-3 c = λ f n st room into rep.
     let o = c .before in
-    rw (bent-not-allowed (measure o) (bs o) (start o .args .penalty) (start o .args .i) (start o .args .j) st (p o) (crosses o) (allows o false into rep (c .if1 .left))) (goes refl rep)
+    rw (
+      bent-not-allowed (measure o) (bs o) (start o .args .penalty) (start o .args .i) (start o .args .j) st (p o) (crosses o) (allows o false into rep (c .if1 .left)),
+      fell-not-allowed (measure o) (fallen o) (bs o) (start o .args .penalty) (start o .args .i) (start o .args .j) st (p o) (crosses o) (allows o false into rep (c .if1 .left)),
+    )
+    (goes refl refl rep)
 
 pub try-bent-spec : {M : Type 1} → statement M
 try-bent-spec =

@@ -1,7 +1,8 @@
 -- `optimize::try_line_quad` meets its contract. Assumes nothing.
 use borrow.Author.Needs.{needs}
 use Rattle.optimize.specs.Optimize.{measureBy}
-use Rattle.optimize.proofs.Trying.{break-from, from-whole, from-half, is-whole-of}
+use Rattle.optimize.specs.Fallen.{fallenBetween}
+use Rattle.optimize.proofs.Trying.{break-from, from-whole, from-half, fell-whole, fell-half, is-whole-of}
 use Rattle.optimize.proofs.try_line_quad.Statement.{statement}
 use Rattle.optimize.proofs.try_line_quad.Tie as tie
 
@@ -23,10 +24,14 @@ same-length-2 c = search needs
 returns : tie.Need-returns
 returns c = λ f n st room into rep.
     let trying = c .before .before .before in
-    let tested = trying .before .before .before in
-    let start = tested .before .before .before .before in
-    rw (from-whole (measureBy (start .args .samples .now) (start .args .breaks .now)) (start .args .breaks .now) (start .args .penalty) (start .args .i) (start .args .j) st
-    (is-whole-of (tested .before .is-whole .ensures) (tested .before .before .read .ensures) (tested .if1 .taken)))
+    let tested = c .before .before .before .before .before .before in
+    let start = c .before .before .before .before .before .before .before .before .before .before in
+    rw (
+      from-whole (measureBy (start .args .samples .now) (start .args .breaks .now)) (start .args .breaks .now) (start .args .penalty) (start .args .i) (start .args .j) st
+          (is-whole-of (c .before .before .before .before .before .before .before .is-whole .ensures) (c .before .before .before .before .before .before .before .before .read .ensures) (tested .if1 .taken)),
+      fell-whole (measureBy (start .args .samples .now) (start .args .breaks .now)) (fallenBetween (start .args .samples .now) (start .args .breaks .now)) (start .args .breaks .now)
+          (start .args .penalty) (start .args .i) (start .args .j) st (is-whole-of (c .before .before .before .before .before .before .before .is-whole .ensures) (c .before .before .before .before .before .before .before .before .read .ensures) (tested .if1 .taken)),
+    )
     (trying .try-both .ensures f n st room into rep)
 
 try-bent-requires : tie.Need-try-bent-requires
@@ -41,10 +46,14 @@ same-length-4 c = search needs
 returns-2 : tie.Need-returns-2
 returns-2 c = λ f n st room into rep.
     let trying = c .before .before .before in
-    let tested = trying .before .before .before in
-    let start = tested .before .before .before .before in
-    rw (from-half (measureBy (start .args .samples .now) (start .args .breaks .now)) (start .args .breaks .now) (start .args .penalty) (start .args .i) (start .args .j) st
-    (is-whole-of (tested .before .is-whole .ensures) (tested .before .before .read .ensures) (tested .if1 .left)))
+    let tested = c .before .before .before .before .before .before in
+    let start = c .before .before .before .before .before .before .before .before .before .before in
+    rw (
+      from-half (measureBy (start .args .samples .now) (start .args .breaks .now)) (start .args .breaks .now) (start .args .penalty) (start .args .i) (start .args .j) st
+          (is-whole-of (c .before .before .before .before .before .before .before .is-whole .ensures) (c .before .before .before .before .before .before .before .before .read .ensures) (tested .if1 .left)),
+      fell-half (measureBy (start .args .samples .now) (start .args .breaks .now)) (fallenBetween (start .args .samples .now) (start .args .breaks .now)) (start .args .breaks .now)
+          (start .args .penalty) (start .args .i) (start .args .j) st (is-whole-of (c .before .before .before .before .before .before .before .is-whole .ensures) (c .before .before .before .before .before .before .before .before .read .ensures) (tested .if1 .left)),
+    )
     (trying .try-bent .ensures f n st room into rep)
 
 pub try-line-quad-spec : {M : Type 1} → statement M

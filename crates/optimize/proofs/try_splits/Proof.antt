@@ -5,16 +5,20 @@ use mathlib.Core.List.{[], _∷_}
 use mathlib.Core.Path.{_≡_, refl, ap, _∙_}
 use borrow.Author.Tests.{not-true, not-false}
 use Rattle.optimize.specs.Optimize.{measureBy, splits, splitsFrom}
+use Rattle.optimize.specs.Fallen.{fallenBetween}
 use Rattle.optimize.specs.Stored.{early}
-use Rattle.optimize.proofs.Phases.{split-more, split-none, Reaching, sets-out, holding, moves, breaks-off, arrives}
+use Rattle.optimize.specs.Laws.{split-pairs}
+use Rattle.optimize.proofs.Phases.{between-most, split-more, split-none, Reaching, sets-out, holding, moves, counts, breaks-off, arrives}
 use Rattle.optimize.proofs.try_splits.Statement.{statement}
 use Rattle.optimize.proofs.try_splits.Tie as tie
 
 abbrev Inv-loop : tie.InvT-loop
-Inv-loop samples breaks answers₀ links₀ n penalty i₀ answers links i = (0 < i) × (i ≤ n) × Reaching (measureBy samples breaks) penalty n breaks (early 1) answers₀ links₀ (splits n) (early i) answers links (splitsFrom (n - i) i n)
+Inv-loop samples breaks answers₀ links₀ n penalty fallen₀ i₀ answers links fallen i =
+    (0 < i) × (i ≤ n) ×
+    Reaching (measureBy samples breaks) (fallenBetween samples breaks) penalty n breaks (early 1) answers₀ links₀ (splits n) (early i) answers links fallen (splitsFrom (n - i) i n)
 
 abbrev μ-loop : tie.MeasureT-loop
-μ-loop samples breaks answers₀ links₀ n penalty i₀ answers links i = n - i
+μ-loop samples breaks answers₀ links₀ n penalty fallen₀ i₀ answers links fallen i = n - i
 
 loop-holds : tie.Need-loop-holds Inv-loop μ-loop
 loop-holds c = (omega arith, omega (arith, c .before .pre .0), sets-out)
@@ -23,7 +27,7 @@ try-split-requires : tie.Need-try-split-requires Inv-loop μ-loop
 try-split-requires c κs =
     let head = c .before .before .before in
     let inv = head .loop .inv in
-    (inv .0, c .before .before .loop-test .taken, holding (inv .2) (head .before .before .pre .1))
+    (inv .0, c .before .before .loop-test .taken, holding (inv .2) (c .before .before .before .before .before .pre .1))
 
 same-length : tie.Need-same-length Inv-loop μ-loop
 same-length c = c .before .before .before .before .before .try-split .kept .1 .1 .0 ∙ c .before .before .before .before .before .before .before .before .before .loop .inv .2 .same-rs
@@ -34,23 +38,37 @@ same-length-2 c = c .before .before .before .before .before .try-split .kept .1 
 returns : tie.Need-returns Inv-loop μ-loop
 returns c =
     let call = c .before .before .before .before .before in
-    let turning = call .before .before .before in
-    breaks-off (turning .before .loop .inv .2) _ _ _ (split-more _ _ (turning .loop-test .taken)) (call .try-split .ensures) (not-true _ (c .if1 .taken))
+    let turning = c .before .before .before .before .before .before .before .before in
+    breaks-off (c .before .before .before .before .before .before .before .before .before .loop .inv .2) _ _ _ (split-more _ _ (turning .loop-test .taken)) (call .try-split .ensures) (not-true _ (c .if1 .taken))
+
+add-fallen : tie.Need-add-fallen Inv-loop μ-loop
+add-fallen c =
+    let call = c .before .before .before .before .before .before in
+    let turning = c .before .before .before .before .before .before .before .before .before in
+    let start = c .before .before .before .before .before .before .before .before .before .before .before .before in
+    let args = start .args in
+    let few = between-most (args .samples .now) (args .breaks .now) in
+    omega (
+      arith,
+      counts (c .before .before .before .before .before .before .before .before .before .before .loop .inv .2) _ _ few (split-more _ _ (turning .loop-test .taken)) (call .try-split .ensures) (not-false _ (c .before .if1 .left)) (start .pre .1),
+      split-pairs (args .n),
+      start .pre .1 .room .few,
+    )
 
 add-i : tie.Need-add-i Inv-loop μ-loop
-add-i c = omega (arith, c .before .before .before .before .before .before .before .before .before .before .before .pre .1 .room .few)
+add-i c = omega (arith, c .before .before .before .before .before .before .before .before .before .before .before .before .pre .1 .room .few)
 
 loop-less : tie.Need-loop-less Inv-loop μ-loop
 loop-less c = omega arith
 
 loop-again : tie.Need-loop-again Inv-loop μ-loop
 loop-again c =
-    let call = c .before .before .before .before .before in
-    let turning = call .before .before .before in
-    let inv = turning .before .loop .inv in (
+    let call = c .before .before .before .before .before .before in
+    let turning = c .before .before .before .before .before .before .before .before .before in
+    let inv = c .before .before .before .before .before .before .before .before .before .before .loop .inv in (
       omega (arith, inv .0),
       omega arith,
-      moves (inv .2) _ _ (split-more _ _ (turning .loop-test .taken)) (call .try-split .kept .1 .1 .0) (call .try-split .kept .1 .1 .1 .0) (call .try-split .ensures) (not-false _ (c .if1 .left)),
+      moves (inv .2) _ _ (split-more _ _ (turning .loop-test .taken)) (call .try-split .kept .1 .1 .0) (call .try-split .kept .1 .1 .1 .0) (call .try-split .ensures) (not-false _ (c .before .if1 .left)),
     )
 
 same-length-3 : tie.Need-same-length-3 Inv-loop μ-loop
@@ -63,7 +81,7 @@ returns-2 : tie.Need-returns-2 Inv-loop μ-loop
 returns-2 c = λ st rep.
     let inv = c .before .loop .inv in
     let end : c .before .loop .i ≡ c .before .before .before .args .n = omega (arith, inv .1, c .loop-test .left) in
-    arrives (inv .2) (ap early end) (split-none _ _ (c .loop-test .left)) refl st rep
+    arrives (inv .2) (ap early end) (split-none _ _ (c .loop-test .left)) refl refl st rep
 
 pub try-splits-spec : {M : Type 1} → statement M
 try-splits-spec =
@@ -76,6 +94,7 @@ try-splits-spec =
     same-length
     same-length-2
     returns
+    add-fallen
     add-i
     loop-less
     loop-again

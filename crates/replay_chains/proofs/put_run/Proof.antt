@@ -52,8 +52,8 @@ enum-known-n c = search needs
 put-refused-requires : tie.Need-put-refused-requires
 put-refused-requires c κs = tt
 
-enum-known-pairs : tie.Need-enum-known-pairs
-enum-known-pairs c = search needs
+enum-known-t : tie.Need-enum-known-t
+enum-known-t c = search needs
 
 put-pairs-requires : tie.Need-put-pairs-requires
 put-pairs-requires c κs = tt
@@ -135,7 +135,7 @@ put-run-spec =
     chain-of-run-requires
     enum-known-n
     put-refused-requires
-    enum-known-pairs
+    enum-known-t
     put-pairs-requires
     slice-aggregate-put-all
     put-all-requires

@@ -1,5 +1,6 @@
 -- `words::read` meets its contract. The loop's invariant: the words from here on, after what was read, ask for what they all ask for. Assumes nothing.
 use Prim.Native.Nat.{_+_, _-_, _≤_}
+use mathlib.Core.Bool.{false}
 use mathlib.Core.Path.{_≡_, refl, sym, ap, _∙_}
 use native.Mathlib.Omega.{arith}
 use lib.ListN.{length, drop}
@@ -13,7 +14,7 @@ use Rattle.words.proofs.read.Statement.{statement}
 use Rattle.words.proofs.read.Tie as tie
 
 abbrev Inv-loop : tie.InvT-loop
-Inv-loop words r₀ at₀ r at = allTaken (Reading.Has defaultSettings) (endedBy 0 words) ≡ allTaken r (endedBy 0 (drop at words))
+Inv-loop words r₀ at₀ r at = allTaken (Reading.Has defaultSettings false) (endedBy 0 words) ≡ allTaken r (endedBy 0 (drop at words))
 
 abbrev μ-loop : tie.MeasureT-loop
 μ-loop words r₀ at₀ r at = length words - at

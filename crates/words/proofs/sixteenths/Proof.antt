@@ -8,8 +8,8 @@ use Rattle.words.proofs.sixteenths.Tie as tie
 enum-known-n : tie.Need-enum-known-n
 enum-known-n c = c .match .keys1
 
-cast-t6 : tie.Need-cast-t6
-cast-t6 c = omega arith
+cast-t7 : tie.Need-cast-t7
+cast-t7 c = omega arith
 
 returns : tie.Need-returns
 unfolding sixteenthsIn
@@ -27,4 +27,4 @@ unfolding sixteenthsIn
 returns-3 c = rw (c .enum-told .given .1)
 
 pub sixteenths-spec : {M : Type 1} → statement M
-sixteenths-spec = tie.close (tie.spec enum-known-n cast-t6 returns enum-told returns-2 returns-3)
+sixteenths-spec = tie.close (tie.spec enum-known-n cast-t7 returns enum-told returns-2 returns-3)

@@ -33,7 +33,7 @@ returns-2 : tie.Need-returns-2
 unfolding taken
 returns-2 c =
     let word = c .before .before .before .before .before .before .args .word .now in
-    rw (c .before .before .before .r2 .given .1) (c .sixteenths .ensures ∙ ap (sixteenthsIn _) (c .before .read-size .ensures) ∙ capped _ (wholeOf word))
+    rw (c .before .before .before .r2 .given .1) (c .sixteenths .ensures ∙ ap (sixteenthsIn _ _) (c .before .read-size .ensures) ∙ capped _ _ (wholeOf word))
 
 returns-3 : tie.Need-returns-3
 unfolding taken

@@ -8,6 +8,7 @@ use std::path::PathBuf;
 
 use fontcrunch::{Settings, CRATE_PENALTY, DEFAULT_PENALTY};
 
+use crate::fallen::Fallen;
 use crate::{chain_line, contour_line, glif, glyph};
 
 pub use help::{help, version};
@@ -23,11 +24,13 @@ pub enum Request {
     File(Settings, PathBuf),
 }
 
-/// What to do with contours, at which settings, by how many threads, and where to draw them.
+/// What to do with contours, at which settings, what answers tell besides, by how many threads, and where to draw
+/// them.
 #[derive(Debug, PartialEq, Eq)]
 pub struct Job {
     pub tool: Tool,
     pub settings: Settings,
+    pub fallen: Fallen,
     pub jobs: usize,
     pub inputs: Vec<Input>,
     pub picture: Option<PathBuf>,
@@ -200,6 +203,7 @@ struct Asked {
     has_needed: bool,
     whole_file: bool,
     settings: Chosen,
+    fallen: Fallen,
     jobs: Option<u32>,
     inputs: Vec<Input>,
     picture: Option<PathBuf>,
@@ -265,6 +269,7 @@ impl Asked {
             ("--explicit", None) => self.made_explicit(),
             ("--index", None) => self.by_index(),
             ("--segments", None) => self.with_segments(),
+            ("--fallen", None) => self.with_fallen(),
             _ => Err(no_option(word)),
         }
     }
@@ -299,6 +304,16 @@ impl Asked {
             _ => return Err("--segments is an option of chain".to_owned()),
         }
         Ok(())
+    }
+
+    fn with_fallen(&mut self) -> Result<(), String> {
+        match self.tool {
+            Tool::Crunch | Tool::Editions { .. } | Tool::Chain { .. } | Tool::Check { .. } => {
+                self.fallen.told = true;
+                Ok(())
+            }
+            _ => Err("--fallen is an option of crunch, editions, chain and check".to_owned()),
+        }
     }
 
     fn draw_to(&mut self, name: Option<OsString>) -> Result<(), String> {
@@ -354,7 +369,8 @@ impl Asked {
         let usual = if self.picture.is_some() { CRATE_PENALTY } else { DEFAULT_PENALTY };
         let settings = self.settings.with_usual(usual);
         let jobs = self.jobs.unwrap_or(1) as usize;
-        Ok(Job { tool: self.tool, settings, jobs, inputs: self.inputs, picture: self.picture })
+        let Asked { tool, fallen, inputs, picture, .. } = self;
+        Ok(Job { tool, settings, fallen, jobs, inputs, picture })
     }
 }
 

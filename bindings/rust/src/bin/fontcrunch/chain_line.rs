@@ -9,8 +9,8 @@ use crate::contour_line::{self, shown, Malformed};
 /// A contour of the longest line, and a chain of as many pieces as there can be, have room.
 pub const LONGEST_LINE: usize = 4 * contour_line::LONGEST_LINE;
 
-/// Reads a line, given without its line end: the contour into `points`, which is emptied first. The pairs of the
-/// chain and its segments are not on the line, and nobody looks at them.
+/// Reads a line, given without its line end: the contour into `points`, which is emptied first. The chain's pairs,
+/// its segments and its lookups that fell are not on the line, and nobody looks at them.
 pub fn parse(line: &[u8], points: &mut Vec<Point>) -> Result<Chain, Malformed> {
     points.clear();
     if line.len() > LONGEST_LINE {
@@ -25,7 +25,7 @@ pub fn parse(line: &[u8], points: &mut Vec<Point>) -> Result<Chain, Malformed> {
     let score = double(words[0], 1)?;
     let pieces = words[1..].chunks_exact(4).zip(0..).map(|(four, i)| piece(four, 4 * i + 2));
     let pieces = pieces.collect::<Result<_, _>>()?;
-    Ok(Chain { pieces, score, pairs: 0, segments: Vec::new() })
+    Ok(Chain { pieces, score, pairs: 0, segments: Vec::new(), fallen: 0 })
 }
 
 /// What stands before the bar and after it.

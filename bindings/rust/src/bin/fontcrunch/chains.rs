@@ -1,20 +1,14 @@
-//! The tool chain: the answer to a contour.
+//! The tool chain: the answer to a contour that is not refused.
 
-use fontcrunch::{Cruncher, Point, Refusal};
+use fontcrunch::Chain;
 
 /// All NaNs have one pattern on a line, since which of them comes is not fixed.
 const NAN_BITS: u64 = 0x7ff8_0000_0000_0000;
 
 /// The pieces of a run; with the segments that each replaces, where these are asked for.
-pub fn chain(
-    cruncher: &mut Cruncher,
-    points: &[Point],
-    run: usize,
-    segments: bool,
-) -> Result<String, Refusal> {
-    let chain = cruncher.chain(points, run)?;
+pub fn chain_text(chain: &Chain, segments: bool) -> String {
     if chain.pieces.is_empty() {
-        return Ok(format!("unchanged {}", chain.pairs));
+        return format!("unchanged {}", chain.pairs);
     }
     let mut text = format!("ok {} {} {}", chain.pairs, bits(chain.score), chain.pieces.len());
     for (piece, (first, last)) in chain.pieces.iter().zip(&chain.segments) {
@@ -24,7 +18,7 @@ pub fn chain(
             text.push_str(&format!(" {first} {last}"));
         }
     }
-    Ok(text)
+    text
 }
 
 fn bits(x: f64) -> String {

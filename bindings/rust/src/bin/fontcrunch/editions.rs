@@ -2,22 +2,23 @@
 
 use fontcrunch::{Crunched, Cruncher, Editions, Point, Refusal};
 
+use crate::fallen::Fallen;
 use crate::service::Status;
-use crate::worker::{crunched_text, Reply};
+use crate::worker::{crunched_text, refused_text, Reply};
 
 /// The first edition has the cruncher's penalty, the second this one.
-pub fn answer(cruncher: &mut Cruncher, points: &[Point], penalty: u32) -> Reply {
+pub fn answer(cruncher: &mut Cruncher, points: &[Point], penalty: u32, fallen: Fallen) -> Reply {
     let Editions { a, b } = cruncher.editions(points, cruncher.settings().penalty, penalty);
     let refused = a.is_err() || b.is_err();
     Reply {
-        text: format!("a {}\nb {}", text_of(&a), text_of(&b)),
+        text: format!("a {}\nb {}", text_of(&a, fallen), text_of(&b, fallen)),
         status: if refused { Status::SomeRefused } else { Status::AllCrunched },
     }
 }
 
-fn text_of(edition: &Result<Crunched, Refusal>) -> String {
+fn text_of(edition: &Result<Crunched, Refusal>, fallen: Fallen) -> String {
     match edition {
-        Ok(crunched) => crunched_text(crunched),
-        Err(refusal) => format!("refused {}", refusal.number()),
+        Ok(crunched) => fallen.after(crunched_text(crunched), crunched.fallen),
+        Err(refusal) => refused_text(*refusal, fallen),
     }
 }

@@ -8,6 +8,7 @@ mod contour_line;
 mod cubics;
 mod editions;
 mod explicit;
+mod fallen;
 mod glif;
 mod glyph;
 mod inputs;

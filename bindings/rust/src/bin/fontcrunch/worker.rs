@@ -1,15 +1,16 @@
 //! A line answered: what goes out for it, what is said of it, and what a picture shows.
 
-use fontcrunch::{Crunched, Cruncher, Point, Refusal};
+use fontcrunch::{Crunched, Cruncher, Point, Refusal, Verdict};
 
 use crate::arguments::{Job, Tool};
 use crate::chain_line;
-use crate::chains;
+use crate::chains::chain_text;
 use crate::cleaning;
 use crate::contour_line::{self, Malformed};
 use crate::cubics;
 use crate::editions;
 use crate::explicit;
+use crate::fallen::Fallen;
 use crate::glif;
 use crate::glyph;
 use crate::picture::Sketch;
@@ -40,6 +41,7 @@ impl From<String> for Reply {
 /// Answers lines, one after another. It keeps nothing between them, so that any worker gives the same answer.
 pub struct Worker {
     tool: Tool,
+    fallen: Fallen,
     draws: bool,
     cruncher: Cruncher,
     points: Vec<Point>,
@@ -49,6 +51,7 @@ impl Worker {
     pub fn new(job: &Job) -> Worker {
         Worker {
             tool: job.tool,
+            fallen: job.fallen,
             draws: job.picture.is_some(),
             cruncher: Cruncher::new(job.settings),
             points: Vec::new(),
@@ -60,7 +63,7 @@ impl Worker {
         let (text, status, message) = match self.told(line, &mut sketch) {
             Ok(Ok(reply)) => (reply.text, reply.status, None),
             Ok(Err(refusal)) => {
-                (format!("refused {}", refusal.number()), Status::SomeRefused, Some(refusal.to_string()))
+                (refused_text(refusal, self.fallen), Status::SomeRefused, Some(refusal.to_string()))
             }
             Err(fault) => ("malformed".to_owned(), Status::Wrong, Some(format!("malformed: {fault}"))),
         };
@@ -72,7 +75,7 @@ impl Worker {
         line: &[u8],
         sketch: &mut Option<Sketch>,
     ) -> Result<Result<Reply, Refusal>, Malformed> {
-        let (cruncher, points) = (&mut self.cruncher, &mut self.points);
+        let (cruncher, points, fallen) = (&mut self.cruncher, &mut self.points, self.fallen);
         let text = match self.tool {
             Tool::Crunch => {
                 contour_line::parse(line, points)?;
@@ -91,15 +94,17 @@ impl Worker {
                 let index = contour_line::parse_indexed(line, points)?;
                 reasons::why_at(cruncher, points, index)
             }
-            Tool::Chain { run, segments } => chains::chain(cruncher, contour(line, points)?, run, segments),
+            Tool::Chain { run, segments } => cruncher
+                .chain(contour(line, points)?, run)
+                .map(|chain| fallen.after(chain_text(&chain, segments), chain.fallen)),
             Tool::Glyph { step, explicit } => glyph::answer(step, explicit, cruncher, line)?,
             Tool::Glif { step } => glif::answer(step, cruncher, line)?,
             Tool::Editions { penalty } => {
-                return Ok(Ok(editions::answer(cruncher, contour(line, points)?, penalty)))
+                return Ok(Ok(editions::answer(cruncher, contour(line, points)?, penalty, fallen)))
             }
             Tool::Check { run } => {
                 let chain = chain_line::parse(line, points)?;
-                return Ok(cruncher.check(points, run, &chain).map(verdict));
+                return Ok(cruncher.verdict(points, run, &chain).map(|said| verdict(said, fallen)));
             }
         };
         Ok(text.map(Reply::from))
@@ -107,7 +112,8 @@ impl Worker {
 
     fn crunch(&mut self, sketch: &mut Option<Sketch>) -> Result<String, Refusal> {
         let result = self.cruncher.crunch(&self.points);
-        let text = result.as_ref().map(crunched_text).map_err(|refusal| *refusal);
+        let told = |crunched: &Crunched| self.fallen.after(crunched_text(crunched), crunched.fallen);
+        let text = result.as_ref().map(told).map_err(|refusal| *refusal);
         if self.draws {
             *sketch = Some(Sketch::of(&mut self.cruncher, &self.points, result));
         }
@@ -121,12 +127,15 @@ fn contour<'a>(line: &[u8], points: &'a mut Vec<Point>) -> Result<&'a [Point], M
 }
 
 /// A chain that is not accepted counts as a refusal does.
-fn verdict(accepted: bool) -> Reply {
-    if accepted {
-        Reply { text: "yes".to_owned(), status: Status::AllCrunched }
-    } else {
-        Reply { text: "no".to_owned(), status: Status::SomeRefused }
-    }
+fn verdict(said: Verdict, fallen: Fallen) -> Reply {
+    let (word, status) =
+        if said.accepted { ("yes", Status::AllCrunched) } else { ("no", Status::SomeRefused) };
+    Reply { text: fallen.after(word.to_owned(), said.fallen), status }
+}
+
+/// No lookup of what is refused counts.
+pub fn refused_text(refusal: Refusal, fallen: Fallen) -> String {
+    fallen.after(format!("refused {}", refusal.number()), 0)
 }
 
 pub fn crunched_text(crunched: &Crunched) -> String {

@@ -3,15 +3,16 @@ use Prim.Native.Nat.{_+_, _-_, _^_, _≤_, _<_}
 use native.Mathlib.Omega.{arith}
 use mathlib.Core.Path.{sym, _∙_}
 use lib.ListN.{length, getD}
-use Rattle.chain.proofs.Along.{all-inside, inside, Summing, summing, summed, one-refused, sums-on}
+use Rattle.chain.proofs.Along.{all-inside, inside, joined-few, Summing, summing, summed, one-refused, sums-on, Falling, falling, none-counted, all-counted, counted-few, falls-on}
 use Rattle.chain.proofs.sum.sum.Statement.{statement}
 use Rattle.chain.proofs.sum.sum.Tie as tie
 
 abbrev Inv-loop : tie.InvT-loop
-Inv-loop samples breaks starts ends xs ys penalty before₀ s₀ i₀ before s i = (i ≤ length starts) × Summing samples breaks penalty starts ends xs ys before s i
+Inv-loop samples breaks starts ends xs ys penalty before₀ s₀ n₀ i₀ before s n i =
+    (i ≤ length starts) × Summing samples breaks penalty starts ends xs ys before s i × Falling samples breaks starts ends xs ys n i
 
 abbrev μ-loop : tie.MeasureT-loop
-μ-loop samples breaks starts ends xs ys penalty before₀ s₀ i₀ before s i = length starts - i
+μ-loop samples breaks starts ends xs ys penalty before₀ s₀ n₀ i₀ before s n i = length starts - i
 
 -- the break numbers of the piece that is read
 numbers : (c : tie.In-loop Inv-loop μ-loop) →
@@ -25,7 +26,7 @@ room : (c : tie.In-loop Inv-loop μ-loop) → c .before .loop .i + 1 < 2 ^ 64
 room c = omega arith
 
 loop-holds : tie.Need-loop-holds Inv-loop μ-loop
-loop-holds c = (omega arith, summing _ _ _ _ _ _ _)
+loop-holds c = (omega arith, summing _ _ _ _ _ _ _, falling _ _ _ _ _ _)
 
 read-requires : tie.Need-read-requires Inv-loop μ-loop
 read-requires c κs =
@@ -56,11 +57,29 @@ returns c =
     let measuring = c .before .before in
     let drawing = measuring .before .before .before in
     let turning = drawing .before .before in
+    let none = rw (c .enum-told .given .1) at (measuring .measure-quad .ensures) in
+    let is =
     one-refused _ _ _ _ _ _ _ _ _ _ (turning .before .loop .inv .1) (turning .loop-test .taken) _ (drawing .before .read .ensures) _ (drawing .quad-of .ensures)
-    _ _ (measuring .before .before .read2 .ensures) (measuring .before .read3 .ensures) (sym (measuring .measure-quad .ensures) ∙ c .enum-told .given .1)
+    _ _ (measuring .before .before .read2 .ensures) (measuring .before .read3 .ensures) none in
+    (is, none-counted _ _ _ _ _ _ _ is)
 
 joint-requires : tie.Need-joint-requires Inv-loop μ-loop
 joint-requires c κs = tt
+
+add-fallen : tie.Need-add-fallen Inv-loop μ-loop
+add-fallen c =
+    let found = c .before .before .before in
+    let measuring = found .before .before in
+    let drawing = measuring .before .before .before in
+    let turning = drawing .before .before in
+    let start = turning .before .before .before .before .before .before in
+    let told = rw (found .m .given .1) at (measuring .measure-quad .ensures) in
+    let few =
+    counted-few _ _ _ _ _ _ (turning .before .loop .inv .2) (turning .loop-test .taken) _ (drawing .before .read .ensures) _ (drawing .quad-of .ensures)
+    _ _ (measuring .before .before .read2 .ensures) (measuring .before .read3 .ensures) (told .1) in
+    let args = start .args in
+    let pieces = joined-few (args .starts .now) (args .ends .now) (args .xs .now) (args .ys .now) (length (args .breaks .now) - 1) (start .pre .1) in
+    omega (arith, few, turning .before .loop .inv .2 .few, turning .loop-test .taken, pieces, start .pre .0 .2)
 
 add-i : tie.Need-add-i Inv-loop μ-loop
 add-i c = omega (arith, room (c .before .before .before .before .before .before .before .before .before .before))
@@ -73,14 +92,19 @@ loop-again c =
     let found = c .before .before .before in
     let measuring = found .before .before in
     let drawing = measuring .before .before .before in
-    let turning = drawing .before .before in (
+    let turning = drawing .before .before in
+    let told = rw (found .m .given .1) at (measuring .measure-quad .ensures) in (
       omega arith,
       sums-on _ _ _ _ _ _ _ _ _ _ (turning .before .loop .inv .1) (turning .loop-test .taken) _ (drawing .before .read .ensures) _ (drawing .quad-of .ensures)
-          _ _ (measuring .before .before .read2 .ensures) (measuring .before .read3 .ensures) _ _ (sym (measuring .measure-quad .ensures) ∙ found .m .given .1) (c .before .joint .ensures),
+          _ _ (measuring .before .before .read2 .ensures) (measuring .before .read3 .ensures) _ _ (told .0) (c .before .joint .ensures),
+      falls-on _ _ _ _ _ _ (turning .before .loop .inv .2) (turning .loop-test .taken) _ (drawing .before .read .ensures) _ (drawing .quad-of .ensures)
+          _ _ (measuring .before .before .read2 .ensures) (measuring .before .read3 .ensures) (told .1),
     )
 
 returns-2 : tie.Need-returns-2 Inv-loop μ-loop
-returns-2 c = summed _ _ _ _ _ _ _ _ _ _ (c .before .loop .inv .1) (c .loop-test .left)
+returns-2 c =
+    let is = summed _ _ _ _ _ _ _ _ _ _ (c .before .loop .inv .1) (c .loop-test .left) in
+    (is, all-counted _ _ _ _ _ _ (c .before .loop .inv .2) (c .loop-test .left) _ is)
 
 pub sum-spec : {M : Type 1} → statement M
 sum-spec =
@@ -98,6 +122,7 @@ sum-spec =
     enum-told
     returns
     joint-requires
+    add-fallen
     add-i
     loop-less
     loop-again

@@ -25,7 +25,7 @@ same-length : tie.Need-same-length
 same-length c = c .before .push-seg .kept .0
 
 returns-3 : tie.Need-returns-3
-returns-3 c = line-moves (c .before .before .before .before .before .before .args .g) (c .before .before .before .before .c3 .given .1) (c .before .push-seg .ensures)
+returns-3 c = line-moves (c .before .before .before .before .before .before .before .args .g) (c .before .before .before .before .before .c3 .given .1) (c .before .push-seg .ensures)
 
 pub copy-line-spec : {M : Type 1} → statement M
 copy-line-spec =

@@ -1,5 +1,5 @@
 -- `editions::work::take_step` meets its contract. Assumes nothing.
-use Rattle.editions.proofs.Steps.{refused-stays, ended-stays, going-moves, few-pairs}
+use Rattle.editions.proofs.Steps.{refused-stays, ended-stays, going-moves, few-so-far}
 use Rattle.editions.proofs.work.take_step.Statement.{statement}
 use Rattle.editions.proofs.work.take_step.Tie as tie
 
@@ -13,7 +13,7 @@ enum-known-c-3 : tie.Need-enum-known-c-3
 enum-known-c-3 c = c .match .keys3
 
 after-survey-requires : tie.Need-after-survey-requires
-after-survey-requires c κs = (c .before .before .before .before .before .before .before .before .pre .0, few-pairs (c .before .before .before .before .c3 .given .1) (c .before .before .before .before .before .before .before .before .pre .1))
+after-survey-requires c κs = (c .before .before .before .before .before .before .before .before .pre .0, few-so-far (c .before .before .before .before .c3 .given .1) (c .before .before .before .before .before .before .before .before .pre .1))
 
 returns : tie.Need-returns
 returns c = refused-stays _ (c .before .c .given .1)
@@ -31,7 +31,7 @@ same-length-3 : tie.Need-same-length-3
 same-length-3 c = c .before .before .before .before .after-survey .kept .1 .1 .1 .1 .1 .1 .1 .1 .1 .1 .0
 
 returns-3 : tie.Need-returns-3
-returns-3 c = going-moves _ (c .before .before .before .before .before .before .before .before .before .c3 .given .1) (c .before .before .before .before .after-survey .ensures .stands) (c .before .before .before .before .after-survey .ensures .pairs)
+returns-3 c = going-moves _ (c .before .before .before .before .before .before .before .before .before .c3 .given .1) (c .before .before .before .before .after-survey .ensures .stands) (c .before .before .before .before .after-survey .ensures .few)
 
 pub take-step-spec : {M : Type 1} → statement M
 take-step-spec =

@@ -64,11 +64,11 @@ fn page(tool: Tool) -> &'static Page {
 const OVERVIEW: &str = "\
 Crunches TrueType contours: puts fewer quadratic pieces between their corners.
 
-usage: fontcrunch [crunch] [SETTINGS] [--svg PICTURE] [FILE...]
-       fontcrunch editions --penalty A --penalty B [--whole-units] [--closed] [FILE...]
+usage: fontcrunch [crunch] [--fallen] [SETTINGS] [--svg PICTURE] [FILE...]
+       fontcrunch editions --penalty A --penalty B [--whole-units] [--closed] [--fallen] [FILE...]
        fontcrunch why [--index] [FILE...]
-       fontcrunch chain K [--segments] [SETTINGS] [FILE...]
-       fontcrunch check K [SETTINGS] [FILE...]
+       fontcrunch chain K [--segments] [--fallen] [SETTINGS] [FILE...]
+       fontcrunch check K [--fallen] [SETTINGS] [FILE...]
        fontcrunch glyph read|write|crunch [--explicit] [SETTINGS] [FILE...]
        fontcrunch glif read|write|crunch [SETTINGS] [FILE...]
        fontcrunch glif [SETTINGS] FILE.glif
@@ -128,8 +128,10 @@ const CRUNCH: Page = Page {
     what: "\
 Crunches TrueType contours: puts fewer quadratic pieces between their corners.
 
-usage: fontcrunch [crunch] [SETTINGS] [--svg PICTURE] [FILE...]
+usage: fontcrunch [crunch] [--fallen] [SETTINGS] [--svg PICTURE] [FILE...]
 
+--fallen       ends each answer with fallen N: how many lookups fell past the samples in
+               all that was measured, a place and a direction one each; 0 where refused
 --svg PICTURE  draws each contour before and after, to a file. Without --penalty the
                penalty is 16, of the picture and of the answers
 ",
@@ -148,6 +150,8 @@ A line out, for each line in:
     example: "  \
   $ echo '0 0 1 0 60 0 40 90 1 80 120 0 130 120 1 200 -40 1' | fontcrunch --penalty 16
   ok 937 200 -40 1 130 120 1 80 120 0 0 60 0 0 0 1
+  $ echo '-1795 0 1 -1794 0 1 143 -4 0 -3 7 1 -1795 -900 1' | fontcrunch --fallen --whole-units --penalty 256
+  ok 3641 -1795 -900 1 -3 7 1 64 2 0 -297 0 1 -1795 0 1 fallen 4
 ",
 };
 
@@ -157,12 +161,13 @@ Crunches each contour into two editions, a and b, with a penalty each. Each run 
 once for both, and an edition gets what fontcrunch crunch gives at its penalty, whatever
 becomes of the other.
 
-usage: fontcrunch editions --penalty A --penalty B [--whole-units] [--closed] [FILE...]
+usage: fontcrunch editions --penalty A --penalty B [--whole-units] [--closed] [--fallen] [FILE...]
 
 --penalty A --penalty B
                what each piece adds to a score, in sixteenths, 1 to 256: of a, then of b
 --whole-units  of both: rounds breaks to whole units, not to half ones
 --closed       of both: as for fontcrunch crunch
+--fallen       ends the line of each with its own fallen N, as for fontcrunch crunch
 ",
     settings: false,
     lines: "\
@@ -178,6 +183,9 @@ Two lines out, for each line in, of a and of b; one where it is malformed:
   $ echo '0 0 1 100 0 1 0 100 1' | fontcrunch editions --penalty 16 --penalty 300
   a ok 0 0 100 1 100 0 1 0 0 1
   b refused 16
+  $ echo '0 0 1 100 0 1 0 100 1' | fontcrunch editions --penalty 16 --penalty 300 --fallen
+  a ok 0 0 100 1 100 0 1 0 0 1 fallen 0
+  b refused 16 fallen 0
 ",
 };
 
@@ -210,11 +218,12 @@ const CHAIN: Page = Page {
     what: "\
 Gives the chain of pieces that is found for one run of a contour.
 
-usage: fontcrunch chain K [--segments] [SETTINGS] [FILE...]
+usage: fontcrunch chain K [--segments] [--fallen] [SETTINGS] [FILE...]
 
 K              the number of the run, counted from 0: it lies between corners K and
                K + 1
 --segments     with the segments of the contour that each piece replaces
+--fallen       ends each answer with fallen N, as for fontcrunch crunch, of the run alone
 ",
     settings: true,
     lines: "\
@@ -232,6 +241,8 @@ A line out, for each line in:
     example: "  \
   $ echo '2 2 1 1 1 1 0 0 1 0 0 1 0 2 1' | fontcrunch chain 0 --penalty 16
   ok 1 3ff0000000000000 1 0 4 3ff0000000000000 3ff0000000000000
+  $ echo '-1795 0 1 -1794 0 1 143 -4 0 -3 7 1 -1795 -900 1' | fontcrunch chain 0 --fallen --whole-units --penalty 256
+  ok 3641 404c485cb033ceb5 2 0 1500 c090580000000000 0000000000000000 1500 1821 4050000000000000 4000000000000000 fallen 4
 ",
 };
 
@@ -240,10 +251,12 @@ const CHECK: Page = Page {
 Checks chains of one run of a contour, whoever made them, at the settings that they
 were made with.
 
-usage: fontcrunch check K [SETTINGS] [FILE...]
+usage: fontcrunch check K [--fallen] [SETTINGS] [FILE...]
 
 K              the number of the run, counted from 0: it lies between corners K and
                K + 1
+--fallen       ends each answer with fallen N: how many lookups fell past the samples as
+               the chain was measured; 0 where it was not, since its shape is at fault
 ",
     settings: true,
     lines: "\
@@ -258,6 +271,8 @@ A line out, for each line in:
     example: "  \
   $ echo '2 2 1 1 1 1 0 0 1 0 0 1 0 2 1 | 3ff0000000000000 0 4 3ff0000000000000 3ff0000000000000' | fontcrunch check 0 --penalty 16
   yes
+  $ echo '7 9 1 | 3ff0000000000000' | fontcrunch check 0 --fallen
+  refused 10 fallen 0
 ",
 };
 

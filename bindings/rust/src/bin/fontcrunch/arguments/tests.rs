@@ -88,6 +88,27 @@ fn chains() {
 }
 
 #[test]
+fn lookups_that_fell() {
+    for words in
+        [&[][..], &["crunch"], &["chain", "0"], &["check", "0"], &["editions", "--penalty=1", "--penalty=2"]]
+    {
+        assert!(!job(words).fallen.told, "{words:?}");
+        let with = [words, &["--fallen"]].concat();
+        assert_eq!(job(&with), Job { fallen: Fallen { told: true }, ..job(words) });
+        assert!(job(&[&with[..], &["--fallen", "a"]].concat()).fallen.told);
+    }
+    assert!(job(&["chain", "--fallen", "--segments", "0"]).fallen.told);
+    assert!(job(&["--svg", "p", "--fallen"]).fallen.told);
+    for words in
+        [&["why"][..], &["clean", "--crunch"], &["cubic", "--crunch"], &["glyph", "crunch"], &["glif", "a"]]
+    {
+        let wrong = fault(&[words, &["--fallen"]].concat());
+        assert!(wrong.contains("--fallen is an option of crunch, editions, chain and check"), "{words:?}");
+    }
+    assert!(fault(&["--fallen=1"]).contains("no option --fallen=1"));
+}
+
+#[test]
 fn the_penalty_is_32_and_that_of_a_picture_16() {
     assert_eq!(job(&[]).settings, Settings::default());
     assert_eq!(job(&["crunch"]).settings, Settings::default());

@@ -5,7 +5,7 @@ use fontcrunch::{Crunched, Point, Reasons, Refusal, Settings};
 
 use super::grid;
 use super::outline::{Outline, Place};
-use super::reading::{Join, Reading};
+use super::reading::{Join, Reading, Run};
 use super::svg::{self, Ink};
 use super::view::{fitting, Extent, View};
 use super::{Sketch, MARGIN, WIDTH};
@@ -105,8 +105,16 @@ fn outcome(subject: &Subject) -> String {
                 Some(cause) => format!("unchanged: {cause}"),
                 None => saving(subject.sketch.before.len(), crunched.points.len()),
             };
-            format!("{change}, {pairs} tried")
+            format!("{change}, {pairs} tried{}", falls(crunched.fallen))
         }
+    }
+}
+
+/// Of a contour where some lookups fell; of others nothing is said.
+fn falls(number: usize) -> String {
+    match number {
+        0 => String::new(),
+        _ => format!(", {} fell in runs marked on the left", svg::counted(number, "lookup")),
     }
 }
 
@@ -134,11 +142,13 @@ fn left_panel(panel: Panel, view: View, extent: &Extent, before: &[Point], readi
         baseline(panel, &view, extent),
         svg::filled(&data, svg::BEFORE),
         refused_run(&outline, &view, reading),
+        fallen_runs(&outline, &view, reading),
         svg::stroked(&data, svg::BEFORE.line, svg::OUTLINE),
         points_drawn(before, &view, svg::BEFORE),
         start_drawn(&outline, &view, svg::BEFORE),
         corners_drawn(&outline, &view, reading),
         scale_bar(panel, &view),
+        falls_told(&outline, &view, reading),
     ]
     .concat()
 }
@@ -295,5 +305,29 @@ fn refused_run(outline: &Outline, view: &View, reading: &Reading) -> String {
         return String::new();
     };
     let data = svg::path(outline, view, reading.runs[run].segments.clone());
-    svg::stroked(&data, svg::CORNER, "stroke-width=\"5\" stroke-opacity=\"0.35\"")
+    svg::stroked(&data, svg::CORNER, svg::HALO)
+}
+
+/// Each run of which some lookups fell past the samples, with its number.
+fn fallen(reading: &Reading) -> impl Iterator<Item = (usize, &Run)> {
+    reading.runs.iter().enumerate().filter(|(_, run)| run.fell.tried > 0)
+}
+
+fn fallen_runs(outline: &Outline, view: &View, reading: &Reading) -> String {
+    let drawn = |(_, run): (usize, &Run)| {
+        svg::stroked(&svg::path(outline, view, run.segments.clone()), svg::FELL, svg::HALO)
+    };
+    fallen(reading).map(drawn).collect()
+}
+
+/// A title on each of these runs, as on pieces.
+fn falls_told(outline: &Outline, view: &View, reading: &Reading) -> String {
+    let told = |(k, run): (usize, &Run)| {
+        let tried = svg::counted(run.fell.tried, "lookup");
+        let found = svg::grouped(run.fell.found);
+        let title =
+            format!("run {k}: {tried} fell past the samples, {found} of them in the chain that was found");
+        svg::titled(&svg::path(outline, view, run.segments.clone()), &title)
+    };
+    fallen(reading).map(told).collect()
 }

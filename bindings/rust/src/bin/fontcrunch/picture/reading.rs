@@ -10,7 +10,7 @@
 
 use std::ops::Range;
 
-use fontcrunch::{Crunched, Cruncher, Point, Reasons, Refusal};
+use fontcrunch::{Chain, Crunched, Cruncher, Point, Reasons, Refusal};
 
 use super::outline::Outline;
 
@@ -31,6 +31,16 @@ pub struct Run {
     pub came: Came,
     /// For each piece, the first and the last segment that it replaces; a copied line replaces itself.
     pub replaced: Vec<(usize, usize)>,
+    pub fell: Fell,
+}
+
+/// The lookups of a run that fell past its samples.
+#[derive(Clone, Copy, Debug, Default, PartialEq, Eq)]
+pub struct Fell {
+    /// In every attempt measured.
+    pub tried: usize,
+    /// As the chain that was found is measured.
+    pub found: usize,
 }
 
 /// A node of the result.
@@ -69,9 +79,13 @@ impl Reading {
         let closed = cruncher.settings().closed;
         let runs = worked_runs(cruncher, before, &lines, spans(&corners, lines.len(), closed));
         let mut reading = Reading { closed, corners, reasons, runs, ..Reading::default() };
-        if let Ok(crunched) = result {
-            reading.joins = reading.joins(Outline::of(&crunched.points).nodes.len());
-            reading.lost = reading.lost(&lines);
+        match result {
+            Ok(crunched) => {
+                reading.joins = reading.joins(Outline::of(&crunched.points).nodes.len());
+                reading.lost = reading.lost(&lines);
+            }
+            // none counts in what is refused
+            Err(_) => reading.runs.iter_mut().for_each(|run| run.fell = Fell::default()),
         }
         reading
     }
@@ -170,13 +184,10 @@ fn worked_runs(
 ) -> Vec<Run> {
     let mut runs = Vec::new();
     for (k, of) in spans.into_iter().enumerate() {
-        let (came, replaced) = if of.len() == 1 && lines[of.start] {
-            (Came::Pieces(1), vec![(of.start, of.start)])
-        } else {
-            came_of(cruncher, points, k)
-        };
-        let last = !matches!(came, Came::Pieces(_));
-        runs.push(Run { segments: of, came, replaced });
+        let copied = of.len() == 1 && lines[of.start];
+        let run = if copied { copied_run(of) } else { worked_run(cruncher, points, k, of) };
+        let last = !matches!(run.came, Came::Pieces(_));
+        runs.push(run);
         if last {
             break;
         }
@@ -184,15 +195,31 @@ fn worked_runs(
     runs
 }
 
-fn came_of(cruncher: &mut Cruncher, points: &[Point], run: usize) -> (Came, Vec<(usize, usize)>) {
-    match cruncher.chain(points, run) {
-        Err(refusal) => (Came::Refused(refusal), Vec::new()),
-        Ok(chain) if chain.pieces.is_empty() => (Came::Unchanged, Vec::new()),
-        Ok(chain) => {
-            let replaced = chain.segments.iter().map(|&(first, last)| (first as usize, last as usize));
-            (Came::Pieces(chain.pieces.len()), replaced.collect())
+fn copied_run(segments: Range<usize>) -> Run {
+    let replaced = vec![(segments.start, segments.start)];
+    Run { segments, came: Came::Pieces(1), replaced, fell: Fell::default() }
+}
+
+fn worked_run(cruncher: &mut Cruncher, points: &[Point], k: usize, segments: Range<usize>) -> Run {
+    let chain = match cruncher.chain(points, k) {
+        Ok(chain) => chain,
+        Err(refusal) => {
+            return Run { segments, came: Came::Refused(refusal), replaced: vec![], fell: Fell::default() }
         }
-    }
+    };
+    let came = match chain.pieces.len() {
+        0 => Came::Unchanged,
+        pieces => Came::Pieces(pieces),
+    };
+    let replaced = chain.segments.iter().map(|&(first, last)| (first as usize, last as usize)).collect();
+    Run { segments, came, replaced, fell: fell(cruncher, points, k, &chain) }
+}
+
+/// Where no attempt fell, none did of the chain, whose pieces are some of them.
+fn fell(cruncher: &mut Cruncher, points: &[Point], k: usize, chain: &Chain) -> Fell {
+    let tried = chain.fallen;
+    let found = if tried > 0 { cruncher.verdict(points, k, chain).map_or(0, |said| said.fallen) } else { 0 };
+    Fell { tried, found }
 }
 
 #[cfg(test)]

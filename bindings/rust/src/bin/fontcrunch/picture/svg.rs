@@ -17,6 +17,7 @@ pub const AFTER: Ink = Ink { line: "#14508f", fill: "#dfeaf7" };
 pub const CORNER: &str = "#d1342f";
 pub const BREAK: &str = "#00875f";
 pub const LOST: &str = "#e07b00";
+pub const FELL: &str = "#8a3ffc";
 pub const GHOST: &str = "#9aa4ad";
 pub const TEXT: &str = "#20262b";
 pub const QUIET: &str = "#6b7680";
@@ -25,6 +26,8 @@ pub const OUTLINE: &str = "stroke-width=\"1.3\" stroke-linejoin=\"round\"";
 pub const HANDLE: &str = "stroke-width=\"0.6\"";
 pub const GHOST_DASHES: &str = "stroke-width=\"0.9\" stroke-dasharray=\"3 3\"";
 pub const LOST_DASHES: &str = "stroke-width=\"1.8\" stroke-dasharray=\"6 3\"";
+/// Under the outline, so that a run is told from its neighbours.
+pub const HALO: &str = "stroke-width=\"5\" stroke-opacity=\"0.35\"";
 
 /// Two decimals are finer than any screen, and trailing zeros say nothing.
 pub fn number(value: f64) -> String {

@@ -1,6 +1,6 @@
 use super::super::tests::{contours, points};
 use super::*;
-use fontcrunch::Settings;
+use fontcrunch::{Piece, Settings};
 
 fn read(contour: &[Point]) -> (Reading, Result<Crunched, Refusal>) {
     read_at(Settings::of_crate(), contour)
@@ -35,8 +35,13 @@ fn corners_and_breaks_are_told_apart() {
     assert_eq!(
         hill.runs,
         [
-            Run { segments: 0..2, came: Came::Pieces(2), replaced: vec![(0, 1), (1, 1)] },
-            Run { segments: 2..3, came: Came::Pieces(1), replaced: vec![(2, 2)] },
+            Run {
+                segments: 0..2,
+                came: Came::Pieces(2),
+                replaced: vec![(0, 1), (1, 1)],
+                fell: Fell::default()
+            },
+            copied_run(2..3),
         ]
     );
     // in the order of the result: the last corner first, the implied joint third
@@ -143,10 +148,11 @@ fn the_start_stands_for_the_end_of_the_last_run() {
         segments,
         came: Came::Pieces(pieces),
         replaced: vec![],
+        fell: Fell::default(),
     });
     let hill = Reading { closed: true, corners: vec![0, 2, 3], runs: runs.into(), ..Reading::default() };
     assert_eq!(hill.joins(4), [Join::Corner, Join::Break, Join::Corner, Join::Corner]);
-    let alone = Run { segments: 0..3, came: Came::Pieces(1), replaced: vec![] };
+    let alone = Run { replaced: vec![], ..copied_run(0..3) };
     let one = Reading { closed: true, corners: vec![0], runs: vec![alone], ..Reading::default() };
     assert_eq!(one.joins(1), [Join::Corner]);
 }
@@ -158,10 +164,7 @@ fn nothing_is_lost_in_closed_mode() {
     assert_eq!(hill.replaced(), [(0, 1), (1, 1), (2, 2), (3, 3)]);
     // the start lies within a straight edge, which is the last run
     let square = reading_closed(&[50, 0, 1, 100, 0, 1, 100, 100, 1, 0, 100, 1, 0, 0, 1]);
-    assert_eq!(
-        square.runs.last(),
-        Some(&Run { segments: 4..6, came: Came::Pieces(1), replaced: vec![(4, 0)] })
-    );
+    assert_eq!(square.runs.last(), Some(&Run { replaced: vec![(4, 0)], ..copied_run(4..6) }));
     assert_eq!(square.joins, [Join::Corner; 4]);
     let curve = reading_closed(&[0, 0, 1, 100, 0, 1, 50, 100, 0]);
     assert_eq!(curve.joins, [Join::Corner; 2]);
@@ -170,6 +173,32 @@ fn nothing_is_lost_in_closed_mode() {
     for reading in [hill, square, curve, no_corner] {
         assert_eq!(reading.lost, [0; 0]);
     }
+}
+
+#[test]
+fn runs_whose_lookups_fell() {
+    let high = Settings { penalty: 256, whole_units: true, closed: false };
+    let fell = points(&[-1795, 0, 1, -1794, 0, 1, 143, -4, 0, -3, 7, 1, -1795, -900, 1]);
+    let (reading, result) = read_at(high, &fell);
+    // attempts alone: none of the pieces that were found
+    let falls: Vec<Fell> = reading.runs.iter().map(|run| run.fell).collect();
+    assert_eq!(falls, [Fell { tried: 4, found: 0 }, Fell::default()]);
+    assert_eq!(result.unwrap().fallen, 4);
+    // a refused contour has none, though run 0 is the same
+    let refused = [&fell[..], &points(&[3000, -900, 0, 3000, 2000, 1])].concat();
+    let (reading, result) = read_at(high, &refused);
+    assert_eq!((reading.refused_run(), result), (Some(2), Err(Refusal::TooManyBreaks)));
+    assert_eq!(reading.runs[0].came, Came::Pieces(2));
+    assert!(reading.runs.iter().all(|run| run.fell == Fell::default()));
+    let mut cruncher = Cruncher::new(high);
+    let bent = Chain {
+        pieces: vec![Piece { start: 0, end: 1821, control: (90.0, 0.0) }],
+        score: 0.0,
+        pairs: 1,
+        segments: vec![],
+        fallen: 2,
+    };
+    assert_eq!(super::fell(&mut cruncher, &fell, 0, &bent), Fell { tried: 2, found: 2 });
 }
 
 #[test]

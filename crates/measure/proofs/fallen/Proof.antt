@@ -1,0 +1,19 @@
+-- `measure::fallen` meets its contract. Assumes nothing.
+use mathlib.Core.Path.{sym}
+use Rattle.measure.proofs.fallen.Statement.{statement}
+use Rattle.measure.proofs.fallen.Tie as tie
+
+surely-requires : tie.Need-surely-requires
+surely-requires c κs = tt
+
+returns : tie.Need-returns
+returns c = sym (c .before .surely .ensures (c .if1 .taken) .none)
+
+count-requires : tie.Need-count-requires
+count-requires c κs = tt
+
+returns-2 : tie.Need-returns-2
+returns-2 c = c .count .ensures
+
+pub fallen-spec : {M : Type 1} → statement M
+fallen-spec = tie.close (tie.spec surely-requires returns count-requires returns-2)

@@ -1,0 +1,72 @@
+-- What the functions of the optimiser promise of the rows that they are lent, for any states that these stand for: for the contracts of the functions
+-- that are not public. Definitions only.
+use Prim.Native.Nat.{ℕ, _+_}
+use mathlib.Core.List.{List, _∷_}
+use lib.Ieee.{Float}
+use Rattle.rows.specs.Lent.{Lent, before, after}
+use Rattle.geometry.specs.Geometry.{lineQuad}
+use Rattle.geometry.specs.declared.Quad.{Quad}
+use Rattle.breaks.specs.Breaks.{Row, breakAt}
+use Rattle.optimize.specs.declared.Tried.{Tried}
+use Rattle.optimize.specs.declared.Solved.{Solved}
+use Rattle.optimize.specs.Answers.{Best}
+use Rattle.optimize.specs.Optimize.{Measure, measureBy, States, states, tryQuad, bent, thenBent, tryLineQuad, tryAll, Optimised, tried, splitted, optimizeOf}
+use Rattle.optimize.specs.Fallen.{Fallen, fallenBetween, fellBent, fellThenBent, fellPair, fellAll, fellAfterSplits, fellAfterFirst, fellOf}
+use Rattle.optimize.specs.Stored.{Phase, Room, Into, Rep, Becomes, Solves}
+
+-- the states after a step, and how many lookups fell in it
+abbrev pub Step : Type 0
+Step = List Best → States × ℕ
+
+module _ (samples : List (List Float)) (breaks : Row) (penalty : Float) where
+  abbrev measure : Measure
+  measure = measureBy samples breaks
+
+  abbrev fallen : Fallen
+  fallen = fallenBetween samples breaks
+
+  abbrev pub byQuad : ℕ → ℕ → Quad → Step
+  byQuad i j q st = (tryQuad measure breaks penalty i j q st, fallen i j q)
+
+  abbrev pub byBent : ℕ → ℕ → Step
+  byBent i j st = (bent measure breaks penalty i j st, fellBent measure fallen breaks penalty i j st)
+
+  -- the straight piece, then the bent one
+  abbrev pub byBoth : ℕ → ℕ → Step
+  byBoth i j st =
+      let q = lineQuad (breakAt breaks i .xy) (breakAt breaks j .xy) in
+      let s = tryQuad measure breaks penalty i j q st in
+      (thenBent measure breaks penalty i j s, fallen i j q + fellThenBent measure fallen breaks penalty i j s)
+
+  abbrev pub byPair : ℕ → ℕ → Step
+  byPair i j st = (tryLineQuad measure breaks penalty i j st, fellPair measure fallen breaks penalty i j st)
+
+  abbrev pub byAll : List (ℕ × ℕ) → Step
+  byAll ps st = (tryAll measure breaks penalty ps (states st), fellAll measure fallen breaks penalty ps (states st))
+
+  abbrev pub afterSplitsBy : ℕ → List Best → Optimised × ℕ
+  afterSplitsBy fell st = (splitted measure breaks penalty (states st), fell + fellAfterSplits measure fallen breaks penalty (states st))
+
+  abbrev pub afterFirstBy : ℕ → List Best → Optimised × ℕ
+  afterFirstBy fell st = (tried measure breaks penalty (states st), fell + fellAfterFirst measure fallen breaks penalty (states st))
+
+  abbrev pub runBy : Optimised × ℕ
+  runBy = (optimizeOf measure breaks penalty, fellOf measure fallen breaks penalty)
+
+-- ---- what is left in the rows for answers and links
+
+-- by a step on the pair (i, j), whose answer goes to stored answer k
+abbrev pub Takes : Row → Lent (List Float) → Lent ℕ → ℕ → ℕ → ℕ → Step → Tried → Type 0
+Takes breaks answers links i j k next r =
+    (f : Phase) (n : ℕ) (st : List Best) → Room n breaks (before answers) (before links) → Into f n i j k → Rep f n breaks (before answers) (before links) st →
+    Becomes f n breaks (after answers) (after links) (next st .0) (next st .1) r
+
+-- by many, which lead from the phase f to the phase g
+abbrev pub Leads : Phase → Phase → ℕ → Row → Lent (List Float) → Lent ℕ → Step → Tried → Type 0
+Leads f g n breaks answers links next r =
+    (st : List Best) → Rep f n breaks (before answers) (before links) st → Becomes g n breaks (after answers) (after links) (next st .0) (next st .1) r
+
+-- by all that is left to do from the phase f on
+abbrev pub Ends : Phase → ℕ → Row → Lent (List Float) → Lent ℕ → (List Best → Optimised × ℕ) → Solved → Type 0
+Ends f n breaks answers links end r =
+    (st : List Best) → Rep f n breaks (before answers) (before links) st → Solves breaks (after answers) (after links) (end st .0) (end st .1) r
