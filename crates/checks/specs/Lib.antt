@@ -1,3 +1,4 @@
 pub mod Checks
 pub mod Entry
 pub mod Determine
+pub mod Exactly
