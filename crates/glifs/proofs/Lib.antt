@@ -11,4 +11,7 @@ mod Flags
 mod Whole
 mod Written
 mod Entered
+mod Laid
+mod Lying
+pub mod Rising
 pub mod RoundTrip
