@@ -1,6 +1,17 @@
--- What the proofs of the functions share, and what the export states.
+-- What the proofs of the functions share, what the export states, and what is read of a file that was written.
 mod Reading
 mod Renewing
 mod Stated
 pub mod Separately
 pub mod Back
+mod Point
+mod Contour
+mod Track
+mod Flags
+mod Whole
+mod Written
+mod Entered
+mod Laid
+mod Lying
+pub mod Rising
+pub mod RoundTrip

@@ -19,6 +19,7 @@ use Rattle.glyphs.proofs.Separately.{each, first}
 use Rattle.glifread.specs.Reads.{rooms}
 use Rattle.glifread.specs.Reads as Reads
 use Rattle.glifwrite.specs.Writes.{Given, given}
+use Rattle.glifs.proofs.Rising.{read-belongs}
 use Rattle.glifs.specs.Glifs.{Rooms, readOf, belong, givenOf, renewedIn, crunchGlifOf}
 use Rattle.glifs.specs.Separately.{contoursOf, pointRoom, ContourByContour, WrittenByContours, RefusedByFirst}
 
@@ -73,4 +74,5 @@ pub written-by-contours : WrittenByContours
 written-by-contours r settings bytes g e = by-rooms (r .out) (r .work) (r .points) settings bytes (r .read) g e
 
 pub refused-by-first : RefusedByFirst
-refused-by-first r settings bytes ends xs ys fs k read belongs l = first-by (r .out) (r .work) (r .points) settings bytes (r .read) ends xs ys fs k read belongs l
+refused-by-first r settings bytes ends xs ys fs k read l =
+    first-by (r .out) (r .work) (r .points) settings bytes (r .read) ends xs ys fs k read (read-belongs (r .read) bytes ends xs ys fs read) l

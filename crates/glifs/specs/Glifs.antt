@@ -47,8 +47,8 @@ belong ends count = rising ends && eqb count (countOf ends)
 abbrev pub givenOf : List Points → Given
 givenOf contours = let ps = together contours in given (endsFrom 0 contours) (column 0 ps) (column 1 ps) (flags ps)
 
--- what becomes of contours that were read, with rows of so many places for x, y, flags and points. The reader's rows belong together; that they do is
--- tested all the same, and 1 would be given
+-- what becomes of contours that were read, with rows of so many places for x, y, flags and points. The reader's rows belong together (`ReadBelongs` of
+-- Separately): that is tested all the same, and 1 is never given for it
 abbrev pub renewedOf : Edition.Rooms → Settings → (xs ys flags points : ℕ) → Given → Outcome Given
 renewedOf work settings nx ny nf np (given ends xs ys fs) =
     refuse 1 (not (belong ends (length xs)))

@@ -1,4 +1,4 @@
--- A file that is crunched, contour by contour: the statements. Proofs are in proofs/Separately.antt. Definitions only.
+-- A file that is crunched, contour by contour: the statements. Proofs are in proofs/Separately.antt and proofs/Rising.antt. Definitions only.
 use Prim.Native.Nat.{ℕ}
 use mathlib.Core.Bool.{true}
 use mathlib.Core.List.{List}
@@ -34,9 +34,14 @@ abbrev pub WrittenByContours : Type 0
 WrittenByContours =
     (r : Rooms) (settings : Settings) (bytes : List ℕ) (g : Given) → crunchGlifOf r settings bytes ≡ done g → ContourByContour r settings bytes g
 
+-- the rows that are read belong together: the ends rise, and the last of them is that of the last point
+abbrev pub ReadBelongs : Type 0
+ReadBelongs =
+    (n : Reads.Rooms) (bytes ends : List ℕ) (xs ys : List ℤ) (fs : List ℕ) → readOf n bytes ≡ done (given ends xs ys fs) → belong ends (length xs) ≡ true
+
 -- the first contour that is refused refuses the file by its number
 abbrev pub RefusedByFirst : Type 0
 RefusedByFirst =
     (r : Rooms) (settings : Settings) (bytes : List ℕ) (ends : List ℕ) (xs ys : List ℤ) (fs : List ℕ) (k : ℕ) →
-    readOf (r .read) bytes ≡ done (given ends xs ys fs) → belong ends (length xs) ≡ true →
+    readOf (r .read) bytes ≡ done (given ends xs ys fs) →
     FirstRefused (r .work) settings k (pointRoom (r .read) (r .points)) (contoursFrom 0 ends xs ys fs) → crunchGlifOf r settings bytes ≡ refused k

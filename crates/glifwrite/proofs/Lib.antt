@@ -3,3 +3,4 @@ mod Putting
 mod Copying
 mod Stated
 pub mod Outside
+pub mod Texts

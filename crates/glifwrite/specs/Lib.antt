@@ -4,4 +4,5 @@ pub mod Writes
 pub mod Entry
 pub mod Determine
 pub mod Outside
+pub mod Texts
 pub mod Worked

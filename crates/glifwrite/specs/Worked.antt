@@ -22,7 +22,7 @@ use Rattle.glifwrite.specs.Contours.{isOn, endAt, startOf, putPlace, put
 use Rattle.glifwrite.specs.Writes.{Given, given, copyOn, copyTo, writeAll, numberOf, reportOf, answerOf, leftIn}
 
 -- <glyph><outline><contour><point x="0" y="0" type="line"/></contour></outline></glyph>
-abbrev file : List ℕ
+abbrev pub file : List ℕ
 file =
     60 ∷ 103 ∷ 108 ∷ 121 ∷ 112 ∷ 104 ∷ 62 ∷ 60 ∷ 111 ∷ 117 ∷ 116 ∷ 108 ∷ 105 ∷ 110 ∷ 101 ∷ 62 ∷ 60 ∷ 99 ∷ 111 ∷ 110 ∷ 116 ∷ 111 ∷ 117 ∷ 114 ∷
     62 ∷ 60 ∷ 112 ∷ 111 ∷ 105 ∷ 110 ∷ 116 ∷ 32 ∷ 120 ∷ 61 ∷ 34 ∷ 48 ∷ 34 ∷ 32 ∷ 121 ∷ 61 ∷ 34 ∷ 48 ∷ 34 ∷ 32 ∷ 116 ∷ 121 ∷ 112 ∷ 101 ∷
@@ -30,7 +30,7 @@ file =
     108 ∷ 105 ∷ 110 ∷ 101 ∷ 62 ∷ 60 ∷ 47 ∷ 103 ∷ 108 ∷ 121 ∷ 112 ∷ 104 ∷ 62 ∷ []
 
 -- (1, -20) on-curve, (3, 40) off-curve
-abbrev points : Given
+abbrev pub points : Given
 points = given (1 ∷ []) (pos 1 ∷ pos 3 ∷ []) (negsuc 19 ∷ pos 40 ∷ []) (1 ∷ 0 ∷ [])
 
 -- <glyph><outline><contour><point x="1" y="-20" type="qcurve"/><point x="3" y="40"/></contour></outline></glyph>
