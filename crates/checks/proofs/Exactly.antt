@@ -1,4 +1,4 @@
--- What a no and an 8 of the checker's entry say. Assumes nothing.
+-- What a yes, a no and an 8 of the checker's entry say. Assumes nothing.
 use Prim.Native.Nat.{ℕ}
 use native.Mathlib.Omega.{arith}
 use mathlib.Core.Bool.{Bool, true, false, not}
@@ -33,7 +33,7 @@ use Rattle.edition.specs.Edition.{Rooms, answerRoom}
 use Rattle.edition.specs.Scratch.{roomsOf}
 use Rattle.checks.specs.Checks.{Given, verdictOf, unlessShort, ofSurvey, ofRun, afterJudging}
 use Rattle.checks.specs.Checks as Checks
-use Rattle.checks.specs.Exactly.{Reached, Unmeasured, Denied, Unsettled, NoExactly, EightExactly}
+use Rattle.checks.specs.Exactly.{Reached, Unmeasured, Accepted, Denied, Unsettled, YesExactly, NoExactly, EightExactly}
 use Rattle.checks.specs.declared.Verdict as D
 use Rattle.checks.specs.declared.Verdict.the-variants as Verdict
 
@@ -174,6 +174,25 @@ module _ (rooms : Rooms) (settings : Settings) (xs ys : List ℤ) (fs : List ℕ
   unfolding Checks.checkOf
   reached-says r = rw (r .fine, r .run, r .survey, le-ltb half (length (r .breaks)) (r .room)) refl
 
+  -- ---- yes
+
+  yes-of : (x : Checked) → verdictOf x ≡ Verdict.Yes → x ≡ Checked.Yes
+  yes-of Checked.Last e = absurd (omega (arith, ap number e))
+  yes-of Checked.Yes e = refl
+  yes-of Checked.No e = absurd (omega (arith, ap number e))
+
+  obeys : (samples : List Sample) (breaks : Row) → said samples breaks penalty c ≡ Checked.Yes →
+      Valid samples breaks penalty (c .starts) (c .ends) (c .xs) (c .ys) (c .score)
+  obeys samples breaks e = valid-exactly samples breaks penalty (c .starts) (c .ends) (c .xs) (c .ys) (c .score) .0 e
+
+  yes-by : {v : D.Verdict} → Way v → v ≡ Verdict.Yes → Accepted rooms settings xs ys fs k c
+  yes-by (judged-so n j) e = absurd (let z : _≡_ {A = ℕ} 0 1 = cc in omega arith)
+  yes-by no-run e = absurd (omega (arith, ap number e))
+  yes-by (unsurveyed first count n s) e = absurd (let z : _≡_ {A = ℕ} 0 1 = cc in omega arith)
+  yes-by (past first count s) e = absurd (omega (arith, ap number e))
+  yes-by short e = absurd (omega (arith, ap number e))
+  yes-by (checked r) e = record { at = r; valid = obeys (r .samples) (r .breaks) (yes-of _ e) }
+
   -- ---- no
 
   no-of : (x : Checked) → verdictOf x ≡ Verdict.No → x ≡ Checked.No
@@ -217,6 +236,15 @@ module _ (rooms : Rooms) (settings : Settings) (xs ys : List ℤ) (fs : List ℕ
     eight-by (past first count s) e = absurd (not-past (answered (rooms .samples) (rooms .breaks) xs ys fs first count (gridOf settings) sx sy) s)
     eight-by short e = absurd (omega (arith, ap number e))
     eight-by (checked r) e = record { at = r; unmeasured = last-unmeasured (r .samples) (r .breaks) penalty c (eight-of _ e) }
+
+pub accepts-exactly : YesExactly
+accepts-exactly xs ys fs settings k c w = (
+  yes-by (roomsOf w) settings xs ys fs k c (way (roomsOf w) settings xs ys fs k c),
+  λ a.
+      reached-says (roomsOf w) settings xs ys fs k c (a .at)
+      ∙ ap verdictOf
+      (valid-exactly (a .at .samples) (a .at .breaks) (penaltyOf settings) (c .starts) (c .ends) (c .xs) (c .ys) (c .score) .1 (a .valid)),
+)
 
 pub no-exactly : NoExactly
 no-exactly xs ys fs settings k c w = (

@@ -1,3 +1,3 @@
--- What the proofs share; and, for a reader, what a no and an 8 say.
+-- What the proofs share; and, for a reader, what a yes, a no and an 8 say.
 mod Steps
 pub mod Exactly

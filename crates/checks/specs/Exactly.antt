@@ -1,4 +1,4 @@
--- What the checker's entry says, exactly when: yes stands in Determine; here no, and 8. Definitions and statements; the theorems stand in proofs/Exactly.
+-- What the checker's entry says, exactly when: yes, no, and 8. Definitions and statements; the theorems stand in proofs/Exactly.
 use Prim.Native.Nat.{ℕ, _≤_}
 use mathlib.Core.Bool.{true}
 use mathlib.Core.List.{List}
@@ -46,7 +46,12 @@ pub record Unmeasured (samples : List Sample) (breaks : Row) (penalty : Float) (
   pub refused : sumOf samples breaks penalty (chainOf (c .starts) (c .ends) (c .xs) (c .ys)) ≡ Summed.Last
 
 module _ (rooms : Rooms) (settings : Settings) (xs ys : List ℤ) (fs : List ℕ) (k : ℕ) (c : Given) where
-  -- the chain does not obey the user's rule, and none of its measures is refused
+  -- the chain obeys the user's rule (chain/specs/Rule.antt)
+  pub record Accepted : Type 0 where
+    pub at : Reached rooms settings xs ys fs k
+    pub valid : Valid (at .samples) (at .breaks) (penaltyOf settings) (c .starts) (c .ends) (c .xs) (c .ys) (c .score)
+
+  -- the chain does not obey it, and none of its measures is refused
   pub record Denied : Type 0 where
     pub at : Reached rooms settings xs ys fs k
     pub invalid : Valid (at .samples) (at .breaks) (penaltyOf settings) (c .starts) (c .ends) (c .xs) (c .ys) (c .score) → ⊥
@@ -55,6 +60,12 @@ module _ (rooms : Rooms) (settings : Settings) (xs ys : List ℤ) (fs : List ℕ
   pub record Unsettled : Type 0 where
     pub at : Reached rooms settings xs ys fs k
     pub unmeasured : Unmeasured (at .samples) (at .breaks) (penaltyOf settings) c
+
+-- yes exactly then
+abbrev pub YesExactly : Type 0
+YesExactly =
+    (xs ys : List ℤ) (fs : List ℕ) (settings : Settings) (k : ℕ) (c : Given) (w : Work) →
+    (wholeOf (inputs xs ys fs) settings k c w .verdict ≡ Verdict.Yes) ↔ Accepted (roomsOf w) settings xs ys fs k c
 
 -- no exactly then
 abbrev pub NoExactly : Type 0
