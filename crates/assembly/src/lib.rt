@@ -125,7 +125,8 @@ fn work_run(
     points: &mut [[i16; 3]],
 ) -> Crunching
     requires { ⌜ Upto 1024 (p .tally) ⌝ }
-    ensures { λ r. ⌜ Adds (added (unchangedIn (before xs) (before ys) (before flags) (settings .closed)) (resultOf (roomsIn samples breaks answers links) settings
+    ensures { λ r. ⌜ Adds (added (unchangedIn (before xs) (before ys) (before flags) (settings .closed))
+        (resultOf (roomsIn samples breaks answers links) settings
         (before xs) (before ys) (before flags) (record { first = first; count = count }))) points p r ⌝ }
 {
     let s = survey::survey(

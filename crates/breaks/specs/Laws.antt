@@ -117,11 +117,13 @@ module _ (g : Grid) where
   fewer is-past = is-past
 
   module _ (room : ℕ) where
-    joins-if : (t : Bool) {least : ℕ} {row : Row} (d : Float) (b : Break) (dist : Float) → Made room least row → Brought g (b .xy) → Finds room least (joinedIf t room row d b dist)
+    joins-if : (t : Bool) {least : ℕ} {row : Row} (d : Float) (b : Break) (dist : Float) → Made room least row → Brought g (b .xy) →
+        Finds room least (joinedIf t room row d b dist)
     joins-if true d b dist m f = fewer (opens-one m b f dist)
     joins-if false d b dist m f = replaces m b f (lt dist d) d
 
-    joins : {least : ℕ} {row : Row} (d : Float) (b : Break) (dist : Float) → Made room least row → Brought g (b .xy) → Finds room least (joinOf room row d b dist)
+    joins : {least : ℕ} {row : Row} (d : Float) (b : Break) (dist : Float) → Made room least row → Brought g (b .xy) →
+        Finds room least (joinOf room row d b dist)
     unfolding joinOf
     joins {row = row} d b dist m f = joins-if (opens row (b .xy)) d b dist m f
 
@@ -235,6 +237,7 @@ module _ (room more : ℕ) (h : room ≤ more) where
   result-same same short = refl
 
   -- the breaks of a run
-  pub breaks-same : (samples : List (List Float)) (g : Grid) (len : Float) → (breaksOf room samples g len ≡ refused 7 → ⊥) → breaksOf more samples g len ≡ breaksOf room samples g len
+  pub breaks-same : (samples : List (List Float)) (g : Grid) (len : Float) → (breaksOf room samples g len ≡ refused 7 → ⊥) →
+      breaksOf more samples g len ≡ breaksOf room samples g len
   unfolding breaksOf
   breaks-same samples g len short = result-same (walk-alike (suc (placesOf len)) (placeOf samples g len) 0 {f = so [] nil} same) short

@@ -53,7 +53,8 @@ module _ (samples : List (List Float)) (breaks : Row) (penalty : Float) where
     refused true e = (refl, no-sum (sumOf samples breaks penalty ps) e)
 
     -- 8 exactly when the shape is good and a measure of the sum is refused
-    pub refuses-exactly : (checkOf samples breaks penalty ps score ≡ Checked.Last) ↔ ((goodShape breaks ps ≡ true) × (sumOf samples breaks penalty ps ≡ Summed.Last))
+    pub refuses-exactly : (checkOf samples breaks penalty ps score ≡ Checked.Last) ↔
+        ((goodShape breaks ps ≡ true) × (sumOf samples breaks penalty ps ≡ Summed.Last))
     unfolding checkOf
     refuses-exactly = (refused (goodShape breaks ps), λ h. rw (h .0, h .1))
 

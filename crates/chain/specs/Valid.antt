@@ -162,4 +162,5 @@ checkedIf false c = Checked.No
 checkedIf true c = c
 
 unfoldable pub checkRows : List (List Float) → Row → Float → List ℕ → List ℕ → List Float → List Float → Float → Checked
-checkRows samples breaks penalty starts ends xs ys score = checkedIf (evenRows starts ends xs ys) (checkOf samples breaks penalty (chainOf starts ends xs ys) score)
+checkRows samples breaks penalty starts ends xs ys score =
+    checkedIf (evenRows starts ends xs ys) (checkOf samples breaks penalty (chainOf starts ends xs ys) score)

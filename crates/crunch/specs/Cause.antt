@@ -1,5 +1,5 @@
--- A contour is left unchanged, in the crate's mode, for one cause: a worked run has no answer at its last break after its first pair, and no run before it is refused. The
--- theorems, `ends-unchanged`, `comes-out` and `one-cause`, stand in proofs/Cause.antt. Definitions only.
+-- A contour is left unchanged, in the crate's mode, for one cause: a worked run has no answer at its last break after its first pair, and no run before it
+-- is refused. The theorems, `ends-unchanged`, `comes-out` and `one-cause`, stand in proofs/Cause.antt. Definitions only.
 use Prim.Native.Nat.{ℕ}
 use mathlib.Core.Bool.{false}
 use mathlib.Core.List.{List, _∷_}

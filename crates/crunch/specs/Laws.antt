@@ -25,7 +25,8 @@ use Rattle.edition.specs.Laws.{Within, work-same}
 use Rattle.edition.specs.Scratch.{roomsOf}
 use Rattle.contour.specs.Points.{Points}
 use Rattle.contour.specs.Laws.{finished-shorter}
-use Rattle.assembly.specs.Assembly.{State, ended, going, added, closedUp, itself, resultOf, runIf, afterRun, onward, crunchAll, crunchRound, crunchIn, crunchRuns}
+use Rattle.assembly.specs.Assembly.{State, ended, going, added, closedUp, itself, resultOf, runIf, afterRun, onward}
+use Rattle.assembly.specs.Assembly.{crunchAll, crunchRound, crunchIn, crunchRuns}
 use Rattle.assembly.specs.Assembly as State
 use Rattle.crunch.specs.Crunch.{Outcome, crunched, overIf, outcomeOf, afterJudging, crunchOf}
 use Rattle.crunch.specs.Crunch as Outcome
@@ -53,7 +54,8 @@ pub points-within : (i : Inputs) (settings : Settings) (t : Rows) → pointsIn (
 unfolding crunchOf
 points-within (inputs xs ys fs) settings t =
     let runs = crunchRuns (roomsOf (t .work)) settings xs ys fs in
-    judged-within (pointRoom t) (judgedFor settings xs ys fs) (outcomeOf (settings .closed) (pointRoom t) runs) (state-within (settings .closed) (pointRoom t) runs)
+    judged-within (pointRoom t) (judgedFor settings xs ys fs) (outcomeOf (settings .closed) (pointRoom t) runs)
+    (state-within (settings .closed) (pointRoom t) runs)
 
 -- ---- refusal 3
 
@@ -140,7 +142,8 @@ module _ (closed : Bool) (room room' : ℕ) (more : room ≤ room') where
       let few : length ps ≤ room = ltb-false room (length ps) t in
       rw (le-ltb room' (length ps) (omega arith)) refl
 
-  outcome-same : (s s' : State) → (shortState s ≡ false → s' ≡ s) → short (outcomeOf closed room s) ≡ false → outcomeOf closed room' s' ≡ outcomeOf closed room s
+  outcome-same : (s s' : State) → (shortState s ≡ false → s' ≡ s) → short (outcomeOf closed room s) ≡ false →
+      outcomeOf closed room' s' ≡ outcomeOf closed room s
   outcome-same (State.refused k) s' same e = ap (outcomeOf closed room') (same e)
   outcome-same (ended ps tally) s' same e = ap (outcomeOf closed room') (same refl) ∙ over-same ps tally _ refl e
   outcome-same (going ps tally) s' same e = ap (outcomeOf closed room') (same refl) ∙ over-same ps tally _ refl e

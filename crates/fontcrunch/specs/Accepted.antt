@@ -138,12 +138,15 @@ module _ (rooms : Rooms) (room : ℕ) (settings : Settings) (xs ys : List ℤ) (
   accepted-number Nothing e = no-chain e
   accepted-number (Between first count) e = accepted-run first count e
 
-  pub accepted-chain : (k : ℕ) → chainOf rooms room settings xs ys fs k ≡ chained ps score t → checkOf rooms settings xs ys fs (given ps score) k .verdict ≡ Verdict.Yes
+  pub accepted-chain : (k : ℕ) → chainOf rooms room settings xs ys fs k ≡ chained ps score t →
+      checkOf rooms settings xs ys fs (given ps score) k .verdict ≡ Verdict.Yes
   unfolding chainOf checkOf
   accepted-chain k e = by (judgedFor settings xs ys fs) e
     where
       by : (j : Judged) → Chains.afterJudging j (Chains.ofRun rooms room settings xs ys fs (numberedRun (settings .closed) xs ys fs k)) ≡ chained ps score t →
-          Checks.afterJudging j (Checks.ofRun half settings (given ps score) (rooms .samples) (rooms .breaks) xs ys fs (numberedRun (settings .closed) xs ys fs k)) .verdict ≡ Verdict.Yes
+          Checks.afterJudging j
+          (Checks.ofRun half settings (given ps score) (rooms .samples) (rooms .breaks) xs ys fs (numberedRun (settings .closed) xs ys fs k))
+          .verdict ≡ Verdict.Yes
       by (Judged.Refused n) f = no-chain f
       by Judged.Fine f = accepted-number (numberedRun (settings .closed) xs ys fs k) f
 

@@ -44,7 +44,8 @@ module _ {i : Inputs} {settings : Settings} {k : ℕ} {c : Chains.LentChain} {w 
 
   pieces-are : (o : Outcome) → whole ≡ o → r .pieces ≡ Chains.report (Chains.answerOf o) .pieces
   pieces-are o e =
-      ap (λ (x : ChainReport). x .pieces) (said .shown .is) ∙ ap (λ (a : Chained). Chains.report a .pieces) (said .shown .promise .answer ∙ ap Chains.answerOf e)
+      ap (λ (x : ChainReport). x .pieces) (said .shown .is)
+      ∙ ap (λ (a : Chained). Chains.report a .pieces) (said .shown .promise .answer ∙ ap Chains.answerOf e)
 
   accepted-by : (ps : List Piece) (s : Float) (t : Tally) → whole ≡ chained ps s t → asked .answer .verdict ≡ Verdict.Yes
   accepted-by ps s t e =
@@ -53,7 +54,8 @@ module _ {i : Inputs} {settings : Settings} {k : ℕ} {c : Chains.LentChain} {w 
       let bits : r .«score_bits» ≡ toBits binary64 s =
       ap (λ (x : ChainReport). x .«score_bits») (said .shown .is) ∙ ap (λ (a : Chained). toBits binary64 (Chains.report a .score)) answer in
       let score : ofBits binary64 (r .«score_bits») ≡ s = ap (ofBits binary64) bits ∙ ofBits-toBits binary64 s fit in
-      let given : givenBy (placesOf (r .pieces) (c .exit)) (ofBits binary64 (r .«score_bits»)) ≡ givenBy (placesOf (length ps) (Chains.rowsOf whole breaks (c .entry))) s =
+      let given : givenBy (placesOf (r .pieces) (c .exit)) (ofBits binary64 (r .«score_bits»))
+      ≡ givenBy (placesOf (length ps) (Chains.rowsOf whole breaks (c .entry))) s =
       rw (pieces-are (chained ps s t) e, said .shown .promise .rows, score) refl in
       ap (λ (v : Ruling). v .verdict) (asked .promise .ruling)
       ∙ ap (λ (g : Given). Checks.wholeOf i settings k g (w' .entry) .verdict) given

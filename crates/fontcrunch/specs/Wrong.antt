@@ -137,7 +137,8 @@ never-yes half penalty score Survey.past e = let z : _≡_ {A = ℕ} 0 1 = cc in
 never-yes half penalty score (Survey.surveyed samples breaks) e = by (ltb half (length breaks)) e
   where
     by : (b : Bool) → Checks.unlessShort b
-        (Checks.ruling (Checks.verdictOf (Valid.checkRows samples breaks penalty [] [] [] [] score)) (fallenRows samples breaks penalty [] [] [] [])) .verdict ≡ Verdict.Yes → ⊥
+        (Checks.ruling (Checks.verdictOf (Valid.checkRows samples breaks penalty [] [] [] [] score))
+        (fallenRows samples breaks penalty [] [] [] [])) .verdict ≡ Verdict.Yes → ⊥
     by true f = let z : _≡_ {A = ℕ} 0 1 = cc in absurd (omega arith)
     by false f =
         let g : Verdict.No ≡ Verdict.Yes = rw (no-piece-no samples breaks penalty score) at f in
@@ -148,7 +149,8 @@ never-yes half penalty score (Survey.surveyed samples breaks) e = by (ltb half (
 pub says-always-yes : (f : Inputs → ℕ → Given → Ruling) → ((i : Inputs) (k : ℕ) (c : Given) → f i k c ≡ checkWhole i k c) →
     (i : Inputs) (k : ℕ) (score : Float) → f i k (noPiece score) .verdict ≡ Verdict.Yes → ⊥
 unfolding checkOf
-says-always-yes f right (inputs xs ys fs) k score e = judging (judgedFor crateSettings xs ys fs) (ap (λ (v : Ruling). v .verdict) (sym (right (inputs xs ys fs) k (noPiece score))) ∙ e)
+says-always-yes f right (inputs xs ys fs) k score e =
+    judging (judgedFor crateSettings xs ys fs) (ap (λ (v : Ruling). v .verdict) (sym (right (inputs xs ys fs) k (noPiece score))) ∙ e)
   where
     says : Run → Ruling
     says r = Checks.ofRun (answerRoom 4096 4096) crateSettings (noPiece score) 16384 2048 xs ys fs r

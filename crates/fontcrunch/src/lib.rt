@@ -217,8 +217,8 @@ pub extern "C" fn fontcrunch_check(
     answers: &mut [[f64; 3]],
     links: &mut [u32],
 ) -> CheckReport
-    ensures { λ r. ⌜ Shown checkReport (Checks.Promise (contour xs ys flags) (settingsOf penalty «whole_units» closed) k (Checks.given starts ends cxs cys score)
-        (scratch samples breaks answers links)) r ⌝ }
+    ensures { λ r. ⌜ Shown checkReport (Checks.Promise (contour xs ys flags) (settingsOf penalty «whole_units» closed) k
+        (Checks.given starts ends cxs cys score) (scratch samples breaks answers links)) r ⌝ }
 {
     check_report(checks::check_chain(
         xs,

@@ -29,7 +29,8 @@ pub extern "C" fn fontcrunch_crunch_glyph(
     points: &mut [[i16; 3]],
 ) -> GlyphWriteReport
     ensures { λ r. ⌜ Shown report
-        (Promise (before bytes) (settingsOf penalty «whole_units» closed) (rows out (filled ends xs ys flags instructions) (scratch samples breaks answers links) points)) r ⌝ }
+        (Promise (before bytes) (settingsOf penalty «whole_units» closed)
+        (rows out (filled ends xs ys flags instructions) (scratch samples breaks answers links) points)) r ⌝ }
 {
     glyfwrite::report_of(crunch_glyph(
         bytes,

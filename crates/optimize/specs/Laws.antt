@@ -12,7 +12,9 @@ use Rattle.breaks.specs.Breaks.{Row}
 use Rattle.optimize.specs.declared.Solved as S
 use Rattle.optimize.specs.declared.Solved.the-variants as Solved
 use Rattle.optimize.specs.Answers.{Answer, scoreOf, Best, none, best}
-use Rattle.optimize.specs.Optimize.{Measure, bestAt, States, refused, states, tryLineQuad, tryAll, splitsFrom, splits, falling, searchFrom, search, Optimised, refused8, unchanged, solved, pairsAfterSplits, pairsAfterSearch, ended, chosenIf, goOn, searched, splitted, tried, optimizeOf}
+use Rattle.optimize.specs.Optimize.{Measure, bestAt, States, refused, states, tryLineQuad, tryAll, splitsFrom, splits, falling, searchFrom, search}
+use Rattle.optimize.specs.Optimize.{Optimised, refused8, unchanged, solved, pairsAfterSplits, pairsAfterSearch, ended, chosenIf, goOn}
+use Rattle.optimize.specs.Optimize.{searched, splitted, tried, optimizeOf}
 use Rattle.optimize.specs.Stored.{Solves, lost, stays, found}
 
 splits-count : (k i n : ℕ) → length (splitsFrom k i n) ≡ 2 * k
@@ -33,7 +35,8 @@ search-count : (k i : ℕ) → 2 * length (searchFrom k i) + k ≡ k * (2 * i + 
 unfolding searchFrom
 search-count zero i = omega (arith, zero-mul (2 * i + 0))
 search-count (suc k) i =
-    let here : length (falling i i ++ searchFrom k (i + 1)) ≡ i + length (searchFrom k (i + 1)) = length-append (falling i i) (searchFrom k (i + 1)) ∙ ap (λ (a : ℕ). a + length (searchFrom k (i + 1))) (falling-count i i) in
+    let here : length (falling i i ++ searchFrom k (i + 1)) ≡ i + length (searchFrom k (i + 1)) =
+    length-append (falling i i) (searchFrom k (i + 1)) ∙ ap (λ (a : ℕ). a + length (searchFrom k (i + 1))) (falling-count i i) in
     let later = search-count k (i + 1) in
     let wide : k * (2 * (i + 1) + k) ≡ k * (2 * i + k) + k * 2 =
     ap (λ (a : ℕ). k * a) (rearranged i k) ∙ mul-add k (2 * i + k) 2 in
@@ -98,7 +101,9 @@ module _ (measure : Measure) (breaks : Row) (penalty : Float) where
 
   after-splits : (s : States) → Counted last (splitted measure breaks penalty s)
   after-splits refused = tt
-  after-splits (states st) = goes-on _ (pairsAfterSplits measure breaks penalty) (bestAt st last) _ (inr (inl (rw (split-pairs last) refl))) (after-search (tryAll measure breaks penalty (search last) (states st)))
+  after-splits (states st) =
+      goes-on _ (pairsAfterSplits measure breaks penalty) (bestAt st last) _ (inr (inl (rw (split-pairs last) refl)))
+      (after-search (tryAll measure breaks penalty (search last) (states st)))
 
   after-first : (s : States) → Counted last (tried measure breaks penalty s)
   after-first refused = tt

@@ -143,7 +143,8 @@ module _ (measure : Measure) (breaks : Row) (penalty : Float) where
   -- if the last score > 4.0 penalties, (j, i)
   abbrev pub splitted : States → Optimised
   splitted refused = refused8
-  splitted (states st) = goOn (mul binary64 four penalty) pairsAfterSplits (bestAt st lastBreak) (searched (tryAll measure breaks penalty (search lastBreak) (states st)))
+  splitted (states st) =
+      goOn (mul binary64 four penalty) pairsAfterSplits (bestAt st lastBreak) (searched (tryAll measure breaks penalty (search lastBreak) (states st)))
 
   -- if the last score > 3.0 penalties, (0, i) and (i, n)
   abbrev pub tried : States → Optimised

@@ -10,7 +10,8 @@ use Rattle.breaks.specs.Breaks.{Row, breakAt}
 use Rattle.optimize.specs.declared.Tried.{Tried}
 use Rattle.optimize.specs.declared.Solved.{Solved}
 use Rattle.optimize.specs.Answers.{Best}
-use Rattle.optimize.specs.Optimize.{Measure, measureBy, States, states, tryQuad, bent, thenBent, tryLineQuad, tryAll, Optimised, tried, splitted, optimizeOf}
+use Rattle.optimize.specs.Optimize.{Measure, measureBy, States, states, tryQuad, bent, thenBent, tryLineQuad, tryAll}
+use Rattle.optimize.specs.Optimize.{Optimised, tried, splitted, optimizeOf}
 use Rattle.optimize.specs.Fallen.{Fallen, fallenBetween, fellBent, fellThenBent, fellPair, fellAll, fellAfterSplits, fellAfterFirst, fellOf}
 use Rattle.optimize.specs.Stored.{Phase, Room, Into, Rep, Becomes, Solves}
 

@@ -23,7 +23,8 @@ record Found (room : ℕ) (g : Grid) (row : Row) : Type 0 where
   len : Float
   found : breaksOf room samples g len ≡ Breaks.breaks row
 
-searched-found : (room : ℕ) (g : Grid) (samples s : List Sample) (len : Float) (row : Row) (x : Result) → breaksOf room samples g len ≡ x → searched samples x ≡ surveyed s row → Found room g row
+searched-found : (room : ℕ) (g : Grid) (samples s : List Sample) (len : Float) (row : Row) (x : Result) → breaksOf room samples g len ≡ x →
+    searched samples x ≡ surveyed s row → Found room g row
 searched-found room g samples s len row (Breaks.breaks b) e h =
     let same : b ≡ row = cc in
     record { samples = samples; len = len; found = e ∙ ap Breaks.breaks same }
@@ -51,7 +52,8 @@ module _ (sampleRow breakRow : ℕ) (xs ys : List ℤ) (fs : List ℕ) (first co
 
 -- ---- longer rows
 
-module _ (sampleRow breakRow sampleRow' breakRow' : ℕ) (hs : sampleRow ≤ sampleRow') (hb : breakRow ≤ breakRow') (xs ys : List ℤ) (fs : List ℕ) (first count : ℕ) (g : Grid) where
+module _ (sampleRow breakRow sampleRow' breakRow' : ℕ) (hs : sampleRow ≤ sampleRow') (hb : breakRow ≤ breakRow') (xs ys : List ℤ) (fs : List ℕ)
+    (first count : ℕ) (g : Grid) where
   sampled-same : (x : Run) → thetasOf (sampleRoom sampleRow) (quadsOf xs ys fs first count) ≡ x →
       (afterSampling (breakRoom breakRow) g x ≡ refused 6 → ⊥) → (afterSampling (breakRoom breakRow) g x ≡ refused 7 → ⊥) →
       afterSampling (breakRoom breakRow') g (thetasOf (sampleRoom sampleRow') (quadsOf xs ys fs first count)) ≡ afterSampling (breakRoom breakRow) g x
@@ -61,7 +63,8 @@ module _ (sampleRow breakRow sampleRow' breakRow' : ℕ) (hs : sampleRow ≤ sam
       (ap (searched samples) (breaks-same (breakRoom breakRow) (breakRoom breakRow') (omega arith) samples g len (λ e. seven (ap (searched samples) e))))
 
   -- the survey of a run
-  pub survey-same : (surveyOf sampleRow breakRow xs ys fs first count g ≡ refused 6 → ⊥) → (surveyOf sampleRow breakRow xs ys fs first count g ≡ refused 7 → ⊥) →
+  pub survey-same : (surveyOf sampleRow breakRow xs ys fs first count g ≡ refused 6 → ⊥) →
+      (surveyOf sampleRow breakRow xs ys fs first count g ≡ refused 7 → ⊥) →
       surveyOf sampleRow' breakRow' xs ys fs first count g ≡ surveyOf sampleRow breakRow xs ys fs first count g
   unfolding surveyOf
   survey-same six seven = sampled-same _ refl six seven

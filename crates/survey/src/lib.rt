@@ -43,7 +43,8 @@ pub fn survey(
     samples: &mut [[f64; 4]],
     breaks: &mut [[f64; 6]],
 ) -> Surveyed
-    ensures rows { λ r. ⌜ surveyOf (length (now (samples .entry))) (length (now (breaks .entry))) (now (xs .entry)) (now (ys .entry)) (now (flags .entry)) first count g
+    ensures rows { λ r. ⌜ surveyOf (length (now (samples .entry))) (length (now (breaks .entry)))
+        (now (xs .entry)) (now (ys .entry)) (now (flags .entry)) first count g
         ≡ surveyIn (now (samples .exit)) (now (breaks .exit)) r ⌝ }
     ensures samples { λ r. ⌜ samplesUsed r ≤ length (now (samples .entry)) ⌝ }
     ensures breaks { λ r. ⌜ breaksUsed r ≤ length (now (breaks .entry)) ⌝ }
