@@ -16,8 +16,8 @@ use Rattle.lines.specs.Text.{Put, decimalOf}
 use Rattle.lines.specs.Line.{Point, parsedOf}
 use Rattle.lines.specs.Answer.{okText, refusedText}
 use Rattle.answering.specs.declared.Order.{Order}
-use Rattle.answering.specs.declared.Tried as T
-use Rattle.answering.specs.declared.Tried.the-variants as Tried
+use Rattle.answering.specs.declared.Fit as T
+use Rattle.answering.specs.declared.Fit.the-variants as Fit
 
 -- ` fallen `
 abbrev pub fallenWord : List ℕ
@@ -59,6 +59,6 @@ unfoldable pub lineText : Order → List ℕ → List ℕ
 lineText o line = parsedText (o .settings) (o .told) (parsedOf line)
 
 -- text put; or nothing, where the rows are too short
-abbrev pub Tries : List ℕ → ℕ → List ℕ → List ℕ → T.Tried → Type 0
-Tries out at text out' (Tried.Put r) = Put out at text out' r
-Tries out at text out' Tried.Short = out' ≡ out
+abbrev pub Tries : List ℕ → ℕ → List ℕ → List ℕ → T.Fit → Type 0
+Tries out at text out' (Fit.Put r) = Put out at text out' r
+Tries out at text out' Fit.Short = out' ≡ out

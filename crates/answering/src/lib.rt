@@ -17,7 +17,7 @@ pub struct Order {
 }
 
 // What becomes of a contour in rows that may be too short for it.
-pub enum Tried {
+pub enum Fit {
     // the place after the answer
     Put(usize),
     // refused for want of room: nothing is put
@@ -117,7 +117,7 @@ fn put_small(
     flags: &[u8],
     settings: Settings,
     told: bool,
-) -> Tried
+) -> Fit
     ensures { λ r. ⌜ Tries (now (text .entry)) at (answerText settings told (now (xs .entry)) (now (ys .entry)) (now (flags .entry))) (now (text .exit)) r ⌝ }
 {
     let mut ox = [0i16; 1024];
@@ -143,9 +143,9 @@ fn put_small(
         &mut points,
     );
     if is_short(c) {
-        return Tried::Short;
+        return Fit::Short;
     }
-    Tried::Put(put_outcome(text, at, told, c, &ox, &oy, &of))
+    Fit::Put(put_outcome(text, at, told, c, &ox, &oy, &of))
 }
 
 fn gap(a: i16, b: i16) -> f64 {
@@ -189,8 +189,8 @@ fn put_crunched(
         return put_full(text, at, xs, ys, flags, settings, told);
     }
     match put_small(text, at, xs, ys, flags, settings, told) {
-        Tried::Put(end) => end,
-        Tried::Short => put_full(text, at, xs, ys, flags, settings, told),
+        Fit::Put(end) => end,
+        Fit::Short => put_full(text, at, xs, ys, flags, settings, told),
     }
 }
 

@@ -5,7 +5,7 @@ use mathlib.Core.List.{List, [], _∷_}
 use native.Mathlib.Omega.{arith}
 use lib.Ieee.{Float, binary64, add}
 use Rattle.geometry.specs.declared.Quad.{Quad}
-use Rattle.float.specs.Numbers.{nil}
+use Rattle.float.specs.Numbers.{nought}
 use Rattle.arclen.specs.Rk4.{Tried, at, refused, Rates, halfOf, moved, grownBy, grownAll, rk4, walk}
 use Rattle.arclen.specs.Arclen.{tenth, arclenFunctorOf, speedOf, lengthRates, rk4One, arclenOf}
 use Rattle.arclen.specs.Stages.{timeAt, lengthAt, stageOf, stageAt}
@@ -67,7 +67,7 @@ module _ (f : Rates) (h : Float) (n : ℕ) (z : ℕ → List Float) where
   abbrev Reaches : ℕ → Type 0
   Reaches i = (k : ℕ) → k < i → rk4 f h (timeAt h k) (z k) ≡ at (z (suc k))
 
-  pub reach : (i : ℕ) → i ≤ n → Reaches i → walk f h n nil (z 0) ≡ walk f h (n - i) (timeAt h i) (z i)
+  pub reach : (i : ℕ) → i ≤ n → Reaches i → walk f h n nought (z 0) ≡ walk f h (n - i) (timeAt h i) (z i)
   unfolding timeAt
   reach zero le all =
       let all-left : n - 0 ≡ n = omega arith in
@@ -76,7 +76,7 @@ module _ (f : Rates) (h : Float) (n : ℕ) (z : ℕ → List Float) where
       let same : n - suc i ≡ n - (i + 1) = omega arith in
       reach i (omega arith) (λ k less. all k (omega arith)) ∙ rw same (goes f h (timeAt h i) (z i) n i (omega arith) (all i (omega arith)))
 
-  pub all-steps : Reaches n → walk f h n nil (z 0) ≡ at (z n)
+  pub all-steps : Reaches n → walk f h n nought (z 0) ≡ at (z n)
   all-steps all = reach n (omega arith) all ∙ done f h (timeAt h n) (z n) n n (omega arith)
 
 -- one value, the length: the two middle rates are one

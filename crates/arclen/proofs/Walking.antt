@@ -8,7 +8,7 @@ use borrow.Author.Count.{below-more}
 use lib.ListN.{length, set, getD, length-set}
 use lib.Seq.{getD-set-same, getD-set-other}
 use lib.Ieee.{Float, binary64, add, mul}
-use Rattle.float.specs.Numbers.{nil}
+use Rattle.float.specs.Numbers.{nought}
 use Rattle.arclen.specs.Rk4.{halfOf, grownBy}
 use Rattle.arclen.specs.Arclen.{tenth, speedOf}
 use Rattle.arclen.specs.Stages.{timeAt, lengthAt, stageOf, stageAt, Walked}
@@ -59,7 +59,7 @@ four stages i t y a b d =
     (add binary64 t tenth ∷ d ∷ add binary64 y (mul binary64 tenth b) ∷ [])
 
 module _ {f : ArclenFunctor} {stages : List (List Float)} where
-  pub none : length stages ≡ 40 → Walking f stages nil nil 0
+  pub none : length stages ≡ 40 → Walking f stages nought nought 0
   unfolding timeAt lengthAt
   none e =
       record {

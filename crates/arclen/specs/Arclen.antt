@@ -2,7 +2,7 @@
 use mathlib.Core.List.{[], _∷_}
 use lib.ListN.{getD}
 use lib.Ieee.{Float, nan, binary64, sub, mul, div}
-use Rattle.float.specs.Numbers.{nil, one, two, ten, hundred}
+use Rattle.float.specs.Numbers.{nought, one, two, ten, hundred}
 use Rattle.geometry.specs.Geometry.{alongOf, normOf}
 use Rattle.geometry.specs.declared.Point.{Point}
 use Rattle.geometry.specs.declared.Quad.{Quad}
@@ -48,4 +48,4 @@ unfoldable pub rk4One : ArclenFunctor → Float → Float → Float → Float
 rk4One f h t y = firstOf (rk4 (lengthRates f) h t (y ∷ []))
 
 unfoldable pub arclenOf : Quad → Float
-arclenOf q = firstOf (walk (lengthRates (arclenFunctorOf q)) tenth 10 nil (nil ∷ []))
+arclenOf q = firstOf (walk (lengthRates (arclenFunctorOf q)) tenth 10 nought (nought ∷ []))

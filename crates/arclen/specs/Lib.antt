@@ -1,3 +1,4 @@
+-- Stages is for contracts inside the product alone: no promise of an entry and no statement for a reader speaks of it.
 pub mod Rk4
 pub mod Arclen
 pub mod Stages

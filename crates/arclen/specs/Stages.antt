@@ -5,7 +5,7 @@ use mathlib.Core.Path.{_≡_}
 use mathlib.Core.List.{List, [], _∷_}
 use lib.ListN.{length, getD}
 use lib.Ieee.{Float, nan, binary64, add, mul}
-use Rattle.float.specs.Numbers.{nil}
+use Rattle.float.specs.Numbers.{nought}
 use Rattle.float.specs.Float.{rootOf}
 use Rattle.geometry.specs.Geometry.{squareNormOf}
 use Rattle.arclen.specs.Rk4.{halfOf}
@@ -30,11 +30,11 @@ reachedBy f h t y = record { length = rk4One f h t y; pace = paceOf f (add binar
 
 -- the time after i steps of h, and the length after i steps of a tenth
 unfoldable pub timeAt : Float → ℕ → Float
-timeAt h zero = nil
+timeAt h zero = nought
 timeAt h (suc i) = add binary64 (timeAt h i) h
 
 unfoldable pub lengthAt : ArclenFunctor → ℕ → Float
-lengthAt f zero = nil
+lengthAt f zero = nought
 lengthAt f (suc i) = rk4One f tenth (timeAt tenth i) (lengthAt f i)
 
 -- the time at the place k of 21: where the step k / 2 starts, or in its middle

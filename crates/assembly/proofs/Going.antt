@@ -1,5 +1,5 @@
 -- The runs in order: what the loop keeps, one turn of it, and its ends. Assumes nothing.
-use Prim.Native.Nat.{ℕ, suc, _+_, _*_, _≤_, _<_}
+use Prim.Native.Nat.{ℕ, suc, _+_, _≤_, _<_}
 use native.Mathlib.Numerals.{add-one}
 use native.Mathlib.Omega.{arith}
 use mathlib.Core.Bool.{Bool, true, false}
@@ -9,7 +9,7 @@ use lib.Ieee.{Float}
 use lib.IntN.{ℤ}
 use lib.ListN.{length, take, drop, getD}
 use lib.Seq.{length-take-le}
-use Rattle.corners.specs.Segments.{startOf}
+use Rattle.outline.specs.Segments.{startOf}
 use Rattle.runs.specs.Runs.{Span, stopsOf, between, runAt, Listed}
 use Rattle.runs.specs.Laws.{run-here, run-none, runs-end}
 use Rattle.runs.specs.declared.Run.{Run}

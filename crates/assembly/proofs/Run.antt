@@ -1,5 +1,5 @@
 -- One run more: what stands in the row for points after it, of what the work on it leaves. Assumes nothing.
-use Prim.Native.Nat.{ℕ, _+_, _≤_}
+use Prim.Native.Nat.{ℕ, _≤_}
 use native.Mathlib.Omega.{arith}
 use mathlib.Core.Bool.{Bool, true, false}
 use mathlib.Core.List.{List}
@@ -9,11 +9,11 @@ use lib.IntN.{ℤ}
 use lib.ListN.{length, take}
 use Rattle.breaks.specs.Breaks.{Row}
 use Rattle.breaks.specs.declared.Grid.{Grid}
-use Rattle.corners.specs.Segments.{startOf, segFrom}
-use Rattle.corners.specs.declared.Seg.{Seg}
+use Rattle.outline.specs.Segments.{startOf, segFrom}
+use Rattle.outline.specs.declared.Seg.{Seg}
 use Rattle.runs.specs.Runs.{Span, copiedFrom}
 use Rattle.samples.specs.Samples.{Sample}
-use Rattle.optimize.specs.Answers.{Answer}
+use Rattle.attempt.specs.Answers.{Statelet}
 use Rattle.optimize.specs.Fallen.{Upto}
 use Rattle.optimize.specs.Tally.{tally, plus}
 use Rattle.optimize.specs.declared.Tally.{Tally}
@@ -33,17 +33,16 @@ use Rattle.contour.specs.Points.{Points, pointsOf, piecesPoints, unchangedIn}
 use Rattle.contour.specs.Writing.{Wrote, Appended, written}
 use Rattle.contour.specs.Laws.{wrote-after}
 use Rattle.contour.specs.declared.Written.{Written}
-use Rattle.assembly.specs.Assembly.{State, added, resultOf, runIf, afterRun}
+use Rattle.assembly.specs.Assembly.{added, resultOf, runIf, afterRun}
 use Rattle.assembly.specs.Stands.{Stands, stops, ends, goes, FoundIn, Sighted}
 use Rattle.assembly.specs.declared.Crunching as C
 use Rattle.assembly.specs.declared.Crunching.the-variants as Crunching
-use Rattle.assembly.specs.declared.Progress.{Progress}
 
 -- ---- what the answer of the work says of its result
 
 -- the answer of a solved run, and that its points can be written
 pub record Done (breaks : Row) (answers : List (List Float)) (links : List ℕ) (x : Result) (n k : ℕ) (t : Tally) : Type 0 where
-  pub answer : Answer
+  pub answer : Statelet
   pub is : x ≡ E.solved answer t
   pub within : n ≤ length breaks
   pub held : Holds Anywhere (take n breaks) answers links k answer
@@ -89,7 +88,7 @@ module _ {penalty : Float} {breaks : Row} {answers : List (List Float)} {links :
     unchanged-stands ps sofar h sum wrote = rw (works-unchanged works h) (ends refl wrote sum)
 
     pub done-stands : {n k : ℕ} {t u : Tally} {row₀ row : Points} {w₀ w : Written} (ps : Points) (sofar : Tally) → r ≡ Worked.Done n k t → u ≡ plus sofar t →
-        ((a : Answer) → Holds Anywhere (take n breaks) answers links k a → Appended row₀ w₀ row w (piecesPoints (quadsOf a))) → Wrote row₀ w₀ (written (length row₀) ps) →
+        ((a : Statelet) → Holds Anywhere (take n breaks) answers links k a → Appended row₀ w₀ row w (piecesPoints (quadsOf a))) → Wrote row₀ w₀ (written (length row₀) ps) →
         Stands (length row₀) row (added itself x ps sofar) (Crunching.Going (record { w = w; tally = u }))
     done-stands {row₀ = row₀} ps sofar h sum pushed wrote =
         let so = done works h in

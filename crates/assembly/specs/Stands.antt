@@ -14,7 +14,7 @@ use Rattle.optimize.specs.declared.Tally.{Tally}
 use Rattle.survey.specs.Survey.{samplesUsed, breaksUsed}
 use Rattle.survey.specs.declared.Surveyed as Y
 use Rattle.survey.specs.declared.Surveyed.the-variants as Surveyed
-use Rattle.edition.specs.Edition.{Found}
+use Rattle.edition.specs.Edition.{FoundBreaks}
 use Rattle.assembly.specs.Assembly.{State, refused, ended, going, closedUp}
 use Rattle.assembly.specs.declared.Crunching as C
 use Rattle.assembly.specs.declared.Crunching.the-variants as Crunching
@@ -40,7 +40,7 @@ Onward state old new p long r = (ps : Points) → Wrote old (p .w) (written long
 abbrev pub FoundIn : List (List Float) → Y.Surveyed → Type 0
 FoundIn breaks (Surveyed.Refused k) = Unit
 FoundIn breaks Surveyed.Past = Unit
-FoundIn breaks (Surveyed.Rows n m) = Found (take m breaks)
+FoundIn breaks (Surveyed.Rows n m) = FoundBreaks (take m breaks)
 
 pub record Sighted (samples breaks : List (List Float)) (s : Y.Surveyed) : Type 0 where
   pub samples-in : samplesUsed s ≤ length samples

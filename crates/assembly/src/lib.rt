@@ -15,7 +15,7 @@ ghost use Rattle.contour.specs.Points.{unchangedIn};
 ghost use Rattle.survey.specs.Survey.{surveyIn};
 ghost use Rattle.optimize.specs.Tally.{untried};
 ghost use Rattle.optimize.specs.Fallen.{Upto};
-ghost use Rattle.edition.specs.Edition.{editionOf, afterSurvey, Found};
+ghost use Rattle.edition.specs.Edition.{editionOf, afterSurvey, FoundBreaks};
 ghost use Rattle.edition.specs.Scratch.{roomsIn};
 ghost use Rattle.assembly.specs.Assembly.{going, added, resultOf, afterRun, crunchAll, crunchRound, crunchRuns};
 ghost use Rattle.assembly.specs.Stands.{Stands, Sighted, Onward, Adds, ClosesUp};
@@ -47,7 +47,7 @@ pub fn step(
     links: &mut [u32],
     points: &mut [[i16; 3]],
 ) -> Crunching
-    requires { ⌜ Found (now breaks) × Upto 1024 (p .tally) ⌝ }
+    requires { ⌜ FoundBreaks (now breaks) × Upto 1024 (p .tally) ⌝ }
     ensures { λ r. ⌜ Adds (added (unchangedIn (before xs) (before ys) (before flags) (settings .closed))
         (editionOf (room answers) (room links) (before samples) (before breaks) (penaltyOf settings))) points p r ⌝ }
 {
@@ -173,10 +173,10 @@ fn crunch_run(
     ensures { λ r. ⌜ Adds (afterRun (roomsIn samples breaks answers links) settings
         (before xs) (before ys) (before flags) (record { first = first; count = count })) points p r ⌝ }
 {
-    let a = corners::start_of(flags, first);
+    let a = outline::start_of(flags, first);
     if runs::is_copied_from(xs, ys, flags, a, count) {
         let tally = p.tally;
-        let w = contour::push_seg(points, p.w, corners::read_from(xs, ys, flags, a));
+        let w = contour::push_seg(points, p.w, outline::read_from(xs, ys, flags, a));
         return Crunching::Going(Progress { w, tally });
     }
     work_run(
@@ -290,7 +290,7 @@ fn crunch_round(
             },
         });
     }
-    let s = contour::point_as(true, xs, ys, corners::start_of(flags, stops[0]));
+    let s = contour::point_as(true, xs, ys, outline::start_of(flags, stops[0]));
     let c = crunch_runs(
         xs,
         ys,

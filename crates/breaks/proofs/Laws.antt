@@ -2,14 +2,13 @@
 use Prim.Native.Nat.{ℕ, zero, suc, _+_, _-_, _^_, _≤_, _<_, min}
 use native.Mathlib.Numerals.{add-one}
 use native.Mathlib.Omega.{arith}
-use mathlib.Core.Bool.{Bool, true, false, not, true≢false}
+use mathlib.Core.Bool.{true, false, not, true≢false}
 use mathlib.Core.List.{List, []}
-use mathlib.Core.Path.{_≡_, refl, sym, ap, _∙_}
+use mathlib.Core.Path.{_≡_, refl, sym, _∙_}
 use borrow.Author.Tests.{le-leb, lt-leb, eq-eqb, ne-eqb}
-use lib.Dec.{leb}
-use lib.ListN.{length, take, getD, set, length-set}
+use lib.ListN.{length, take, set}
 use lib.Seq.{length-take-le, take-suc-set, take-set-lt, getD-take}
-use lib.Ieee.{Float, nan, inf, fin, up, down, toUnsigned, lt}
+use lib.Ieee.{Float, nan, inf, fin, toUnsigned, lt}
 use Rattle.geometry.specs.Geometry.{isClose}
 use Rattle.geometry.specs.declared.Point.{Point}
 use Rattle.geometry.specs.declared.Break.{Break}
@@ -17,8 +16,8 @@ use Rattle.lookup.specs.Lookup as Lookup
 use Rattle.lookup.specs.Lookup.{Found, found, xyAt, dirAt, spotAt}
 use Rattle.lookup.specs.declared.Spot.{Spot}
 use Rattle.lookup.specs.declared.Looked.the-variants as Looked
-use Rattle.float.specs.Numbers.{nil}
-use Rattle.breaks.specs.Breaks.{Row, packedOf, breakAt, placesOf, lengthAt, placed, placeAt, placeOf, Finding, so, full, opened, opens, joinOf, stepped, walk, breaks, resultOf, breaksOf}
+use Rattle.float.specs.Numbers.{nought}
+use Rattle.breaks.specs.Breaks.{Row, packedOf, breakAt, placesOf, lengthAt, placed, placeAt, placeOf, Finding, so, full, opened, opens, joinOf, stepped, walk, breaks, runBreaksOf, breaksOf}
 use Rattle.breaks.specs.declared.Progress.{Progress}
 use Rattle.breaks.specs.declared.Grid.{Grid}
 use Rattle.breaks.specs.declared.Placed as P
@@ -77,7 +76,7 @@ both-found g s (found p) (found d) c e =
 both-found g s (found p) Lookup.refused c e = absurd (let z : _≡_ {A = ℕ} 0 1 = cc in omega arith)
 both-found g s Lookup.refused b c e = absurd (let z : _≡_ {A = ℕ} 0 1 = cc in omega arith)
 
-both-last : (g : Grid) (s : Float) (a b : Found) → Lookup.both a b ≡ Looked.Last → placed g s a b ≡ Placed.Last
+both-last : (g : Grid) (s : Float) (a b : Found) → Lookup.both a b ≡ Looked.Missing → placed g s a b ≡ Placed.Missing
 both-last g s (found p) (found d) e = absurd (let z : _≡_ {A = ℕ} 0 1 = cc in omega arith)
 both-last g s (found p) Lookup.refused e = refl
 both-last g s Lookup.refused b e = refl
@@ -86,7 +85,7 @@ module _ (samples : List (List Float)) (g : Grid) (s : Float) (h : toUnsigned 64
   pub place-found : (c : Spot) → Looked.At c ≡ spotAt samples s → placeAt samples g s ≡ placed g s (found (c .xy)) (found (c .dir))
   place-found c e = place-inside samples g s h ∙ both-found g s (xyAt samples s) (dirAt samples s) c (sym e)
 
-  pub place-last : Looked.Last ≡ spotAt samples s → placeAt samples g s ≡ Placed.Last
+  pub place-last : Looked.Missing ≡ spotAt samples s → placeAt samples g s ≡ Placed.Missing
   place-last e = place-inside samples g s h ∙ both-last g s (xyAt samples s) (dirAt samples s) (sym e)
 
 -- ---- the first n breaks of a row
@@ -156,17 +155,17 @@ pub record Seeking (samples : List (List Float)) (len : Float) (g : Grid) (n : �
   pub last-place : n ≡ placesOf len
   pub long : length row ≡ length row₀
   pub inside : p .count ≤ length row₀
-  pub rows : walk (suc n) (length row₀) (placeOf samples g len) 0 (so [] nil)
+  pub rows : walk (suc n) (length row₀) (placeOf samples g len) 0 (so [] nought)
       ≡ walk (suc n - i) (length row₀) (placeOf samples g len) i (so (take (p .count) row) (p .opened))
 
-pub seek : (samples : List (List Float)) (len : Float) (g : Grid) (n : ℕ) (row : Row) (p : Progress) → n ≡ placesOf len → p .count ≡ 0 → p .opened ≡ nil → Seeking samples len g n row row p 0
+pub seek : (samples : List (List Float)) (len : Float) (g : Grid) (n : ℕ) (row : Row) (p : Progress) → n ≡ placesOf len → p .count ≡ 0 → p .opened ≡ nought → Seeking samples len g n row row p 0
 seek samples len g n row p e none fresh =
     let all : suc n - 0 ≡ suc n = omega arith in
     record { last-place = e; long = refl; inside = omega arith; rows = rw (all, none, fresh) refl }
 
 module _ {samples : List (List Float)} {len : Float} {g : Grid} {n : ℕ} {row₀ row : Row} {p : Progress} {i : ℕ} (s : Seeking samples len g n row₀ row p i) where
   next : {pl : P.Placed} → i ≤ n → pl ≡ placeAt samples g (lengthAt len n i) →
-      walk (suc n) (length row₀) (placeOf samples g len) 0 (so [] nil)
+      walk (suc n) (length row₀) (placeOf samples g len) 0 (so [] nought)
       ≡ walk (suc n - (i + 1)) (length row₀) (placeOf samples g len) (i + 1) (stepped (length row) (so (take (p .count) row) (p .opened)) pl)
   next h is = s .rows ∙ goes n (length row₀) (placeOf samples g len) i _ h ∙ rw (is, s .long, s .last-place) refl
 
@@ -182,7 +181,7 @@ module _ {samples : List (List Float)} {len : Float} {g : Grid} {n : ℕ} {row�
 
   -- a place that ends the search
   pub seeks-no-more : {pl : P.Placed} (f : Finding) → ((room : ℕ) (pl : P.Placed) → stepped room f pl ≡ f) → i ≤ n → pl ≡ placeAt samples g (lengthAt len n i) →
-      stepped (length row) (so (take (p .count) row) (p .opened)) pl ≡ f → breaksOf (length row₀) samples g len ≡ resultOf f
+      stepped (length row) (so (take (p .count) row) (p .opened)) pl ≡ f → breaksOf (length row₀) samples g len ≡ runBreaksOf f
   unfolding breaksOf
   seeks-no-more f stuck h is steps = rw (← s .last-place, next h is, steps, stays (suc n - (i + 1)) (length row₀) (placeOf samples g len) (i + 1) f (stuck (length row₀))) refl
 

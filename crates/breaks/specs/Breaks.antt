@@ -6,7 +6,7 @@ use lib.Dec.{leb, eqb}
 use lib.IntN.{pos}
 use lib.ListN.{length, take, getD, set}
 use lib.Ieee.{Float, nan, binary64, mul, div, lt, ofInt, toUnsigned}
-use Rattle.float.specs.Numbers.{nil, half, one, two, ten}
+use Rattle.float.specs.Numbers.{nought, half, one, two, ten}
 use Rattle.float.specs.Float.{roundOf}
 use Rattle.geometry.specs.Geometry.{isClose, distanceOf}
 use Rattle.geometry.specs.declared.Point.{Point}
@@ -14,7 +14,6 @@ use Rattle.geometry.specs.declared.Break.{Break}
 use Rattle.lookup.specs.Lookup as Lookup
 use Rattle.lookup.specs.Lookup.{Found, found, xyAt, dirAt}
 use Rattle.breaks.specs.declared.Grid.{Grid}
-use Rattle.breaks.specs.declared.Progress.{Progress}
 use Rattle.breaks.specs.declared.Placed as P
 use Rattle.breaks.specs.declared.Placed.the-variants as Placed
 use Rattle.breaks.specs.declared.Joined as J
@@ -44,7 +43,7 @@ abbrev pub Row : Type 0
 Row = List (List Float)
 
 abbrev pub packedOf : Break → List Float
-packedOf b = b .s ∷ b .xy .x ∷ b .xy .y ∷ b .dir .x ∷ b .dir .y ∷ nil ∷ []
+packedOf b = b .s ∷ b .xy .x ∷ b .xy .y ∷ b .dir .x ∷ b .dir .y ∷ nought ∷ []
 
 abbrev pub unpackedOf : List Float → Break
 unpackedOf r = record {
@@ -70,8 +69,8 @@ lengthAt len n i = div binary64 (mul binary64 len (ofInt binary64 (pos i))) (ofI
 -- at the last stored place a sample is refused, 8.
 abbrev pub placed : Grid → Float → Found → Found → P.Placed
 placed g s (found o) (found d) = Placed.At (record { s = s; xy = gridPoint g o; dir = d }) (distanceOf (gridPoint g o) o)
-placed g s (found o) Lookup.refused = Placed.Last
-placed g s Lookup.refused d = Placed.Last
+placed g s (found o) Lookup.refused = Placed.Missing
+placed g s Lookup.refused d = Placed.Missing
 
 abbrev pub unlessPast : Bool → P.Placed → P.Placed
 unlessPast true p = Placed.Past
@@ -114,7 +113,7 @@ joinOf room row d b dist = joinedIf (opens row (b .xy)) room row d b dist
 
 abbrev pub stepped : ℕ → Finding → P.Placed → Finding
 stepped room (so row d) (Placed.At b dist) = joinOf room row d b dist
-stepped room (so row d) Placed.Last = last
+stepped room (so row d) Placed.Missing = last
 stepped room (so row d) Placed.Past = past
 stepped room full p = full
 stepped room last p = last
@@ -128,45 +127,45 @@ walk (suc k) room place i f = walk k room place (i + 1) (stepped room f (place i
 -- ---- the whole
 
 -- the breaks of a run; the number of a refusal; or the contour is unchanged
-pub data Result : Type 0 where
-  breaks : Row → Result
-  refused : ℕ → Result
-  unchanged : Result
+pub data RunBreaks : Type 0 where
+  breaks : Row → RunBreaks
+  refused : ℕ → RunBreaks
+  unchanged : RunBreaks
 
-abbrev pub resultOf : Finding → Result
-resultOf (so row d) = breaks row
-resultOf full = refused 7
-resultOf last = refused 8
-resultOf past = unchanged
+abbrev pub runBreaksOf : Finding → RunBreaks
+runBreaksOf (so row d) = breaks row
+runBreaksOf full = refused 7
+runBreaksOf last = refused 8
+runBreaksOf past = unchanged
 
 abbrev pub placeOf : List (List Float) → Grid → Float → ℕ → P.Placed
 placeOf samples g len i = placeAt samples g (lengthAt len (placesOf len) i)
 
-unfoldable pub breaksOf : ℕ → List (List Float) → Grid → Float → Result
-breaksOf room samples g len = resultOf (walk (suc (placesOf len)) room (placeOf samples g len) 0 (so [] nil))
+unfoldable pub breaksOf : ℕ → List (List Float) → Grid → Float → RunBreaks
+breaksOf room samples g len = runBreaksOf (walk (suc (placesOf len)) room (placeOf samples g len) 0 (so [] nought))
 
 -- ---- what the functions leave in a row
 
 abbrev pub joinedIn : Row → J.Joined → Finding
 joinedIn row (Joined.At p) = so (take (p .count) row) (p .opened)
 joinedIn row Joined.Full = full
-joinedIn row Joined.Last = last
+joinedIn row Joined.Missing = last
 joinedIn row Joined.Past = past
 
 abbrev pub countJoined : J.Joined → ℕ
 countJoined (Joined.At p) = p .count
 countJoined Joined.Full = 0
-countJoined Joined.Last = 0
+countJoined Joined.Missing = 0
 countJoined Joined.Past = 0
 
-abbrev pub breaksIn : Row → B.Breaks → Result
+abbrev pub breaksIn : Row → B.Breaks → RunBreaks
 breaksIn row (Breaks.Found n) = breaks (take n row)
 breaksIn row Breaks.Full = refused 7
-breaksIn row Breaks.Last = refused 8
+breaksIn row Breaks.Missing = refused 8
 breaksIn row Breaks.Past = unchanged
 
 abbrev pub countFound : B.Breaks → ℕ
 countFound (Breaks.Found n) = n
 countFound Breaks.Full = 0
-countFound Breaks.Last = 0
+countFound Breaks.Missing = 0
 countFound Breaks.Past = 0

@@ -12,7 +12,7 @@ use lib.ListN.{length, set, length-append, length-set, List·getD-append}
 use lib.Seq.{getD-append-seam, getD-set-same, getD-set-other}
 use lib.Ieee.{Float, binary64, fits, lt, toUnsigned}
 use lib.Ieee.Fits.{mul-fits}
-use Rattle.float.specs.Numbers.{nil}
+use Rattle.float.specs.Numbers.{nought}
 use Rattle.geometry.specs.declared.Break.{Break}
 use Rattle.geometry.specs.declared.Point.{Point}
 use Rattle.lookup.specs.Lookup as Lookup
@@ -22,7 +22,7 @@ use Rattle.breaks.specs.declared.Placed as P
 use Rattle.breaks.specs.declared.Placed.the-variants as Placed
 use Rattle.breaks.specs.Breaks.{Row, onGrid, packedOf, breakAt, placed, unlessPast, placeAt, placeOf, placesOf, Finding, so, full, last, past}
 use Rattle.breaks.specs.Breaks.{pushedIf, opened, replacedIf, joinedIf, opens, joinOf, stepped, walk}
-use Rattle.breaks.specs.Breaks.{Result, breaks, refused, unchanged, resultOf, breaksOf}
+use Rattle.breaks.specs.Breaks.{RunBreaks, breaks, refused, unchanged, runBreaksOf, breaksOf}
 
 -- q is a point brought to the grid
 pub record Brought (g : Grid) (q : Point) : Type 0 where
@@ -34,7 +34,7 @@ module _ (g : Grid) where
   -- ---- a place is on the grid
   data Gridded : P.Placed → Type 0 where
     at : {b : Break} {dist : Float} → Brought g (b .xy) → Gridded (Placed.At b dist)
-    no-sample : Gridded Placed.Last
+    no-sample : Gridded Placed.Missing
     no-place : Gridded Placed.Past
 
   placed-gridded : (s : Float) (o d : Found) → Gridded (placed g s o d)
@@ -139,11 +139,11 @@ module _ (g : Grid) where
     nothing-made : Made room 0 []
     nothing-made = record { some = omega arith; few = omega arith; on = λ i h. absurd (omega arith) }
 
-    first-joins : (b : Break) (dist : Float) → Brought g (b .xy) → Finds room 1 (joinOf room [] nil b dist)
+    first-joins : (b : Break) (dist : Float) → Brought g (b .xy) → Finds room 1 (joinOf room [] nought b dist)
     unfolding joinOf opens
     first-joins b dist f = opens-one nothing-made b f dist
 
-    first-steps : {p : P.Placed} → Gridded p → Finds room 1 (stepped room (so [] nil) p)
+    first-steps : {p : P.Placed} → Gridded p → Finds room 1 (stepped room (so [] nought) p)
     first-steps (at {b} {dist} f) = first-joins b dist f
     first-steps no-sample = is-last
     first-steps no-place = is-past
@@ -154,17 +154,17 @@ module _ (g : Grid) where
       walks zero i h = h
       walks (suc k) i h = walks k (i + 1) (steps h (gridded i))
 
-      walks-all : (k : ℕ) → Finds room 1 (walk (suc k) room place 0 (so [] nil))
+      walks-all : (k : ℕ) → Finds room 1 (walk (suc k) room place 0 (so [] nought))
       unfolding walk
       walks-all k = walks k 1 (first-steps (gridded 0))
 
   -- ---- the whole
-  data Results (room : ℕ) : Result → Type 0 where
+  data Results (room : ℕ) : RunBreaks → Type 0 where
     found-all : {row : Row} → Made room 1 row → Results room (breaks row)
     is-refused : {n : ℕ} → Results room (refused n)
     is-unchanged : Results room unchanged
 
-  results : {room : ℕ} {f : Finding} → Finds room 1 f → Results room (resultOf f)
+  results : {room : ℕ} {f : Finding} → Finds room 1 f → Results room (runBreaksOf f)
   results (holds m) = found-all m
   results is-full = is-refused
   results is-last = is-refused
@@ -221,7 +221,7 @@ module _ (room more : ℕ) (h : room ≤ more) where
   unfolding joinOf
   stepped-alike p was-full = was-full
   stepped-alike (Placed.At b dist) (same {f = so row d}) = joined-alike (opens row (b .xy)) row d b dist
-  stepped-alike Placed.Last (same {f = so row d}) = same
+  stepped-alike Placed.Missing (same {f = so row d}) = same
   stepped-alike Placed.Past (same {f = so row d}) = same
   stepped-alike p (same {f = full}) = same
   stepped-alike p (same {f = last}) = same
@@ -232,7 +232,7 @@ module _ (room more : ℕ) (h : room ≤ more) where
   walk-alike zero place i a = a
   walk-alike (suc k) place i a = walk-alike k place (i + 1) (stepped-alike (place i) a)
 
-  result-same : {f f' : Finding} → Alike f f' → (resultOf f ≡ refused 7 → ⊥) → resultOf f' ≡ resultOf f
+  result-same : {f f' : Finding} → Alike f f' → (runBreaksOf f ≡ refused 7 → ⊥) → runBreaksOf f' ≡ runBreaksOf f
   result-same was-full short = absurd (short refl)
   result-same same short = refl
 
@@ -240,4 +240,4 @@ module _ (room more : ℕ) (h : room ≤ more) where
   pub breaks-same : (samples : List (List Float)) (g : Grid) (len : Float) → (breaksOf room samples g len ≡ refused 7 → ⊥) →
       breaksOf more samples g len ≡ breaksOf room samples g len
   unfolding breaksOf
-  breaks-same samples g len short = result-same (walk-alike (suc (placesOf len)) (placeOf samples g len) 0 {f = so [] nil} same) short
+  breaks-same samples g len short = result-same (walk-alike (suc (placesOf len)) (placeOf samples g len) 0 {f = so [] nought} same) short

@@ -6,7 +6,7 @@ use lookup::Looked;
 ghost use mathlib.Core.Path.{_≡_};
 ghost use Prim.Native.Nat.{_≤_, _<_};
 ghost use lib.ListN.{length, take};
-ghost use Rattle.breaks.specs.Breaks.{halfGrid, wholeGrid, onGrid, gridPoint, packedOf, breakAt, placesOf, lengthAt, placeAt, opens, opened};
+ghost use Rattle.breaks.specs.Breaks.{halfGrid, wholeGrid, onGrid, gridPoint, packedOf, breakAt, placesOf, placeAt, opens, opened};
 ghost use Rattle.breaks.specs.Breaks.{joinOf, so, stepped, breaksOf, joinedIn, countJoined, breaksIn, countFound};
 
 // A coordinate is brought to step * round(per * x).
@@ -19,7 +19,7 @@ pub struct Grid {
 pub enum Placed {
     At(Break, f64),
     // a sample at the last stored place: refusal 8
-    Last,
+    Missing,
     // a length past the samples: the contour is unchanged
     Past,
 }
@@ -34,7 +34,7 @@ pub struct Progress {
 pub enum Joined {
     At(Progress),
     Full,
-    Last,
+    Missing,
     Past,
 }
 
@@ -43,7 +43,7 @@ pub enum Breaks {
     // more than the row takes: refusal 7
     Full,
     // refusal 8
-    Last,
+    Missing,
     // the contour is unchanged
     Past,
 }
@@ -120,7 +120,7 @@ fn place(samples: &[[f64; 4]], g: Grid, s: f64) -> Placed
         return Placed::Past;
     }
     let Looked::At(c) = lookup::lookup(samples, s) else {
-        return Placed::Last;
+        return Placed::Missing;
     };
     let o = c.xy;
     let dir = c.dir;
@@ -180,7 +180,7 @@ fn advance(row: &mut [[f64; 6]], p: Progress, next: Placed) -> Joined
 {
     match next {
         Placed::At(b, dist) => join(row, p, b, dist),
-        Placed::Last => Joined::Last,
+        Placed::Missing => Joined::Missing,
         Placed::Past => Joined::Past,
     }
 }
@@ -204,8 +204,8 @@ pub fn find_breaks(samples: &[[f64; 4]], len: f64, g: Grid, row: &mut [[f64; 6]]
             Joined::Full => {
                 return Breaks::Full;
             }
-            Joined::Last => {
-                return Breaks::Last;
+            Joined::Missing => {
+                return Breaks::Missing;
             }
             Joined::Past => {
                 return Breaks::Past;

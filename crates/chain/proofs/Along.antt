@@ -16,8 +16,8 @@ use Rattle.measure.specs.Fallen.{fallenOf}
 use Rattle.measure.proofs.Asked.{fallen-most}
 use Rattle.measure.specs.declared.Measure.{Measure}
 use Rattle.measure.specs.declared.Measured.the-variants as Measured
-use Rattle.float.specs.Numbers.{nil}
-use Rattle.chain.specs.Valid.{validPiece, leads, stays, joined, quadOf, validFrom, goodShape, jointOf, sumFrom, sumOf, pieceAt, piecesFrom, chainOf, evenRows}
+use Rattle.float.specs.Numbers.{nought}
+use Rattle.chain.specs.Valid.{validPiece, leads, stays, joined, pieceQuad, validFrom, goodShape, jointOf, sumFrom, sumOf, pieceAt, piecesFrom, chainIn, evenRows}
 use Rattle.chain.specs.Fallen.{fallenOfPiece, fallenAlong, fallenOfSum}
 use Rattle.chain.specs.declared.Piece.{Piece}
 use Rattle.chain.specs.declared.Before.{Before}
@@ -78,7 +78,7 @@ module _ (n at : ℕ) (p : Piece) (ps : List Piece) where
 
 -- i pieces lead from break 0 to break `at`
 abbrev pub Leading : List ℕ → List ℕ → ℕ → ℕ → ℕ → Type 0
-Leading starts ends n at i = (xs ys : List Float) → leads n 0 (chainOf starts ends xs ys) ≡ leads n at (piecesFrom starts ends xs ys (length starts - i) i)
+Leading starts ends n at i = (xs ys : List Float) → leads n 0 (chainIn starts ends xs ys) ≡ leads n at (piecesFrom starts ends xs ys (length starts - i) i)
 
 pub leading : (starts ends : List ℕ) (n : ℕ) → Leading starts ends n 0 0
 leading starts ends n xs ys =
@@ -86,24 +86,24 @@ leading starts ends n xs ys =
     rw all
 
 module _ (starts ends : List ℕ) (n at i : ℕ) (s : Leading starts ends n at i) where
-  pub arrives : length starts ≤ i → (xs ys : List Float) → eqb at n ≡ leads n 0 (chainOf starts ends xs ys)
+  pub arrives : length starts ≤ i → (xs ys : List Float) → eqb at n ≡ leads n 0 (chainIn starts ends xs ys)
   unfolding leads
   arrives h xs ys = sym (s xs ys ∙ rw (none starts ends xs ys i h))
 
   module _ (more : i < length starts) where
-    turn : (xs ys : List Float) → leads n 0 (chainOf starts ends xs ys)
+    turn : (xs ys : List Float) → leads n 0 (chainIn starts ends xs ys)
         ≡ leads n at (pieceAt starts ends xs ys i ∷ piecesFrom starts ends xs ys (length starts - (i + 1)) (i + 1))
     turn xs ys = s xs ys ∙ ap (leads n at) (next starts ends xs ys i more)
 
-    pub strayed : (getD starts i 0 ≡ at → ⊥) → (xs ys : List Float) → false ≡ leads n 0 (chainOf starts ends xs ys)
+    pub strayed : (getD starts i 0 ≡ at → ⊥) → (xs ys : List Float) → false ≡ leads n 0 (chainIn starts ends xs ys)
     strayed h xs ys = sym (turn xs ys ∙ strays n at _ _ h)
 
     module _ (h : getD starts i 0 ≡ at) where
-      pub fell : getD ends i 0 ≤ getD starts i 0 → (xs ys : List Float) → false ≡ leads n 0 (chainOf starts ends xs ys)
+      pub fell : getD ends i 0 ≤ getD starts i 0 → (xs ys : List Float) → false ≡ leads n 0 (chainIn starts ends xs ys)
       fell k xs ys = sym (turn xs ys ∙ falls n at _ _ h k)
 
       module _ (k : getD starts i 0 < getD ends i 0) where
-        pub passed : n < getD ends i 0 → (xs ys : List Float) → false ≡ leads n 0 (chainOf starts ends xs ys)
+        pub passed : n < getD ends i 0 → (xs ys : List Float) → false ≡ leads n 0 (chainIn starts ends xs ys)
         passed l xs ys = sym (turn xs ys ∙ passes n at _ _ h k l)
 
         pub leads-on : getD ends i 0 ≤ n → Leading starts ends n (getD ends i 0) (i + 1)
@@ -120,15 +120,15 @@ module _ (starts ends : List ℕ) (xs ys : List Float) where
   not-one (suc zero) h = absurd (h refl)
   not-one (suc (suc k)) h = refl
 
-  pub several : (length starts ≡ 1 → ⊥) → false ≡ joined 0 (chainOf starts ends xs ys)
+  pub several : (length starts ≡ 1 → ⊥) → false ≡ joined 0 (chainIn starts ends xs ys)
   several h = sym (not-one (length starts) h)
 
   module _ (one : length starts ≡ 1) where
-    pub starts-off : (getD starts 0 0 ≡ 0 → ⊥) → false ≡ joined 0 (chainOf starts ends xs ys)
+    pub starts-off : (getD starts 0 0 ≡ 0 → ⊥) → false ≡ joined 0 (chainIn starts ends xs ys)
     unfolding piecesFrom
     starts-off h = rw (one, ne-eqb (getD starts 0 0) 0 h)
 
-    pub starts-there : getD starts 0 0 ≡ 0 → eqb (getD ends 0 0) 0 ≡ joined 0 (chainOf starts ends xs ys)
+    pub starts-there : getD starts 0 0 ≡ 0 → eqb (getD ends 0 0) 0 ≡ joined 0 (chainIn starts ends xs ys)
     unfolding piecesFrom
     starts-there h = rw (one, eq-eqb (getD starts 0 0) 0 h)
 
@@ -164,7 +164,7 @@ module _ (starts ends : List ℕ) (xs ys : List Float) where
       rw only (omega arith, omega arith)
   within-one (suc (suc k)) j h l = absurd (false≢true h)
 
-  within-joined : (n j : ℕ) → joined n (chainOf starts ends xs ys) ≡ true → j < length starts → Within n j
+  within-joined : (n j : ℕ) → joined n (chainIn starts ends xs ys) ≡ true → j < length starts → Within n j
   within-joined zero j h l = within-one (length starts) j h l
   within-joined (suc n) j h l =
       let same : 0 + j ≡ j = omega arith in
@@ -189,11 +189,11 @@ module _ (starts ends : List ℕ) (xs ys : List Float) where
   stays-few (suc zero) h = omega arith
   stays-few (suc (suc k)) h = absurd (false≢true h)
 
-  pub joined-few : (n : ℕ) → joined n (chainOf starts ends xs ys) ≡ true → length starts ≤ n + 1
+  pub joined-few : (n : ℕ) → joined n (chainIn starts ends xs ys) ≡ true → length starts ≤ n + 1
   joined-few zero h = stays-few (length starts) h
   joined-few (suc n) h = omega (arith, leads-few (suc n) (length starts) 0 0 h (omega arith))
 
-  pub inside : (count j : ℕ) → 0 < count → joined (count - 1) (chainOf starts ends xs ys) ≡ true → j < length starts → (getD starts j 0 < count) × (getD ends j 0 < count)
+  pub inside : (count j : ℕ) → 0 < count → joined (count - 1) (chainIn starts ends xs ys) ≡ true → j < length starts → (getD starts j 0 < count) × (getD ends j 0 < count)
   unfolding Within
   inside count j some h l =
       let w = within-joined (count - 1) j h l in
@@ -206,7 +206,7 @@ module _ (breaks : Row) (before : Before) (p : Piece) (ps : List Piece) where
   bad h = rw h
 
   good : validPiece before (breakAt breaks (p .from)) (breakAt breaks (p .to)) (p .control) ≡ true →
-      validFrom breaks before (p ∷ ps) ≡ validFrom breaks (After (quadOf breaks p)) ps
+      validFrom breaks before (p ∷ ps) ≡ validFrom breaks (After (pieceQuad breaks p)) ps
   unfolding validFrom
   good h = rw h
 
@@ -226,7 +226,7 @@ module _ (breaks : Row) (ps : List Piece) where
 -- i pieces are valid, and `before` is what comes before the next
 abbrev pub Passing : Row → List ℕ → List ℕ → List Float → List Float → Before → ℕ → Type 0
 Passing breaks starts ends xs ys before i =
-    validFrom breaks Start (chainOf starts ends xs ys) ≡ validFrom breaks before (piecesFrom starts ends xs ys (length starts - i) i)
+    validFrom breaks Start (chainIn starts ends xs ys) ≡ validFrom breaks before (piecesFrom starts ends xs ys (length starts - i) i)
 
 pub passing : (breaks : Row) (starts ends : List ℕ) (xs ys : List Float) → Passing breaks starts ends xs ys Start 0
 passing breaks starts ends xs ys =
@@ -234,62 +234,62 @@ passing breaks starts ends xs ys =
     rw all
 
 module _ (breaks : Row) (starts ends : List ℕ) (xs ys : List Float) (before : Before) (i : ℕ) (s : Passing breaks starts ends xs ys before i) where
-  pub all-valid : length starts ≤ i → true ≡ validFrom breaks Start (chainOf starts ends xs ys)
+  pub all-valid : length starts ≤ i → true ≡ validFrom breaks Start (chainIn starts ends xs ys)
   unfolding validFrom
   all-valid h = sym (s ∙ rw (none starts ends xs ys i h))
 
   module _ (more : i < length starts) (p : Piece) (is : p ≡ pieceAt starts ends xs ys i) (a b : Break) (from : a ≡ breakAt breaks (p .from)) (to : b ≡ breakAt breaks (p .to)) where
-    piece : validFrom breaks Start (chainOf starts ends xs ys) ≡ validFrom breaks before (p ∷ piecesFrom starts ends xs ys (length starts - (i + 1)) (i + 1))
+    piece : validFrom breaks Start (chainIn starts ends xs ys) ≡ validFrom breaks before (p ∷ piecesFrom starts ends xs ys (length starts - (i + 1)) (i + 1))
     piece = s ∙ rw (next starts ends xs ys i more, is)
 
-    pub one-invalid : validPiece before a b (p .control) ≡ false → false ≡ validFrom breaks Start (chainOf starts ends xs ys)
+    pub one-invalid : validPiece before a b (p .control) ≡ false → false ≡ validFrom breaks Start (chainIn starts ends xs ys)
     one-invalid h = sym (piece ∙ bad breaks before p _ (rw (from, to) at h))
 
-    pub passes-on : (q : Quad) → validPiece before a b (p .control) ≡ true → q ≡ quadOf breaks p → Passing breaks starts ends xs ys (After q) (i + 1)
+    pub passes-on : (q : Quad) → validPiece before a b (p .control) ≡ true → q ≡ pieceQuad breaks p → Passing breaks starts ends xs ys (After q) (i + 1)
     passes-on q h drawn = piece ∙ good breaks before p _ (rw (from, to) at h) ∙ rw drawn
 
 -- ---- the sum
 module _ (samples : List (List Float)) (breaks : Row) (penalty : Float) where
-  ended : (before : Before) (ps : List Piece) → sumFrom samples breaks penalty before Summed.Last ps ≡ Summed.Last
+  ended : (before : Before) (ps : List Piece) → sumFrom samples breaks penalty before Summed.Missing ps ≡ Summed.Missing
   unfolding sumFrom
   ended before [] = refl
-  ended before (p ∷ ps) = ended (After (quadOf breaks p)) ps
+  ended before (p ∷ ps) = ended (After (pieceQuad breaks p)) ps
 
   module _ (before : Before) (s : Float) (p : Piece) (ps : List Piece) where
-    ends-it : measureOf samples (breakAt breaks (p .from) .s) (breakAt breaks (p .to) .s) (quadOf breaks p) ≡ Measured.Last →
-        sumFrom samples breaks penalty before (Summed.At s) (p ∷ ps) ≡ Summed.Last
+    ends-it : measureOf samples (breakAt breaks (p .from) .s) (breakAt breaks (p .to) .s) (pieceQuad breaks p) ≡ Measured.Missing →
+        sumFrom samples breaks penalty before (Summed.At s) (p ∷ ps) ≡ Summed.Missing
     unfolding sumFrom
-    ends-it h = rw h (ended (After (quadOf breaks p)) ps)
+    ends-it h = rw h (ended (After (pieceQuad breaks p)) ps)
 
-    adds : (m : Measure) → measureOf samples (breakAt breaks (p .from) .s) (breakAt breaks (p .to) .s) (quadOf breaks p) ≡ Measured.At m →
+    adds : (m : Measure) → measureOf samples (breakAt breaks (p .from) .s) (breakAt breaks (p .to) .s) (pieceQuad breaks p) ≡ Measured.At m →
         sumFrom samples breaks penalty before (Summed.At s) (p ∷ ps)
-        ≡ sumFrom samples breaks penalty (After (quadOf breaks p)) (Summed.At (add binary64 (add binary64 s (mul binary64 penalty (jointOf before (quadOf breaks p)))) (m .error))) ps
+        ≡ sumFrom samples breaks penalty (After (pieceQuad breaks p)) (Summed.At (add binary64 (add binary64 s (mul binary64 penalty (jointOf before (pieceQuad breaks p)))) (m .error))) ps
     unfolding sumFrom
     adds m h = rw h
 
 -- i pieces are summed to s, and `before` is what comes before the next
 abbrev pub Summing : List (List Float) → Row → Float → List ℕ → List ℕ → List Float → List Float → Before → Float → ℕ → Type 0
 Summing samples breaks penalty starts ends xs ys before s i =
-    sumOf samples breaks penalty (chainOf starts ends xs ys) ≡ sumFrom samples breaks penalty before (Summed.At s) (piecesFrom starts ends xs ys (length starts - i) i)
+    sumOf samples breaks penalty (chainIn starts ends xs ys) ≡ sumFrom samples breaks penalty before (Summed.At s) (piecesFrom starts ends xs ys (length starts - i) i)
 
 module _ (samples : List (List Float)) (breaks : Row) (penalty : Float) (starts ends : List ℕ) (xs ys : List Float) where
-  pub summing : Summing samples breaks penalty starts ends xs ys Start nil 0
+  pub summing : Summing samples breaks penalty starts ends xs ys Start nought 0
   summing =
       let all : length starts - 0 ≡ length starts = omega arith in
       rw all
 
   module _ (before : Before) (s : Float) (i : ℕ) (so : Summing samples breaks penalty starts ends xs ys before s i) where
-    pub summed : length starts ≤ i → Summed.At s ≡ sumOf samples breaks penalty (chainOf starts ends xs ys)
+    pub summed : length starts ≤ i → Summed.At s ≡ sumOf samples breaks penalty (chainIn starts ends xs ys)
     unfolding sumFrom
     summed h = sym (so ∙ rw (none starts ends xs ys i h))
 
-    module _ (more : i < length starts) (p : Piece) (is : p ≡ pieceAt starts ends xs ys i) (q : Quad) (drawn : q ≡ quadOf breaks p)
+    module _ (more : i < length starts) (p : Piece) (is : p ≡ pieceAt starts ends xs ys i) (q : Quad) (drawn : q ≡ pieceQuad breaks p)
         (a b : Break) (from : a ≡ breakAt breaks (p .from)) (to : b ≡ breakAt breaks (p .to)) where
-      turned : sumOf samples breaks penalty (chainOf starts ends xs ys)
+      turned : sumOf samples breaks penalty (chainIn starts ends xs ys)
           ≡ sumFrom samples breaks penalty before (Summed.At s) (p ∷ piecesFrom starts ends xs ys (length starts - (i + 1)) (i + 1))
       turned = so ∙ rw (next starts ends xs ys i more, is)
 
-      pub one-refused : measureOf samples (a .s) (b .s) q ≡ Measured.Last → Summed.Last ≡ sumOf samples breaks penalty (chainOf starts ends xs ys)
+      pub one-refused : measureOf samples (a .s) (b .s) q ≡ Measured.Missing → Summed.Missing ≡ sumOf samples breaks penalty (chainIn starts ends xs ys)
       one-refused h = sym (turned ∙ ends-it samples breaks penalty before s p _ (rw (from, to, drawn) at h))
 
       pub sums-on : (m : Measure) (j : Float) → measureOf samples (a .s) (b .s) q ≡ Measured.At m → j ≡ jointOf before q →
@@ -298,7 +298,7 @@ module _ (samples : List (List Float)) (breaks : Row) (penalty : Float) (starts 
 
 -- ---- the lookups that fell: so many in i pieces
 pub record Falling (samples : List (List Float)) (breaks : Row) (starts ends : List ℕ) (xs ys : List Float) (n i : ℕ) : Type 0 where
-  pub sofar : fallenAlong samples breaks (chainOf starts ends xs ys) ≡ n + fallenAlong samples breaks (piecesFrom starts ends xs ys (length starts - i) i)
+  pub sofar : fallenAlong samples breaks (chainIn starts ends xs ys) ≡ n + fallenAlong samples breaks (piecesFrom starts ends xs ys (length starts - i) i)
   pub few : n ≤ 80 * i
 
 module _ (samples : List (List Float)) (breaks : Row) (starts ends : List ℕ) (xs ys : List Float) where
@@ -307,18 +307,18 @@ module _ (samples : List (List Float)) (breaks : Row) (starts ends : List ℕ) (
       let all : length starts - 0 ≡ length starts = omega arith in
       record { sofar = rw all (omega arith); few = omega arith }
 
-  pub none-counted : (penalty : Float) → Summed.Last ≡ sumOf samples breaks penalty (chainOf starts ends xs ys) →
-      0 ≡ fallenOfSum samples breaks penalty (chainOf starts ends xs ys)
+  pub none-counted : (penalty : Float) → Summed.Missing ≡ sumOf samples breaks penalty (chainIn starts ends xs ys) →
+      0 ≡ fallenOfSum samples breaks penalty (chainIn starts ends xs ys)
   unfolding fallenOfSum
   none-counted penalty e = rw (← e) refl
 
   module _ {n i : ℕ} (so : Falling samples breaks starts ends xs ys n i) where
-    pub all-counted : length starts ≤ i → (penalty : Float) {s : Float} → Summed.At s ≡ sumOf samples breaks penalty (chainOf starts ends xs ys) →
-        n ≡ fallenOfSum samples breaks penalty (chainOf starts ends xs ys)
+    pub all-counted : length starts ≤ i → (penalty : Float) {s : Float} → Summed.At s ≡ sumOf samples breaks penalty (chainIn starts ends xs ys) →
+        n ≡ fallenOfSum samples breaks penalty (chainIn starts ends xs ys)
     unfolding fallenOfSum fallenAlong
     all-counted h penalty e = rw (← e) (sym (so .sofar ∙ rw (none starts ends xs ys i h) (omega arith)))
 
-    module _ (more : i < length starts) (p : Piece) (is : p ≡ pieceAt starts ends xs ys i) (q : Quad) (drawn : q ≡ quadOf breaks p)
+    module _ (more : i < length starts) (p : Piece) (is : p ≡ pieceAt starts ends xs ys i) (q : Quad) (drawn : q ≡ pieceQuad breaks p)
         (a b : Break) (from : a ≡ breakAt breaks (p .from)) (to : b ≡ breakAt breaks (p .to)) {k : ℕ} (fell : k ≡ fallenOf samples (a .s) (b .s) q) where
       pub counted-few : k ≤ 80
       counted-few = rw fell (fallen-most samples (a .s) (b .s) q)

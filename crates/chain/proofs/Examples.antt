@@ -2,10 +2,10 @@
 use mathlib.Core.Bool.{true, false}
 use mathlib.Core.Path.{_≡_, refl}
 use lib.Ieee.{nan, binary64, ofBits, eq, isNan}
-use Rattle.float.specs.Numbers.{nil, one}
+use Rattle.float.specs.Numbers.{nought, one}
 use Rattle.chain.specs.Valid.{equals}
 
-zero-of-either-sign : equals nil (ofBits binary64 0x8000_0000_0000_0000) ≡ true
+zero-of-either-sign : equals nought (ofBits binary64 0x8000_0000_0000_0000) ≡ true
 unfolding eq isNan ofBits
 zero-of-either-sign = refl
 
@@ -13,7 +13,7 @@ nan-and-nan : equals nan nan ≡ true
 unfolding eq isNan
 nan-and-nan = refl
 
-nan-and-zero : equals nan nil ≡ false
+nan-and-zero : equals nan nought ≡ false
 unfolding eq isNan ofBits
 nan-and-zero = refl
 

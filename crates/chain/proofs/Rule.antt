@@ -1,10 +1,10 @@
 -- The checker says yes exactly when a chain obeys the user's rule. Assumes nothing.
-use Prim.Native.Nat.{ℕ, zero, suc, _<_, _≤_}
+use Prim.Native.Nat.{ℕ, zero, suc}
 use native.Mathlib.Omega.{arith}
-use mathlib.Core.Bool.{Bool, true, false, not, _&&_, _||_, false≢true, true≢false}
+use mathlib.Core.Bool.{Bool, true, false, not, _&&_, _||_, false≢true}
 use mathlib.Core.List.{List, [], _∷_}
 use mathlib.Core.Logic.{_⊎_, inl, inr, ⊎-elim}
-use mathlib.Core.Path.{_≡_, refl, sym, ap, subst, _∙_}
+use mathlib.Core.Path.{_≡_, refl, sym, subst}
 use borrow.Author.Tests.{eq-eqb, eqb-true, lt-ltb, ltb-true, le-leb, leb-true}
 use lib.Dec.{eqb, ltb, leb}
 use lib.ListN.{length}
@@ -17,8 +17,8 @@ use Rattle.geometry.specs.declared.Quad.{Quad}
 use Rattle.geometry.specs.declared.Crossing.{Crossing}
 use Rattle.geometry.specs.declared.Crossing.the-variants as Crossing
 use Rattle.breaks.specs.Breaks.{Row, breakAt}
-use Rattle.chain.specs.Valid.{equals, equalPoints, drawn, straight, atRounded, bent, curved, followsCurve, validPiece, leads, stays, joined}
-use Rattle.chain.specs.Valid.{quadOf, validFrom, goodShape, sumOf, verdict, judgedBy, yesIf, checkOf, evenRows, checkedIf, chainOf, checkRows}
+use Rattle.chain.specs.Valid.{equals, equalPoints, drawn, straight, atRounded, bent, curved, followsCurve, validPiece, leads, joined}
+use Rattle.chain.specs.Valid.{pieceQuad, validFrom, goodShape, sumOf, verdict, judgedBy, checkedChain, evenRows, checkedIf, chainIn, checkRows}
 use Rattle.chain.specs.Laws.{accepts-exactly}
 use Rattle.chain.specs.Rule.{Equal, EqualPoints, Straight, Bent, OnWhole, Curved, Follows, smoothly, Fine, Leads, arrived, onward}
 use Rattle.chain.specs.Rule.{Joined, staying, leading, Each, all, and, Shaped, Obeys, Even, Valid, ValidExactly}
@@ -160,8 +160,8 @@ module _ (breaks : Row) where
   unfolding validFrom
   each-so before [] e = all
   each-so before (p ∷ ps) e =
-      let h = both (validPiece before (breakAt breaks (p .from)) (breakAt breaks (p .to)) (p .control)) (validFrom breaks (After (quadOf breaks p)) ps) e in
-      and (fine-so before _ _ _ (h .0)) (each-so (After (quadOf breaks p)) ps (h .1))
+      let h = both (validPiece before (breakAt breaks (p .from)) (breakAt breaks (p .to)) (p .control)) (validFrom breaks (After (pieceQuad breaks p)) ps) e in
+      and (fine-so before _ _ _ (h .0)) (each-so (After (pieceQuad breaks p)) ps (h .1))
 
   each-is : {before : Before} {ps : List Piece} → Each breaks before ps → validFrom breaks before ps ≡ true
   unfolding validFrom
@@ -179,13 +179,13 @@ module _ (breaks : Row) where
 -- ---- the chain
 
 module _ (samples : List (List Float)) (breaks : Row) (penalty : Float) (ps : List Piece) (score : Float) where
-  obeys-by : (s : Summed) → sumOf samples breaks penalty ps ≡ s → checkOf samples breaks penalty ps score ≡ Checked.Yes → Obeys samples breaks penalty ps score
-  unfolding checkOf
-  obeys-by Summed.Last e h = absurd (by (goodShape breaks ps) h)
+  obeys-by : (s : Summed) → sumOf samples breaks penalty ps ≡ s → checkedChain samples breaks penalty ps score ≡ Checked.Yes → Obeys samples breaks penalty ps score
+  unfolding checkedChain
+  obeys-by Summed.Missing e h = absurd (by (goodShape breaks ps) h)
     where
       by : (good : Bool) → verdict samples breaks penalty good ps score ≡ Checked.Yes → ⊥
       by true k =
-          let last : judgedBy samples breaks penalty Summed.Last score ≡ Checked.Yes = rw e at k in
+          let last : judgedBy samples breaks penalty Summed.Missing score ≡ Checked.Yes = rw e at k in
           let z : _≡_ {A = ℕ} 0 1 = cc in
           omega arith
       by false k = let z : _≡_ {A = ℕ} 0 1 = cc in omega arith
@@ -193,7 +193,7 @@ module _ (samples : List (List Float)) (breaks : Row) (penalty : Float) (ps : Li
       let k = accepts-exactly samples breaks penalty ps score s e .0 h in
       record { shape = shaped-so breaks ps (k .0); sum = s; summed = e; equal = equal-so s score (k .1) }
 
-  obeys-is : Obeys samples breaks penalty ps score → checkOf samples breaks penalty ps score ≡ Checked.Yes
+  obeys-is : Obeys samples breaks penalty ps score → checkedChain samples breaks penalty ps score ≡ Checked.Yes
   obeys-is o = accepts-exactly samples breaks penalty ps score (o .sum) (o .summed) .1 (shaped-is breaks ps (o .shape), equals-so (o .sum) score (o .equal))
 
 even-so : (starts ends : List ℕ) (xs ys : List Float) → evenRows starts ends xs ys ≡ true → Even starts ends xs ys
@@ -210,7 +210,7 @@ pub valid-exactly : ValidExactly
 unfolding checkRows
 valid-exactly samples breaks penalty starts ends xs ys score = (by (evenRows starts ends xs ys) refl, λ v. rw (even-is starts ends xs ys (v .even)) (obeys-is samples breaks penalty _ score (v .obeys)))
   where
-    by : (even : Bool) → evenRows starts ends xs ys ≡ even → checkedIf even (checkOf samples breaks penalty (chainOf starts ends xs ys) score) ≡ Checked.Yes →
+    by : (even : Bool) → evenRows starts ends xs ys ≡ even → checkedIf even (checkedChain samples breaks penalty (chainIn starts ends xs ys) score) ≡ Checked.Yes →
         Valid samples breaks penalty starts ends xs ys score
     by true e h = record { even = even-so starts ends xs ys e; obeys = obeys-by samples breaks penalty _ score _ refl h }
     by false e h = let z : _≡_ {A = ℕ} 0 1 = cc in absurd (omega arith)

@@ -5,7 +5,7 @@ use mathlib.Core.List.{List, [], _∷_}
 use lib.Ieee.{Float}
 use Rattle.breaks.specs.Breaks.{Row, breakAt}
 use Rattle.measure.specs.Fallen.{fallenOf}
-use Rattle.chain.specs.Valid.{quadOf, goodShape, sumOf, chainOf, evenRows}
+use Rattle.chain.specs.Valid.{pieceQuad, goodShape, sumOf, chainIn, evenRows}
 use Rattle.chain.specs.declared.Piece.{Piece}
 use Rattle.chain.specs.declared.Summed.{Summed}
 use Rattle.chain.specs.declared.Summed.the-variants as Summed
@@ -13,7 +13,7 @@ use Rattle.chain.specs.declared.Summed.the-variants as Summed
 module _ (samples : List (List Float)) (breaks : Row) where
   -- in the measure of a piece, between the lengths of its two breaks
   abbrev pub fallenOfPiece : Piece → ℕ
-  fallenOfPiece p = fallenOf samples (breakAt breaks (p .from) .s) (breakAt breaks (p .to) .s) (quadOf breaks p)
+  fallenOfPiece p = fallenOf samples (breakAt breaks (p .from) .s) (breakAt breaks (p .to) .s) (pieceQuad breaks p)
 
   unfoldable pub fallenAlong : List Piece → ℕ
   fallenAlong [] = 0
@@ -22,7 +22,7 @@ module _ (samples : List (List Float)) (breaks : Row) where
   -- a measure that is refused leaves none
   abbrev pub unlessLast : Summed → ℕ → ℕ
   unlessLast (Summed.At s) n = n
-  unlessLast Summed.Last n = 0
+  unlessLast Summed.Missing n = 0
 
   unfoldable pub fallenOfSum : Float → List Piece → ℕ
   fallenOfSum penalty ps = unlessLast (sumOf samples breaks penalty ps) (fallenAlong ps)
@@ -35,4 +35,4 @@ module _ (samples : List (List Float)) (breaks : Row) where
   unfoldable pub fallenRows : Float → List ℕ → List ℕ → List Float → List Float → ℕ
   fallenRows penalty starts ends xs ys =
       measuredIf (evenRows starts ends xs ys)
-      (measuredIf (goodShape breaks (chainOf starts ends xs ys)) (fallenOfSum penalty (chainOf starts ends xs ys)))
+      (measuredIf (goodShape breaks (chainIn starts ends xs ys)) (fallenOfSum penalty (chainIn starts ends xs ys)))

@@ -8,7 +8,7 @@ use mathlib.Core.Path.{_≡_, refl}
 use borrow.Author.Tests.{eq-eqb}
 use lib.Ieee.{Float, nan, inf, fin, up, down, eq, isNan}
 use Rattle.breaks.specs.Breaks.{Row}
-use Rattle.chain.specs.Valid.{equals, goodShape, sumOf, yesIf, judgedBy, verdict, checkOf}
+use Rattle.chain.specs.Valid.{equals, goodShape, sumOf, yesIf, judgedBy, verdict, checkedChain}
 use Rattle.chain.specs.declared.Piece.{Piece}
 use Rattle.chain.specs.declared.Summed.{Summed}
 use Rattle.chain.specs.declared.Summed.the-variants as Summed
@@ -35,7 +35,7 @@ equals-same x = rw (eq-self x) (either (isNan x))
 -- ---- the checker
 
 module _ (samples : List (List Float)) (breaks : Row) (penalty : Float) where
-  never-last : (b : Bool) → yesIf samples breaks penalty b ≡ Checked.Last → ⊥
+  never-last : (b : Bool) → yesIf samples breaks penalty b ≡ Checked.Missing → ⊥
   never-last true e = let z : _≡_ {A = ℕ} 0 1 = cc in omega arith
   never-last false e = let z : _≡_ {A = ℕ} 0 1 = cc in omega arith
 
@@ -44,18 +44,19 @@ module _ (samples : List (List Float)) (breaks : Row) (penalty : Float) where
   yes-only false e = absurd (let z : _≡_ {A = ℕ} 0 1 = cc in omega arith)
 
   module _ (ps : List Piece) (score : Float) where
-    no-sum : (s : Summed) → judgedBy samples breaks penalty s score ≡ Checked.Last → s ≡ Summed.Last
+    no-sum : (s : Summed) → judgedBy samples breaks penalty s score ≡ Checked.Missing → s ≡ Summed.Missing
     no-sum (Summed.At s) e = absurd (never-last (equals s score) e)
-    no-sum Summed.Last e = refl
+    no-sum Summed.Missing e = refl
 
-    refused : (good : Bool) → verdict samples breaks penalty good ps score ≡ Checked.Last → (good ≡ true) × (sumOf samples breaks penalty ps ≡ Summed.Last)
+    refused : (good : Bool) → verdict samples breaks penalty good ps score ≡ Checked.Missing →
+        (good ≡ true) × (sumOf samples breaks penalty ps ≡ Summed.Missing)
     refused false e = absurd (let z : _≡_ {A = ℕ} 0 1 = cc in omega arith)
     refused true e = (refl, no-sum (sumOf samples breaks penalty ps) e)
 
     -- 8 exactly when the shape is good and a measure of the sum is refused
-    pub refuses-exactly : (checkOf samples breaks penalty ps score ≡ Checked.Last) ↔
-        ((goodShape breaks ps ≡ true) × (sumOf samples breaks penalty ps ≡ Summed.Last))
-    unfolding checkOf
+    pub refuses-exactly : (checkedChain samples breaks penalty ps score ≡ Checked.Missing) ↔
+        ((goodShape breaks ps ≡ true) × (sumOf samples breaks penalty ps ≡ Summed.Missing))
+    unfolding checkedChain
     refuses-exactly = (refused (goodShape breaks ps), λ h. rw (h .0, h .1))
 
     yes : (s : Float) (good : Bool) → sumOf samples breaks penalty ps ≡ Summed.At s → verdict samples breaks penalty good ps score ≡ Checked.Yes →
@@ -65,6 +66,6 @@ module _ (samples : List (List Float)) (breaks : Row) (penalty : Float) where
 
     -- where the published sum is s, yes exactly when the shape is good and s equals the score
     pub accepts-exactly : (s : Float) → sumOf samples breaks penalty ps ≡ Summed.At s →
-        (checkOf samples breaks penalty ps score ≡ Checked.Yes) ↔ ((goodShape breaks ps ≡ true) × (equals s score ≡ true))
-    unfolding checkOf
+        (checkedChain samples breaks penalty ps score ≡ Checked.Yes) ↔ ((goodShape breaks ps ≡ true) × (equals s score ≡ true))
+    unfolding checkedChain
     accepts-exactly s summed = (yes s (goodShape breaks ps) summed, λ h. rw (h .0, summed, h .1))

@@ -15,7 +15,7 @@ use Rattle.geometry.specs.declared.Point.{Point}
 use Rattle.geometry.specs.declared.Quad.{Quad}
 use Rattle.geometry.specs.declared.Crossing.the-variants as Crossing
 use Rattle.breaks.specs.Breaks.{Row, breakAt}
-use Rattle.chain.specs.Valid.{drawn, quadOf, sumOf, chainOf, checkRows}
+use Rattle.chain.specs.Valid.{drawn, pieceQuad, sumOf, chainIn, checkRows}
 use Rattle.chain.specs.declared.Piece.{Piece}
 use Rattle.chain.specs.declared.Before.{Before}
 use Rattle.chain.specs.declared.Before.the-variants.{Start, After}
@@ -74,7 +74,7 @@ module _ (breaks : Row) where
   pub data Each : Before → List Piece → Type 0 where
     all : {before : Before} → Each before []
     and : {before : Before} {p : Piece} {ps : List Piece} → Fine before (breakAt breaks (p .from)) (breakAt breaks (p .to)) (p .control) →
-        Each (After (quadOf breaks p)) ps → Each before (p ∷ ps)
+        Each (After (pieceQuad breaks p)) ps → Each before (p ∷ ps)
 
   pub record Shaped (ps : List Piece) : Type 0 where
     pub joined : Joined (length breaks - 1) ps
@@ -98,7 +98,7 @@ pub record Even (starts ends : List ℕ) (xs ys : List Float) : Type 0 where
 -- a chain in rows, with its score
 pub record Valid (samples : List (List Float)) (breaks : Row) (penalty : Float) (starts ends : List ℕ) (xs ys : List Float) (score : Float) : Type 0 where
   pub even : Even starts ends xs ys
-  pub obeys : Obeys samples breaks penalty (chainOf starts ends xs ys) score
+  pub obeys : Obeys samples breaks penalty (chainIn starts ends xs ys) score
 
 abbrev pub ValidExactly : Type 0
 ValidExactly =

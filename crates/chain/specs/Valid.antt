@@ -6,7 +6,7 @@ use mathlib.Core.List.{List, [], _∷_}
 use lib.Dec.{eqb, ltb, leb}
 use lib.ListN.{length, getD}
 use lib.Ieee.{Float, nan, binary64, add, mul, eq, isNan}
-use Rattle.float.specs.Numbers.{nil, half, one, two}
+use Rattle.float.specs.Numbers.{nought, half, one, two}
 use Rattle.geometry.specs.Geometry.{lerpOf, isClose, isLine, isWhole, intersectOf, roundPointOf}
 use Rattle.geometry.specs.declared.Break.{Break}
 use Rattle.geometry.specs.declared.Point.{Point}
@@ -83,12 +83,12 @@ joined zero ps = stays ps
 joined (suc n) ps = leads (suc n) 0 ps
 
 module _ (breaks : Row) where
-  abbrev pub quadOf : Piece → Quad
-  quadOf p = drawn (breakAt breaks (p .from)) (breakAt breaks (p .to)) (p .control)
+  abbrev pub pieceQuad : Piece → Quad
+  pieceQuad p = drawn (breakAt breaks (p .from)) (breakAt breaks (p .to)) (p .control)
 
   unfoldable pub validFrom : Before → List Piece → Bool
   validFrom before [] = true
-  validFrom before (p ∷ ps) = validPiece before (breakAt breaks (p .from)) (breakAt breaks (p .to)) (p .control) && validFrom (After (quadOf p)) ps
+  validFrom before (p ∷ ps) = validPiece before (breakAt breaks (p .from)) (breakAt breaks (p .to)) (p .control) && validFrom (After (pieceQuad p)) ps
 
   unfoldable pub goodShape : List Piece → Bool
   goodShape ps = joined (length breaks - 1) ps && validFrom Start ps
@@ -104,22 +104,22 @@ abbrev pub jointOf : Before → Quad → Float
 jointOf before q = oneOrTwo (isLine q || followsCurve before q)
 
 abbrev pub added : Float → Before → Quad → Summed → Measured → Summed
-added penalty before q Summed.Last m = Summed.Last
-added penalty before q (Summed.At s) Measured.Last = Summed.Last
+added penalty before q Summed.Missing m = Summed.Missing
+added penalty before q (Summed.At s) Measured.Missing = Summed.Missing
 added penalty before q (Summed.At s) (Measured.At m) = Summed.At (add binary64 (add binary64 s (mul binary64 penalty (jointOf before q))) (m .error))
 
 module _ (samples : List (List Float)) (breaks : Row) (penalty : Float) where
   -- how far the control as given is from the samples between the lengths of the two breaks
   abbrev pub measureOfPiece : Piece → Measured
-  measureOfPiece p = measureOf samples (breakAt breaks (p .from) .s) (breakAt breaks (p .to) .s) (quadOf breaks p)
+  measureOfPiece p = measureOf samples (breakAt breaks (p .from) .s) (breakAt breaks (p .to) .s) (pieceQuad breaks p)
 
   -- in chain order; a measure that is refused ends it
   unfoldable pub sumFrom : Before → Summed → List Piece → Summed
   sumFrom before s [] = s
-  sumFrom before s (p ∷ ps) = sumFrom (After (quadOf breaks p)) (added penalty before (quadOf breaks p) s (measureOfPiece p)) ps
+  sumFrom before s (p ∷ ps) = sumFrom (After (pieceQuad breaks p)) (added penalty before (pieceQuad breaks p) s (measureOfPiece p)) ps
 
   abbrev pub sumOf : List Piece → Summed
-  sumOf ps = sumFrom Start (Summed.At nil) ps
+  sumOf ps = sumFrom Start (Summed.At nought) ps
 
   -- ---- what the checker says
 
@@ -128,7 +128,7 @@ module _ (samples : List (List Float)) (breaks : Row) (penalty : Float) where
   yesIf false = Checked.No
 
   abbrev pub judgedBy : Summed → Float → Checked
-  judgedBy Summed.Last score = Checked.Last
+  judgedBy Summed.Missing score = Checked.Missing
   judgedBy (Summed.At s) score = yesIf (equals s score)
 
   -- a fault of shape is no; then a measure that is refused is 8; then yes exactly when the sum equals the score
@@ -136,8 +136,8 @@ module _ (samples : List (List Float)) (breaks : Row) (penalty : Float) where
   verdict false ps score = Checked.No
   verdict true ps score = judgedBy (sumOf ps) score
 
-  unfoldable pub checkOf : List Piece → Float → Checked
-  checkOf ps score = verdict (goodShape breaks ps) ps score
+  unfoldable pub checkedChain : List Piece → Float → Checked
+  checkedChain ps score = verdict (goodShape breaks ps) ps score
 
 -- ---- a chain in rows: start breaks, end breaks, controls' x and y
 
@@ -150,8 +150,8 @@ module _ (starts ends : List ℕ) (xs ys : List Float) where
   piecesFrom zero i = []
   piecesFrom (suc k) i = pieceAt i ∷ piecesFrom k (i + 1)
 
-  abbrev pub chainOf : List Piece
-  chainOf = piecesFrom (length starts) 0
+  abbrev pub chainIn : List Piece
+  chainIn = piecesFrom (length starts) 0
 
 abbrev pub evenRows : List ℕ → List ℕ → List Float → List Float → Bool
 evenRows starts ends xs ys = eqb (length ends) (length starts) && (eqb (length xs) (length starts) && eqb (length ys) (length starts))
@@ -163,4 +163,4 @@ checkedIf true c = c
 
 unfoldable pub checkRows : List (List Float) → Row → Float → List ℕ → List ℕ → List Float → List Float → Float → Checked
 checkRows samples breaks penalty starts ends xs ys score =
-    checkedIf (evenRows starts ends xs ys) (checkOf samples breaks penalty (chainOf starts ends xs ys) score)
+    checkedIf (evenRows starts ends xs ys) (checkedChain samples breaks penalty (chainIn starts ends xs ys) score)

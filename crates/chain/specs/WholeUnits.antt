@@ -8,7 +8,7 @@ use lib.Ieee.{Float}
 use Rattle.geometry.specs.Geometry.{Finite}
 use Rattle.breaks.specs.Breaks as Breaks
 use Rattle.breaks.specs.Breaks.{Row, wholeGrid, breakAt, breaksOf}
-use Rattle.chain.specs.Valid.{chainOf, checkRows}
+use Rattle.chain.specs.Valid.{chainIn, checkRows}
 use Rattle.chain.specs.Rule.{OnWhole}
 use Rattle.chain.specs.declared.Piece.{Piece}
 use Rattle.chain.specs.declared.Checked.the-variants as Checked
@@ -17,4 +17,4 @@ abbrev pub StartsOnUnits : Type 0
 StartsOnUnits =
     (room : ℕ) (samples : List (List Float)) (len : Float) (breaks : Row) → breaksOf room samples wholeGrid len ≡ Breaks.breaks breaks →
     (penalty : Float) (starts ends : List ℕ) (xs ys : List Float) (score : Float) → checkRows samples breaks penalty starts ends xs ys score ≡ Checked.Yes →
-    (p : Piece) → List·Memᴰ p (chainOf starts ends xs ys) → OnWhole (breakAt breaks (p .from)) × Finite (breakAt breaks (p .from) .xy)
+    (p : Piece) → List·Memᴰ p (chainIn starts ends xs ys) → OnWhole (breakAt breaks (p .from)) × Finite (breakAt breaks (p .from) .xy)

@@ -29,7 +29,7 @@ pub enum Before {
 // A sum of scores; or a measure was refused, 8.
 pub enum Summed {
     At(f64),
-    Last,
+    Missing,
 }
 
 // A sum, and the lookups that fell in its measures.
@@ -40,7 +40,7 @@ pub struct Total {
 
 pub enum Checked {
     // refusal 8
-    Last,
+    Missing,
     Yes,
     No,
 }
@@ -82,7 +82,7 @@ pub fn check(
     let sum = t.sum;
     let Summed::At(s) = sum else {
         return Checking {
-            said: Checked::Last,
+            said: Checked::Missing,
             fallen,
         };
     };

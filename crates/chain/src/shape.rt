@@ -10,7 +10,7 @@ ghost use Prim.Native.Nat.{_-_, _<_};
 ghost use mathlib.Core.List.{List};
 ghost use lib.ListN.{length};
 ghost use lib.Ieee.{Float};
-ghost use Rattle.chain.specs.Valid.{quadOf, pieceAt, chainOf, evenRows, joined, leads, validFrom, goodShape};
+ghost use Rattle.chain.specs.Valid.{pieceQuad, pieceAt, chainIn, evenRows, joined, leads, validFrom, goodShape};
 ghost use Rattle.chain.specs.declared.Before.the-variants.{Start};
 
 pub fn are_even(starts: &[u32], ends: &[u32], xs: &[f64], ys: &[f64]) -> bool
@@ -40,7 +40,7 @@ pub fn read(starts: &[u32], ends: &[u32], xs: &[f64], ys: &[f64], i: usize) -> P
 
 pub fn quad_of(breaks: &[[f64; 6]], p: Piece) -> Quad
     requires { ⌜ (p .from < length (now breaks)) × (p .to < length (now breaks)) ⌝ }
-    ensures { λ r. ⌜ r ≡ quadOf (now (breaks .entry)) p ⌝ }
+    ensures { λ r. ⌜ r ≡ pieceQuad (now (breaks .entry)) p ⌝ }
 {
     let a = breaks::read(breaks, p.from);
     let b = breaks::read(breaks, p.to);
@@ -53,7 +53,7 @@ pub fn quad_of(breaks: &[[f64; 6]], p: Piece) -> Quad
 // Break numbers, of a run with two breaks or more: the last is n.
 fn leads(starts: &[u32], ends: &[u32], n: usize) -> bool
     requires { ⌜ length (now ends) ≡ length (now starts) ⌝ }
-    ensures { λ r. ⌜ ((xs ys : List Float) → r ≡ leads n 0 (chainOf (now (starts .entry)) (now (ends .entry)) xs ys)) ⌝ }
+    ensures { λ r. ⌜ ((xs ys : List Float) → r ≡ leads n 0 (chainIn (now (starts .entry)) (now (ends .entry)) xs ys)) ⌝ }
 {
     let mut at = 0;
     let mut i = 0;
@@ -78,7 +78,7 @@ fn leads(starts: &[u32], ends: &[u32], n: usize) -> bool
 // A run with one break has one piece, staying there.
 fn stays(starts: &[u32], ends: &[u32]) -> bool
     requires { ⌜ length (now ends) ≡ length (now starts) ⌝ }
-    ensures { λ r. ⌜ ((xs ys : List Float) → r ≡ joined 0 (chainOf (now (starts .entry)) (now (ends .entry)) xs ys)) ⌝ }
+    ensures { λ r. ⌜ ((xs ys : List Float) → r ≡ joined 0 (chainIn (now (starts .entry)) (now (ends .entry)) xs ys)) ⌝ }
 {
     if starts.len() != 1 {
         return false;
@@ -91,8 +91,8 @@ fn stays(starts: &[u32], ends: &[u32]) -> bool
 
 fn are_valid(breaks: &[[f64; 6]], starts: &[u32], ends: &[u32], xs: &[f64], ys: &[f64]) -> bool
     requires { ⌜ (0 < length (now breaks)) × (evenRows (now starts) (now ends) (now xs) (now ys) ≡ true) ⌝ }
-    requires { ⌜ joined (length (now breaks) - 1) (chainOf (now starts) (now ends) (now xs) (now ys)) ≡ true ⌝ }
-    ensures { λ r. ⌜ r ≡ validFrom (now (breaks .entry)) Start (chainOf (now (starts .entry)) (now (ends .entry)) (now (xs .entry)) (now (ys .entry))) ⌝ }
+    requires { ⌜ joined (length (now breaks) - 1) (chainIn (now starts) (now ends) (now xs) (now ys)) ≡ true ⌝ }
+    ensures { λ r. ⌜ r ≡ validFrom (now (breaks .entry)) Start (chainIn (now (starts .entry)) (now (ends .entry)) (now (xs .entry)) (now (ys .entry))) ⌝ }
 {
     let mut before = Before::Start;
     let mut i = 0;
@@ -111,7 +111,7 @@ fn are_valid(breaks: &[[f64; 6]], starts: &[u32], ends: &[u32], xs: &[f64], ys: 
 
 fn joins(starts: &[u32], ends: &[u32], n: usize) -> bool
     requires { ⌜ length (now ends) ≡ length (now starts) ⌝ }
-    ensures { λ r. ⌜ ((xs ys : List Float) → r ≡ joined n (chainOf (now (starts .entry)) (now (ends .entry)) xs ys)) ⌝ }
+    ensures { λ r. ⌜ ((xs ys : List Float) → r ≡ joined n (chainIn (now (starts .entry)) (now (ends .entry)) xs ys)) ⌝ }
 {
     if n == 0 {
         return stays(starts, ends);
@@ -121,7 +121,7 @@ fn joins(starts: &[u32], ends: &[u32], n: usize) -> bool
 
 pub fn is_good(breaks: &[[f64; 6]], starts: &[u32], ends: &[u32], xs: &[f64], ys: &[f64]) -> bool
     requires { ⌜ (0 < length (now breaks)) × (evenRows (now starts) (now ends) (now xs) (now ys) ≡ true) ⌝ }
-    ensures { λ r. ⌜ r ≡ goodShape (now (breaks .entry)) (chainOf (now (starts .entry)) (now (ends .entry)) (now (xs .entry)) (now (ys .entry))) ⌝ }
+    ensures { λ r. ⌜ r ≡ goodShape (now (breaks .entry)) (chainIn (now (starts .entry)) (now (ends .entry)) (now (xs .entry)) (now (ys .entry))) ⌝ }
 {
     if !joins(starts, ends, breaks.len() - 1) {
         return false;

@@ -11,7 +11,7 @@ ghost use mathlib.Core.Bool.{true};
 ghost use Prim.Native.Nat.{_-_, _<_, _≤_};
 ghost use lib.ListN.{length};
 ghost use Rattle.rows.specs.Lent.{before};
-ghost use Rattle.chain.specs.Valid.{jointOf, joined, sumOf, chainOf, evenRows};
+ghost use Rattle.chain.specs.Valid.{jointOf, joined, sumOf, chainIn, evenRows};
 ghost use Rattle.chain.specs.Fallen.{fallenOfSum};
 
 // 1 for a line or a smooth joint of two curves, else 2.
@@ -38,9 +38,9 @@ pub fn sum(
     penalty: f64,
 ) -> Total
     requires { ⌜ (0 < length (now breaks)) × (evenRows (now starts) (now ends) (now xs) (now ys) ≡ true) × (length (now breaks) ≤ 2048) ⌝ }
-    requires { ⌜ joined (length (now breaks) - 1) (chainOf (now starts) (now ends) (now xs) (now ys)) ≡ true ⌝ }
-    ensures { λ r. ⌜ (r .sum ≡ sumOf (before samples) (before breaks) penalty (chainOf (before starts) (before ends) (before xs) (before ys)))
-        × (r .fallen ≡ fallenOfSum (before samples) (before breaks) penalty (chainOf (before starts) (before ends) (before xs) (before ys))) ⌝ }
+    requires { ⌜ joined (length (now breaks) - 1) (chainIn (now starts) (now ends) (now xs) (now ys)) ≡ true ⌝ }
+    ensures { λ r. ⌜ (r .sum ≡ sumOf (before samples) (before breaks) penalty (chainIn (before starts) (before ends) (before xs) (before ys)))
+        × (r .fallen ≡ fallenOfSum (before samples) (before breaks) penalty (chainIn (before starts) (before ends) (before xs) (before ys))) ⌝ }
 {
     let mut before = Before::Start;
     let mut s = 0.0;
@@ -53,7 +53,7 @@ pub fn sum(
         let b = breaks::read(breaks, p.to);
         let Counted::At(m, n) = measure::measure_quad(samples, a.s, b.s, q) else {
             return Total {
-                sum: Summed::Last,
+                sum: Summed::Missing,
                 fallen: 0,
             };
         };

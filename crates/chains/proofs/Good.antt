@@ -18,7 +18,7 @@ use Rattle.edition.specs.Edition as Edition
 use Rattle.edition.specs.Laws.{work-solved}
 use Rattle.edition.specs.Scratch.{roomsOf}
 use Rattle.runs.specs.Runs.{numberedRun}
-use Rattle.optimize.specs.Answers.{Answer, scoreOf}
+use Rattle.attempt.specs.Answers.{Statelet, scoreOf}
 use Rattle.optimize.specs.Optimize.{measureBy}
 use Rattle.optimize.specs.declared.Tally.{Tally}
 use Rattle.optimize.specs.Trace.{lastScores, Least}
@@ -28,7 +28,7 @@ use Rattle.refusals.specs.declared.Judged.{Judged}
 use Rattle.refusals.specs.declared.Judged.the-variants as Judged
 use Rattle.rows.specs.Lent.{inputs}
 use Rattle.rows.specs.Rows.{Work}
-use Rattle.chains.specs.Chains.{Outcome, refused, unchanged, chained, overIf, written, ofRun, afterJudging, chainOf}
+use Rattle.chains.specs.Chains.{Outcome, refused, unchanged, chained, overIf, chainOut, ofRun, afterJudging, chainOf}
 use Rattle.chains.specs.Entry.{Rows, roomIn, answerOf, wholeOf}
 use Rattle.chains.specs.Good.{Good, ChainGood, ReportsGood}
 use Rattle.chains.specs.declared.Chained as C
@@ -46,7 +46,7 @@ module _ (rooms : Rooms) (room : ℕ) (settings : Settings) (xs ys : List ℤ) (
   abbrev penalty : Float
   penalty = penaltyOf settings
 
-  solved-good : (first count : ℕ) → numberedRun (settings .closed) xs ys fs k ≡ Between first count → (a : Answer) (t : Tally) → workOf rooms (gridOf settings) penalty xs ys fs first count ≡ Edition.solved a t →
+  solved-good : (first count : ℕ) → numberedRun (settings .closed) xs ys fs k ≡ Between first count → (a : Statelet) (t : Tally) → workOf rooms (gridOf settings) penalty xs ys fs first count ≡ Edition.solved a t →
       scoreOf a ≡ score → GoodRun
   solved-good first count run a t e s =
       let o = work-solved rooms (gridOf settings) penalty xs ys fs first count a t e in
@@ -63,12 +63,12 @@ module _ (rooms : Rooms) (room : ℕ) (settings : Settings) (xs ys : List ℤ) (
         least = λ n. subst (λ (x : Float). Least x (lastScores measure (o .breaks) penalty)) s (how-good measure (o .breaks) penalty a (t .pairs) (o .fine .some) (o .is) n);
       }
 
-  over-good : (first count : ℕ) → numberedRun (settings .closed) xs ys fs k ≡ Between first count → (a : Answer) (t : Tally) → workOf rooms (gridOf settings) penalty xs ys fs first count ≡ Edition.solved a t →
+  over-good : (first count : ℕ) → numberedRun (settings .closed) xs ys fs k ≡ Between first count → (a : Statelet) (t : Tally) → workOf rooms (gridOf settings) penalty xs ys fs first count ≡ Edition.solved a t →
       (over : Bool) → overIf over (piecesOf a) (scoreOf a) t ≡ chained ps score tally → GoodRun
   over-good first count run a t e true h = absurd (omega (arith, ap isChained h))
   over-good first count run a t e false h = let same : scoreOf a ≡ score = cc in solved-good first count run a t e same
 
-  written-good : (first count : ℕ) → numberedRun (settings .closed) xs ys fs k ≡ Between first count → (x : Result) → workOf rooms (gridOf settings) penalty xs ys fs first count ≡ x → written room x ≡ chained ps score tally → GoodRun
+  written-good : (first count : ℕ) → numberedRun (settings .closed) xs ys fs k ≡ Between first count → (x : Result) → workOf rooms (gridOf settings) penalty xs ys fs first count ≡ x → chainOut room x ≡ chained ps score tally → GoodRun
   written-good first count run (Edition.refused n) e h = absurd (omega (arith, ap isChained h))
   written-good first count run (Edition.unchanged t) e h = absurd (omega (arith, ap isChained h))
   written-good first count run (Edition.solved a t) e h = over-good first count run a t e (ltb room (length (piecesOf a))) h

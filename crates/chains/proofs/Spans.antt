@@ -1,14 +1,14 @@
 -- The segments of a chain's pieces, as they are written from the rows of break numbers. Assumes nothing.
-use Prim.Native.Nat.{ℕ, zero, suc, min, _+_, _≤_, _<_}
+use Prim.Native.Nat.{ℕ, zero, suc, _+_, _≤_, _<_}
 use native.Mathlib.Omega.{arith}
 use mathlib.Core.List.{List, [], _∷_, _++_, map}
 use mathlib.Core.Path.{_≡_, refl, sym, ap, _∙_}
-use lib.ListN.{length, getD, take, drop, set, length-take}
+use lib.ListN.{length, getD, take, drop, set}
 use lib.Seq.{length-take-le, getD-take, take-length}
 use Rattle.breaks.specs.Breaks.{Row}
 use Rattle.chain.specs.declared.Piece.{Piece}
 use Rattle.contour.specs.Output.{front}
-use Rattle.rows.proofs.Filled.{Filled, start, more, filled}
+use Rattle.rows.proofs.Filled.{Filled, more, filled}
 use Rattle.segments.specs.Segments.{segmentAt}
 use Rattle.chains.specs.Spans.{spanOf, spansFrom}
 

@@ -24,7 +24,7 @@ use Rattle.contour.specs.Output.{front}
 use Rattle.segments.specs.Segments.{carried}
 use Rattle.survey.specs.Survey.{Survey, surveyOf, surveyIn}
 use Rattle.survey.specs.declared.Surveyed as Y
-use Rattle.optimize.specs.Answers.{Answer, scoreOf}
+use Rattle.attempt.specs.Answers.{Statelet, scoreOf}
 use Rattle.optimize.specs.Stored.{Anywhere, Holds, starts, follows}
 use Rattle.chain.specs.declared.Piece.{Piece}
 use Rattle.optimize.specs.declared.Tally.{Tally}
@@ -39,7 +39,7 @@ use Rattle.pieces.specs.Slots.{Chain, roomOf, putIf, putOf, Held}
 use Rattle.pieces.specs.declared.Put as D
 use Rattle.pieces.specs.declared.Put.the-variants as Put
 use Rattle.pieces.proofs.Within.{solved-within}
-use Rattle.chains.specs.Chains.{Outcome, overIf, written, ofRun, afterJudging, chainOf}
+use Rattle.chains.specs.Chains.{Outcome, chainOut, ofRun, afterJudging, chainOf}
 use Rattle.chains.specs.Determine.{front-places}
 use Rattle.chains.specs.Entry.{Rows, rows, roomIn, answerOf, rowsOf}
 use Rattle.chains.specs.Spans.{spanOf, spansFrom, rowOf, breaksOf, breaksAt}
@@ -51,11 +51,11 @@ use Rattle.chains.specs.declared.Chained.the-variants as Chained
 -- ---- a stored answer
 
 module _ {breaks : Row} {answers : List (List Float)} {links : List ℕ} where
-  held-in-answers : {k : ℕ} {a : Answer} → Holds Anywhere breaks answers links k a → k < length answers
+  held-in-answers : {k : ℕ} {a : Statelet} → Holds Anywhere breaks answers links k a → k < length answers
   held-in-answers (starts slot) = slot .in-answers
   held-in-answers (follows slot less before) = slot .in-answers
 
-  pub score-is : {k : ℕ} {a : Answer} → Holds Anywhere breaks answers links k a → getD (getD answers k []) 0 nan ≡ scoreOf a
+  pub score-is : {k : ℕ} {a : Statelet} → Holds Anywhere breaks answers links k a → getD (getD answers k []) 0 nan ≡ scoreOf a
   score-is (starts slot) = slot .score
   score-is (follows slot less before) = slot .score
 
@@ -100,7 +100,7 @@ module _ (most : ℕ) (ps : List Piece) (c c' : Chain) {r : D.Put} (e : putOf mo
       by false t f = absurd (omega (arith, ap fits-in f))
 
 -- each row has a place for so many
-pub has-room : (most : ℕ) (a : Answer) (st en : List ℕ) (xs ys : List Float) (c' : Chain) {r : D.Put} {n : ℕ} → putOf most (piecesOf a) (P.chain st en xs ys) ≡ P.left r c' →
+pub has-room : (most : ℕ) (a : Statelet) (st en : List ℕ) (xs ys : List Float) (c' : Chain) {r : D.Put} {n : ℕ} → putOf most (piecesOf a) (P.chain st en xs ys) ≡ P.left r c' →
     r ≡ Put.Pieces n → (n ≤ length st) × (n ≤ length en) × (n ≤ most)
 has-room most a st en xs ys c' e is =
     let f = fits most (piecesOf a) (P.chain st en xs ys) c' e is in
@@ -108,9 +108,9 @@ has-room most a st en xs ys c' e is =
     let many = f .many in
     (omega (arith, fit, many), omega (arith, fit, many), omega (arith, fit, many))
 
-module _ (a : Answer) (breaks : Row) (c : Chain) (spans : List (List ℕ)) (t : Tally) where
+module _ (a : Statelet) (breaks : Row) (c : Chain) (spans : List (List ℕ)) (t : Tally) where
   pub put-nothing : (c' : Chain) {r : D.Put} → putOf (length spans) (piecesOf a) c ≡ P.left r c' → r ≡ Put.Over →
-      handed (Chained.Refused 9) (rows c' spans) ≡ handing (written (roomIn (rows c spans)) (E.solved a t)) breaks (rows c spans)
+      handed (Chained.Refused 9) (rows c' spans) ≡ handing (chainOut (roomIn (rows c spans)) (E.solved a t)) breaks (rows c spans)
   put-nothing c' e is =
       let o = over (length spans) (piecesOf a) c c' e is in
       rw (o .0, o .1) refl
@@ -118,7 +118,7 @@ module _ (a : Answer) (breaks : Row) (c : Chain) (spans : List (List ℕ)) (t : 
   pub put-pieces : (st en : List ℕ) (xs ys : List Float) {spans' : List (List ℕ)} {r : D.Put} {n : ℕ} {s : Float} →
       putOf (length spans) (piecesOf a) c ≡ P.left r (P.chain st en xs ys) → r ≡ Put.Pieces n →
       spans' ≡ front (spansFrom breaks (take n st) (take n en)) spans → s ≡ scoreOf a →
-      handed (Chained.Pieces n s t) (rows (P.chain st en xs ys) spans') ≡ handing (written (roomIn (rows c spans)) (E.solved a t)) breaks (rows c spans)
+      handed (Chained.Pieces n s t) (rows (P.chain st en xs ys) spans') ≡ handing (chainOut (roomIn (rows c spans)) (E.solved a t)) breaks (rows c spans)
   put-pieces st en xs ys e is put score =
       let f = fits (length spans) (piecesOf a) c (P.chain st en xs ys) e is in
       rw (f .room, score, put, f .many, places c st en xs ys (f .is), f .is) refl
@@ -159,13 +159,13 @@ module _ {penalty : Float} {breaks : Row} {answers : List (List Float)} {links :
 
   -- what is handed on of each answer that the rows may hold is handed on of the run's
   pub works-handed : (room : ℕ) (row : Row) (c : Rows) {x : Result} {w : W.Worked} {n k : ℕ} {t : Tally} {h : Handed} → Works penalty breaks answers links x w →
-      w ≡ Worked.Done n k t → ((b : Row) (a : Answer) → Holds Anywhere b answers links k a → h ≡ handing (written room (E.solved a t)) row c) →
-      h ≡ handing (written room x) row c
+      w ≡ Worked.Done n k t → ((b : Row) (a : Statelet) → Holds Anywhere b answers links k a → h ≡ handing (chainOut room (E.solved a t)) row c) →
+      h ≡ handing (chainOut room x) row c
   works-handed room row c (E.no e) is each = absurd (omega (arith, ap kind (sym e ∙ is)))
   works-handed room row c (E.stays e) is each = absurd (omega (arith, ap kind (sym e ∙ is)))
   works-handed room row c (E.holds {n = m} {a = a} samples e few fine by held) is each =
       each (take m breaks) a (subst (λ (j : ℕ). Holds Anywhere (take m breaks) answers links j a) (ap slotIn (sym e ∙ is)) held)
-      ∙ ap (λ (q : Tally). handing (written room (E.solved a q)) row c) (sym (ap tallyIn (sym e ∙ is)))
+      ∙ ap (λ (q : Tally). handing (chainOut room (E.solved a q)) row c) (sym (ap tallyIn (sym e ∙ is)))
 
 pub readable-held : {answers : List (List Float)} {links : List ℕ} {w : W.Worked} {n k : ℕ} {t : Tally} → Readable answers links w → w ≡ Worked.Done n k t → Held answers links k
 readable-held r is = works-held (r .works) is
@@ -177,7 +177,7 @@ of-breaks o c is e = is ∙ ap (λ (b : Row). handing o b c) e
 
 module _ (rooms : Rooms) (settings : Settings) (c : Rows) (xs ys : List ℤ) (fs : List ℕ) where
   abbrev ranOf : Float → Survey → Outcome
-  ranOf penalty s = written (roomIn c) (E.afterSurvey (rooms .answers) (rooms .links) penalty s)
+  ranOf penalty s = chainOut (roomIn c) (E.afterSurvey (rooms .answers) (rooms .links) penalty s)
 
   abbrev runOf : Run → Outcome
   runOf r = ofRun rooms (roomIn c) settings xs ys fs r

@@ -13,7 +13,7 @@ use Rattle.runs.specs.declared.Run.the-variants.{Between, Nothing}
 use Rattle.runs.specs.Runs.{numberedRun}
 use Rattle.settings.specs.Settings.{gridOf, penaltyOf, judgedFor}
 use Rattle.settings.specs.declared.Settings.{Settings}
-use Rattle.optimize.specs.Answers.{scoreOf}
+use Rattle.attempt.specs.Answers.{scoreOf}
 use Rattle.optimize.specs.declared.Tally.{Tally}
 use Rattle.chain.specs.declared.Piece.{Piece}
 use Rattle.edition.specs.Edition.{Result, Rooms, workOf}
@@ -31,10 +31,10 @@ abbrev pub overIf : Bool → List Piece → Float → Tally → Outcome
 overIf true ps score t = refused 9
 overIf false ps score t = chained ps score t
 
-abbrev pub written : ℕ → Result → Outcome
-written room (Edition.refused k) = refused k
-written room (Edition.unchanged t) = unchanged t
-written room (Edition.solved a t) = overIf (ltb room (length (piecesOf a))) (piecesOf a) (scoreOf a) t
+abbrev pub chainOut : ℕ → Result → Outcome
+chainOut room (Edition.refused k) = refused k
+chainOut room (Edition.unchanged t) = unchanged t
+chainOut room (Edition.solved a t) = overIf (ltb room (length (piecesOf a))) (piecesOf a) (scoreOf a) t
 
 -- refusals 1 to 5, and then 16, first
 abbrev pub afterJudging : Judged → Outcome → Outcome
@@ -46,7 +46,7 @@ module _ (rooms : Rooms) (room : ℕ) (settings : Settings) (xs ys : List ℤ) (
   -- refusal 10: no such run, or the run is one copied line
   abbrev pub ofRun : Run → Outcome
   ofRun Nothing = refused 10
-  ofRun (Between first count) = written room (workOf rooms (gridOf settings) (penaltyOf settings) xs ys fs first count)
+  ofRun (Between first count) = chainOut room (workOf rooms (gridOf settings) (penaltyOf settings) xs ys fs first count)
 
   -- of run k
   unfoldable pub chainOf : ℕ → Outcome

@@ -5,7 +5,7 @@ use mathlib.Core.Path.{_≡_}
 use lib.Ieee.{Float}
 use lib.ListN.{length}
 use denote.Triple.Both.{Both}
-use Rattle.float.specs.Numbers.{nil}
+use Rattle.float.specs.Numbers.{nought}
 use Rattle.rows.specs.Rows.{Work}
 use Rattle.rows.specs.Lent.{Lent, before, after, Inputs, inputs}
 use Rattle.settings.specs.declared.Settings.{Settings}
@@ -29,8 +29,8 @@ pub record Report : Type 0 where
   pub fallen : ℕ
 
 abbrev pub report : C.Chained → Report
-report (Chained.Refused k) = record { number = k; pieces = 0; score = nil; pairs = 0; fallen = 0 }
-report (Chained.Unchanged t) = record { number = 0; pieces = 0; score = nil; pairs = t .pairs; fallen = t .fallen }
+report (Chained.Refused k) = record { number = k; pieces = 0; score = nought; pairs = 0; fallen = 0 }
+report (Chained.Unchanged t) = record { number = 0; pieces = 0; score = nought; pairs = t .pairs; fallen = t .fallen }
 report (Chained.Pieces n s t) = record { number = 0; pieces = n; score = s; pairs = t .pairs; fallen = t .fallen }
 
 abbrev pub answerOf : Outcome → C.Chained

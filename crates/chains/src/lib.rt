@@ -13,18 +13,17 @@ ghost use Prim.Native.Nat.{_≤_};
 ghost use lib.Ieee.{Float};
 ghost use lib.ListN.{length, take};
 ghost use Rattle.rows.specs.Lent.{before, room, contour};
-ghost use Rattle.settings.specs.Settings.{gridOf, penaltyOf};
 ghost use Rattle.breaks.specs.Breaks.{Row};
 ghost use Rattle.segments.specs.Segments.{carried};
-ghost use Rattle.optimize.specs.Answers.{Answer};
+ghost use Rattle.attempt.specs.Answers.{Statelet};
 ghost use Rattle.optimize.specs.Stored.{Anywhere, Holds};
 ghost use Rattle.runs.specs.Runs.{numberedRun};
 ghost use Rattle.runs.specs.declared.Run.the-variants.{Between};
-ghost use Rattle.edition.specs.Edition.{Result, solved, editionOf, Found, Works};
+ghost use Rattle.edition.specs.Edition.{Result, solved, editionOf, FoundBreaks, Works};
 ghost use Rattle.edition.specs.Scratch.{roomsIn, scratch};
 ghost use Rattle.contour.specs.Output.{front};
 ghost use Rattle.pieces.specs.Slots.{Held};
-ghost use Rattle.chains.specs.Chains.{written, ofRun, chainOf};
+ghost use Rattle.chains.specs.Chains.{chainOut, ofRun, chainOf};
 ghost use Rattle.chains.specs.Spans.{spansFrom, breaksOf, breaksAt};
 ghost use Rattle.chains.specs.Entry.{roomIn, chainIn, Promise};
 ghost use Rattle.chains.specs.Steps.{Hands, Readable};
@@ -66,8 +65,8 @@ fn put_solved(
     spans: &mut [[u32; 2]],
 ) -> Chained
     requires { ⌜ Held (now answers) (now links) k ⌝ }
-    ensures { λ r. ⌜ ((b : Row) (a : Answer) → Holds Anywhere b (before answers) (before links) k a →
-        Hands (written (roomIn (chainIn starts ends cxs cys spans .entry)) (solved a tally)) (before breaks) (chainIn starts ends cxs cys spans) r) ⌝ }
+    ensures { λ r. ⌜ ((b : Row) (a : Statelet) → Holds Anywhere b (before answers) (before links) k a →
+        Hands (chainOut (roomIn (chainIn starts ends cxs cys spans .entry)) (solved a tally)) (before breaks) (chainIn starts ends cxs cys spans) r) ⌝ }
 {
     match pieces::put_chain(answers, links, k, spans.len(), starts, ends, cxs, cys) {
         Put::Over => Chained::Refused(9),
@@ -91,7 +90,7 @@ fn put_worked(
 ) -> Chained
     requires { ⌜ Readable (now answers) (now links) worked ⌝ }
     ensures { λ r. ⌜ ((penalty : Float) (b : Row) (x : Result) → Works penalty b (before answers) (before links) x worked →
-        Hands (written (roomIn (chainIn starts ends cxs cys spans .entry)) x) (before breaks) (chainIn starts ends cxs cys spans) r) ⌝ }
+        Hands (chainOut (roomIn (chainIn starts ends cxs cys spans .entry)) x) (before breaks) (chainIn starts ends cxs cys spans) r) ⌝ }
 {
     match worked {
         Worked::Refused(n) => Chained::Refused(n),
@@ -131,8 +130,8 @@ fn chain_surveyed(
     answers: &mut [[f64; 3]],
     links: &mut [u32],
 ) -> Chained
-    requires { ⌜ Found (now breaks) × (first ≤ 2048) × (count ≤ 2048) ⌝ }
-    ensures { λ r. ⌜ Hands (written (roomIn (chainIn starts ends cxs cys spans .entry))
+    requires { ⌜ FoundBreaks (now breaks) × (first ≤ 2048) × (count ≤ 2048) ⌝ }
+    ensures { λ r. ⌜ Hands (chainOut (roomIn (chainIn starts ends cxs cys spans .entry))
         (editionOf (room answers) (room links) (before samples) (before breaks) penalty))
         (carried (before xs) (before ys) (before flags) first count (before breaks)) (chainIn starts ends cxs cys spans) r ⌝ }
 {

@@ -3,7 +3,7 @@ use Prim.Native.Nat.{ℕ}
 use native.Mathlib.Omega.{arith}
 use mathlib.Core.Bool.{Bool, true, false, not}
 use mathlib.Core.List.{List}
-use mathlib.Core.Path.{_≡_, refl, sym, ap, subst, _∙_}
+use mathlib.Core.Path.{_≡_, refl, sym, ap, _∙_}
 use borrow.Author.Tests.{ltb-false, le-ltb}
 use lib.Dec.{ltb}
 use lib.Ieee.{Float}
@@ -23,7 +23,7 @@ use Rattle.survey.specs.Survey.{Survey, surveyOf}
 use Rattle.survey.specs.Survey as Survey
 use Rattle.survey.specs.Never.{Sixteen, Answered, six, seven, found}
 use Rattle.survey.proofs.Never.{answered}
-use Rattle.chain.specs.Valid.{evenRows, checkedIf, checkOf, checkRows, chainOf}
+use Rattle.chain.specs.Valid.{evenRows, checkedIf, checkedChain, checkRows, chainIn}
 use Rattle.chain.specs.Laws.{refuses-exactly}
 use Rattle.chain.specs.Rule.{Valid}
 use Rattle.chain.proofs.Rule.{valid-exactly}
@@ -31,7 +31,7 @@ use Rattle.chain.specs.declared.Checked.{Checked}
 use Rattle.chain.specs.declared.Checked.the-variants as Checked
 use Rattle.edition.specs.Edition.{Rooms, answerRoom}
 use Rattle.edition.specs.Scratch.{roomsOf}
-use Rattle.checks.specs.Checks.{Given, verdictOf, unlessShort, ofSurvey, ofRun, afterJudging}
+use Rattle.checks.specs.Checks.{GivenChain, verdictOf, unlessShort, ofSurvey, ofRun, afterJudging}
 use Rattle.checks.specs.Checks as Checks
 use Rattle.checks.specs.Exactly.{Reached, Unmeasured, Accepted, Denied, Unsettled, YesExactly, NoExactly, EightExactly}
 use Rattle.checks.specs.declared.Verdict as D
@@ -40,12 +40,12 @@ use Rattle.checks.specs.declared.Verdict.the-variants as Verdict
 -- ---- a chain
 
 -- what is said of a chain for a surveyed run
-abbrev said : List Sample → Row → Float → Given → Checked
+abbrev said : List Sample → Row → Float → GivenChain → Checked
 said samples breaks penalty c = checkRows samples breaks penalty (c .starts) (c .ends) (c .xs) (c .ys) (c .score)
 
 -- no two kinds are one
 abbrev kind : Checked → ℕ
-kind Checked.Last = 0
+kind Checked.Missing = 0
 kind Checked.Yes = 1
 kind Checked.No = 2
 
@@ -54,22 +54,22 @@ number (Verdict.Refused k) = k
 number Verdict.Yes = 100
 number Verdict.No = 200
 
-module _ (samples : List Sample) (breaks : Row) (penalty : Float) (c : Given) where
+module _ (samples : List Sample) (breaks : Row) (penalty : Float) (c : GivenChain) where
   even-last : (even : Bool) → evenRows (c .starts) (c .ends) (c .xs) (c .ys) ≡ even →
-      checkedIf even (checkOf samples breaks penalty (chainOf (c .starts) (c .ends) (c .xs) (c .ys)) (c .score)) ≡ Checked.Last → Unmeasured samples breaks penalty c
+      checkedIf even (checkedChain samples breaks penalty (chainIn (c .starts) (c .ends) (c .xs) (c .ys)) (c .score)) ≡ Checked.Missing → Unmeasured samples breaks penalty c
   even-last false e h = absurd (omega (arith, ap kind h))
   even-last true e h =
-      let so = refuses-exactly samples breaks penalty (chainOf (c .starts) (c .ends) (c .xs) (c .ys)) (c .score) .0 h in
+      let so = refuses-exactly samples breaks penalty (chainIn (c .starts) (c .ends) (c .xs) (c .ys)) (c .score) .0 h in
       record { even = e; good = so .0; refused = so .1 }
 
-  last-unmeasured : said samples breaks penalty c ≡ Checked.Last → Unmeasured samples breaks penalty c
+  last-unmeasured : said samples breaks penalty c ≡ Checked.Missing → Unmeasured samples breaks penalty c
   unfolding checkRows
   last-unmeasured h = even-last (evenRows (c .starts) (c .ends) (c .xs) (c .ys)) refl h
 
-  unmeasured-last : Unmeasured samples breaks penalty c → said samples breaks penalty c ≡ Checked.Last
+  unmeasured-last : Unmeasured samples breaks penalty c → said samples breaks penalty c ≡ Checked.Missing
   unfolding checkRows
   unmeasured-last u =
-      rw (u .even) (refuses-exactly samples breaks penalty (chainOf (c .starts) (c .ends) (c .xs) (c .ys)) (c .score) .1 (u .good, u .refused))
+      rw (u .even) (refuses-exactly samples breaks penalty (chainIn (c .starts) (c .ends) (c .xs) (c .ys)) (c .score) .1 (u .good, u .refused))
 
   no-says : said samples breaks penalty c ≡ Checked.No →
       (Valid samples breaks penalty (c .starts) (c .ends) (c .xs) (c .ys) (c .score) → ⊥) × (Unmeasured samples breaks penalty c → ⊥)
@@ -83,7 +83,7 @@ module _ (samples : List Sample) (breaks : Row) (penalty : Float) (c : Given) wh
   says-no invalid measured = by (said samples breaks penalty c) refl
     where
       by : (x : Checked) → said samples breaks penalty c ≡ x → said samples breaks penalty c ≡ Checked.No
-      by Checked.Last e = absurd (measured (last-unmeasured e))
+      by Checked.Missing e = absurd (measured (last-unmeasured e))
       by Checked.Yes e = absurd (invalid (valid-exactly samples breaks penalty (c .starts) (c .ends) (c .xs) (c .ys) (c .score) .0 e))
       by Checked.No e = e
 
@@ -116,7 +116,7 @@ never-eight s xs ys fs e = then-other s (judged xs ys fs) (judged-other xs ys fs
 
 -- ---- how a verdict comes about
 
-module _ (rooms : Rooms) (settings : Settings) (xs ys : List ℤ) (fs : List ℕ) (k : ℕ) (c : Given) where
+module _ (rooms : Rooms) (settings : Settings) (xs ys : List ℤ) (fs : List ℕ) (k : ℕ) (c : GivenChain) where
   abbrev penalty : Float
   penalty = penaltyOf settings
 
@@ -177,7 +177,7 @@ module _ (rooms : Rooms) (settings : Settings) (xs ys : List ℤ) (fs : List ℕ
   -- ---- yes
 
   yes-of : (x : Checked) → verdictOf x ≡ Verdict.Yes → x ≡ Checked.Yes
-  yes-of Checked.Last e = absurd (omega (arith, ap number e))
+  yes-of Checked.Missing e = absurd (omega (arith, ap number e))
   yes-of Checked.Yes e = refl
   yes-of Checked.No e = absurd (omega (arith, ap number e))
 
@@ -196,7 +196,7 @@ module _ (rooms : Rooms) (settings : Settings) (xs ys : List ℤ) (fs : List ℕ
   -- ---- no
 
   no-of : (x : Checked) → verdictOf x ≡ Verdict.No → x ≡ Checked.No
-  no-of Checked.Last e = absurd (omega (arith, ap number e))
+  no-of Checked.Missing e = absurd (omega (arith, ap number e))
   no-of Checked.Yes e = absurd (omega (arith, ap number e))
   no-of Checked.No e = refl
 
@@ -212,8 +212,8 @@ module _ (rooms : Rooms) (settings : Settings) (xs ys : List ℤ) (fs : List ℕ
 
   -- ---- 8
 
-  eight-of : (x : Checked) → verdictOf x ≡ Verdict.Refused 8 → x ≡ Checked.Last
-  eight-of Checked.Last e = refl
+  eight-of : (x : Checked) → verdictOf x ≡ Verdict.Refused 8 → x ≡ Checked.Missing
+  eight-of Checked.Missing e = refl
   eight-of Checked.Yes e = absurd (omega (arith, ap number e))
   eight-of Checked.No e = absurd (omega (arith, ap number e))
 

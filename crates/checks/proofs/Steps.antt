@@ -15,7 +15,7 @@ use Rattle.survey.specs.Survey.{surveyOf, surveyIn}
 use Rattle.survey.specs.declared.Surveyed as Y
 use Rattle.rows.specs.Rows.{work}
 use Rattle.rows.specs.Lent.{inputs}
-use Rattle.checks.specs.Checks.{Given, ofRun, afterJudging, checkOf}
+use Rattle.checks.specs.Checks.{GivenChain, ofRun, afterJudging, checkOf}
 use Rattle.checks.specs.Entry.{wholeOf}
 use Rattle.checks.specs.declared.Ruling.{Ruling}
 
@@ -28,7 +28,7 @@ survey-is sampleRow breakRow xs ys fs first count samples breaks grid e is =
 
 -- ---- the entry
 
-module _ (xs ys : List ℤ) (fs : List ℕ) (k : ℕ) (settings : Settings) (c : Given) (s b a : List (List Float)) (l : List ℕ) {r : Ruling} where
+module _ (xs ys : List ℤ) (fs : List ℕ) (k : ℕ) (settings : Settings) (c : GivenChain) (s b a : List (List Float)) (l : List ℕ) {r : Ruling} where
   pub whole-is : {half : ℕ} → half ≡ min (length a) (length l) →
       r ≡ afterJudging (judgedFor settings xs ys fs) (ofRun (half / 2) settings c (length s) (length b) xs ys fs (numberedRun (settings .closed) xs ys fs k)) →
       r ≡ wholeOf (inputs xs ys fs) settings k c (work s b a l)

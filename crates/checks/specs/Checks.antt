@@ -25,7 +25,7 @@ use Rattle.checks.specs.declared.Verdict.the-variants as Verdict
 use Rattle.checks.specs.declared.Ruling.{Ruling}
 
 abbrev pub verdictOf : Checked → D.Verdict
-verdictOf Checked.Last = Verdict.Refused 8
+verdictOf Checked.Missing = Verdict.Refused 8
 verdictOf Checked.Yes = Verdict.Yes
 verdictOf Checked.No = Verdict.No
 
@@ -37,7 +37,7 @@ abbrev pub refusing : ℕ → Ruling
 refusing k = ruling (Verdict.Refused k) 0
 
 -- a chain: its four rows and its score
-pub record Given : Type 0 where
+pub record GivenChain : Type 0 where
   pub starts : List ℕ
   pub ends : List ℕ
   pub xs : List Float
@@ -50,7 +50,7 @@ unlessShort false v = v
 
 -- half: half the shortest answer row, a room for breaks. After 6 and 7 the chain is judged. A length past the samples is never met
 -- (survey/specs/Never); it would be 8
-abbrev pub ofSurvey : ℕ → Float → Given → Survey → Ruling
+abbrev pub ofSurvey : ℕ → Float → GivenChain → Survey → Ruling
 ofSurvey half penalty c (Survey.refused k) = refusing k
 ofSurvey half penalty c Survey.past = refusing 8
 ofSurvey half penalty c (Survey.surveyed samples breaks) =
@@ -59,7 +59,7 @@ ofSurvey half penalty c (Survey.surveyed samples breaks) =
     (fallenRows samples breaks penalty (c .starts) (c .ends) (c .xs) (c .ys)))
 
 -- refusal 10: no such run, or the run is one copied line
-abbrev pub ofRun : ℕ → Settings → Given → ℕ → ℕ → List ℤ → List ℤ → List ℕ → Run → Ruling
+abbrev pub ofRun : ℕ → Settings → GivenChain → ℕ → ℕ → List ℤ → List ℤ → List ℕ → Run → Ruling
 ofRun half settings c sampleRow breakRow xs ys fs Nothing = refusing 10
 ofRun half settings c sampleRow breakRow xs ys fs (Between first count) =
     ofSurvey half (penaltyOf settings) c (surveyOf sampleRow breakRow xs ys fs first count (gridOf settings))
@@ -70,7 +70,7 @@ afterJudging (Judged.Refused k) v = refusing k
 afterJudging Judged.Fine v = v
 
 -- of a chain for run k
-unfoldable pub checkOf : Rooms → Settings → List ℤ → List ℤ → List ℕ → Given → ℕ → Ruling
+unfoldable pub checkOf : Rooms → Settings → List ℤ → List ℤ → List ℕ → GivenChain → ℕ → Ruling
 checkOf rooms settings xs ys fs c k =
     afterJudging (judgedFor settings xs ys fs)
     (ofRun (answerRoom (rooms .answers) (rooms .links)) settings c (rooms .samples) (rooms .breaks) xs ys fs (numberedRun (settings .closed) xs ys fs k))

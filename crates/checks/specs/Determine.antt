@@ -7,14 +7,14 @@ use Rattle.rows.specs.Lent.{Inputs, inputs}
 use Rattle.edition.specs.Edition.{Rooms}
 use Rattle.edition.specs.Scratch.{Scratch, roomsOf}
 use Rattle.edition.specs.Laws.{same-cleared}
-use Rattle.checks.specs.Checks.{Given, checkOf}
+use Rattle.checks.specs.Checks.{GivenChain, checkOf}
 use Rattle.checks.specs.Entry.{wholeOf, Promise}
 use Rattle.checks.specs.declared.Ruling.{Ruling}
 
 -- ---- equal orders
 
 -- of the scratch rows only their lengths count
-pub same-whole : (i : Inputs) (settings : Settings) (k : ℕ) (c : Given) (w w' : Work) → roomsOf w ≡ roomsOf w' →
+pub same-whole : (i : Inputs) (settings : Settings) (k : ℕ) (c : GivenChain) (w w' : Work) → roomsOf w ≡ roomsOf w' →
     wholeOf i settings k c w ≡ wholeOf i settings k c w'
 same-whole (inputs xs ys fs) settings k c w w' e = ap (λ (rooms : Rooms). checkOf rooms settings xs ys fs c k) e
 
@@ -24,7 +24,7 @@ pub record Same (r r' : Ruling) (w w' : Work) : Type 0 where
   pub left : w ≡ w'
 
 -- two orders of one contour, run, chain and score, in scratch rows of equal lengths
-pub equal-orders : {i : Inputs} {settings : Settings} {k : ℕ} {c : Given} {w w' : Scratch} {r r' : Ruling} → roomsOf (w .entry) ≡ roomsOf (w' .entry) →
+pub equal-orders : {i : Inputs} {settings : Settings} {k : ℕ} {c : GivenChain} {w w' : Scratch} {r r' : Ruling} → roomsOf (w .entry) ≡ roomsOf (w' .entry) →
     Promise i settings k c w r → Promise i settings k c w' r' → Same r r' (w .exit) (w' .exit)
 equal-orders {i} {settings} {k} {c} {w} {w'} rooms p p' =
     record {
@@ -33,6 +33,6 @@ equal-orders {i} {settings} {k} {c} {w} {w'} rooms p p' =
     }
 
 -- two outcomes of one order are one
-pub determined : {i : Inputs} {settings : Settings} {k : ℕ} {c : Given} {w w' : Scratch} {r r' : Ruling} → w .entry ≡ w' .entry →
+pub determined : {i : Inputs} {settings : Settings} {k : ℕ} {c : GivenChain} {w w' : Scratch} {r r' : Ruling} → w .entry ≡ w' .entry →
     Promise i settings k c w r → Promise i settings k c w' r' → Same r r' (w .exit) (w' .exit)
 determined same = equal-orders (ap roomsOf same)

@@ -7,7 +7,7 @@ use Rattle.rows.specs.Rows.{Work}
 use Rattle.rows.specs.Lent.{Lent, before, Inputs, inputs}
 use Rattle.settings.specs.declared.Settings.{Settings}
 use Rattle.edition.specs.Scratch.{Scratch, roomsOf, cleared}
-use Rattle.checks.specs.Checks.{Given, checkOf}
+use Rattle.checks.specs.Checks.{GivenChain, checkOf}
 use Rattle.checks.specs.declared.Verdict as D
 use Rattle.checks.specs.declared.Verdict.the-variants as Verdict
 use Rattle.checks.specs.declared.Ruling.{Ruling}
@@ -27,14 +27,14 @@ abbrev pub report : Ruling → Report
 report r = reportOf (r .verdict) (r .fallen)
 
 -- a chain as it is lent, to be read
-abbrev pub given : Lent ℕ → Lent ℕ → Lent Float → Lent Float → Float → Given
-given starts ends cxs cys score = record { starts = before starts; ends = before ends; xs = before cxs; ys = before cys; score = score }
+abbrev pub chainGiven : Lent ℕ → Lent ℕ → Lent Float → Lent Float → Float → GivenChain
+chainGiven starts ends cxs cys score = record { starts = before starts; ends = before ends; xs = before cxs; ys = before cys; score = score }
 
 -- a chain for run k of a contour
-abbrev pub wholeOf : Inputs → Settings → ℕ → Given → Work → Ruling
+abbrev pub wholeOf : Inputs → Settings → ℕ → GivenChain → Work → Ruling
 wholeOf (inputs xs ys fs) settings k c w = checkOf (roomsOf w) settings xs ys fs c k
 
 -- the entry's contract: what it hands back, and what it leaves in the scratch rows w
-pub record Promise (i : Inputs) (settings : Settings) (k : ℕ) (c : Given) (w : Scratch) (r : Ruling) : Type 0 where
+pub record Promise (i : Inputs) (settings : Settings) (k : ℕ) (c : GivenChain) (w : Scratch) (r : Ruling) : Type 0 where
   pub ruling : r ≡ wholeOf i settings k c (w .entry)
   pub left : w .exit ≡ cleared (w .entry)

@@ -17,14 +17,14 @@ use Rattle.samples.specs.Samples.{Sample}
 use Rattle.survey.specs.Survey.{surveyOf}
 use Rattle.survey.specs.Survey as Survey
 use Rattle.survey.specs.Never.{Sixteen}
-use Rattle.chain.specs.Valid.{goodShape, sumOf, chainOf, evenRows}
+use Rattle.chain.specs.Valid.{goodShape, sumOf, chainIn, evenRows}
 use Rattle.chain.specs.Rule.{Valid}
 use Rattle.chain.specs.declared.Summed.the-variants as Summed
 use Rattle.rows.specs.Rows.{Work}
 use Rattle.rows.specs.Lent.{inputs}
 use Rattle.edition.specs.Edition.{Rooms, answerRoom}
 use Rattle.edition.specs.Scratch.{roomsOf}
-use Rattle.checks.specs.Checks.{Given}
+use Rattle.checks.specs.Checks.{GivenChain}
 use Rattle.checks.specs.Entry.{wholeOf}
 use Rattle.checks.specs.declared.Verdict.the-variants as Verdict
 
@@ -40,12 +40,12 @@ pub record Reached (rooms : Rooms) (settings : Settings) (xs ys : List ℤ) (fs 
   pub room : length breaks ≤ answerRoom (rooms .answers) (rooms .links)
 
 -- a chain of good shape, of whose measures one is refused
-pub record Unmeasured (samples : List Sample) (breaks : Row) (penalty : Float) (c : Given) : Type 0 where
+pub record Unmeasured (samples : List Sample) (breaks : Row) (penalty : Float) (c : GivenChain) : Type 0 where
   pub even : evenRows (c .starts) (c .ends) (c .xs) (c .ys) ≡ true
-  pub good : goodShape breaks (chainOf (c .starts) (c .ends) (c .xs) (c .ys)) ≡ true
-  pub refused : sumOf samples breaks penalty (chainOf (c .starts) (c .ends) (c .xs) (c .ys)) ≡ Summed.Last
+  pub good : goodShape breaks (chainIn (c .starts) (c .ends) (c .xs) (c .ys)) ≡ true
+  pub refused : sumOf samples breaks penalty (chainIn (c .starts) (c .ends) (c .xs) (c .ys)) ≡ Summed.Missing
 
-module _ (rooms : Rooms) (settings : Settings) (xs ys : List ℤ) (fs : List ℕ) (k : ℕ) (c : Given) where
+module _ (rooms : Rooms) (settings : Settings) (xs ys : List ℤ) (fs : List ℕ) (k : ℕ) (c : GivenChain) where
   -- the chain obeys the user's rule (chain/specs/Rule.antt)
   pub record Accepted : Type 0 where
     pub at : Reached rooms settings xs ys fs k
@@ -64,17 +64,17 @@ module _ (rooms : Rooms) (settings : Settings) (xs ys : List ℤ) (fs : List ℕ
 -- yes exactly then
 abbrev pub YesExactly : Type 0
 YesExactly =
-    (xs ys : List ℤ) (fs : List ℕ) (settings : Settings) (k : ℕ) (c : Given) (w : Work) →
+    (xs ys : List ℤ) (fs : List ℕ) (settings : Settings) (k : ℕ) (c : GivenChain) (w : Work) →
     (wholeOf (inputs xs ys fs) settings k c w .verdict ≡ Verdict.Yes) ↔ Accepted (roomsOf w) settings xs ys fs k c
 
 -- no exactly then
 abbrev pub NoExactly : Type 0
 NoExactly =
-    (xs ys : List ℤ) (fs : List ℕ) (settings : Settings) (k : ℕ) (c : Given) (w : Work) →
+    (xs ys : List ℤ) (fs : List ℕ) (settings : Settings) (k : ℕ) (c : GivenChain) (w : Work) →
     (wholeOf (inputs xs ys fs) settings k c w .verdict ≡ Verdict.No) ↔ Denied (roomsOf w) settings xs ys fs k c
 
 -- 8 exactly then, of a contour in 16 bits
 abbrev pub EightExactly : Type 0
 EightExactly =
-    (xs ys : List ℤ) (fs : List ℕ) (settings : Settings) (k : ℕ) (c : Given) (w : Work) → Sixteen xs → Sixteen ys →
+    (xs ys : List ℤ) (fs : List ℕ) (settings : Settings) (k : ℕ) (c : GivenChain) (w : Work) → Sixteen xs → Sixteen ys →
     (wholeOf (inputs xs ys fs) settings k c w .verdict ≡ Verdict.Refused 8) ↔ Unsettled (roomsOf w) settings xs ys fs k c

@@ -15,7 +15,7 @@ ghost use Rattle.settings.specs.Settings.{gridOf, penaltyOf, judgedFor};
 ghost use Rattle.survey.specs.Survey.{surveyed, surveyOf};
 ghost use Rattle.edition.specs.Scratch.{scratch};
 ghost use Rattle.checks.specs.Checks.{refusing, verdictOf, ofSurvey, ofRun, afterJudging};
-ghost use Rattle.checks.specs.Entry.{given, Promise};
+ghost use Rattle.checks.specs.Entry.{chainGiven, Promise};
 
 pub enum Verdict {
     // the number of a refusal
@@ -43,7 +43,7 @@ fn verdict_of(c: Checked) -> Verdict
     ensures { λ r. ⌜ r ≡ verdictOf c ⌝ }
 {
     match c {
-        Checked::Last => Verdict::Refused(8),
+        Checked::Missing => Verdict::Refused(8),
         Checked::Yes => Verdict::Yes,
         Checked::No => Verdict::No,
     }
@@ -62,7 +62,7 @@ fn check_surveyed(
     score: f64,
 ) -> Ruling
     requires { ⌜ (0 < length (now breaks)) × (length (now breaks) ≤ 2048) ⌝ }
-    ensures { λ r. ⌜ r ≡ ofSurvey half (penaltyOf settings) (given starts ends cxs cys score)
+    ensures { λ r. ⌜ r ≡ ofSurvey half (penaltyOf settings) (chainGiven starts ends cxs cys score)
         (surveyed (before samples) (before breaks)) ⌝ }
 {
     if half < breaks.len() {
@@ -102,7 +102,7 @@ fn check_run(
     samples: &mut [[f64; 4]],
     breaks: &mut [[f64; 6]],
 ) -> Ruling
-    ensures { λ r. ⌜ r ≡ ofSurvey half (penaltyOf settings) (given starts ends cxs cys score)
+    ensures { λ r. ⌜ r ≡ ofSurvey half (penaltyOf settings) (chainGiven starts ends cxs cys score)
         (surveyOf (room samples) (room breaks) (before xs) (before ys) (before flags) first count (gridOf settings)) ⌝ }
 {
     match survey::survey(
@@ -149,7 +149,7 @@ fn check_fine(
     samples: &mut [[f64; 4]],
     breaks: &mut [[f64; 6]],
 ) -> Ruling
-    ensures { λ r. ⌜ r ≡ ofRun half settings (given starts ends cxs cys score)
+    ensures { λ r. ⌜ r ≡ ofRun half settings (chainGiven starts ends cxs cys score)
         (room samples) (room breaks) (before xs) (before ys) (before flags) (numberedRun (settings .closed) (before xs) (before ys) (before flags) k) ⌝ }
 {
     match runs::numbered_run(xs, ys, flags, settings.closed, k) {
@@ -190,7 +190,7 @@ fn check_judged(
     samples: &mut [[f64; 4]],
     breaks: &mut [[f64; 6]],
 ) -> Ruling
-    ensures { λ r. ⌜ r ≡ afterJudging (judgedFor settings (before xs) (before ys) (before flags)) (ofRun half settings (given starts ends cxs cys score)
+    ensures { λ r. ⌜ r ≡ afterJudging (judgedFor settings (before xs) (before ys) (before flags)) (ofRun half settings (chainGiven starts ends cxs cys score)
         (room samples) (room breaks) (before xs) (before ys) (before flags) (numberedRun (settings .closed) (before xs) (before ys) (before flags) k)) ⌝ }
 {
     match settings.judge(xs, ys, flags) {
@@ -231,7 +231,7 @@ pub fn check_chain(
     answers: &mut [[f64; 3]],
     links: &mut [u32],
 ) -> Ruling
-    ensures { λ r. ⌜ Promise (contour xs ys flags) settings k (given starts ends cxs cys score) (scratch samples breaks answers links) r ⌝ }
+    ensures { λ r. ⌜ Promise (contour xs ys flags) settings k (chainGiven starts ends cxs cys score) (scratch samples breaks answers links) r ⌝ }
 {
     let half = rows::least(answers.len(), links.len()) / 2;
     let r = check_judged(

@@ -1,17 +1,16 @@
 -- The rows that a pass fills, point by point. Assumes nothing.
 use Prim.Native.Nat.{ℕ, zero, suc, _+_, _-_, _≤_, _<_}
-use mathlib.Core.Bool.{Bool, true, false}
-use mathlib.Core.List.{List, [], _∷_, _++_}
+use mathlib.Core.Bool.{Bool}
+use mathlib.Core.List.{List, [], _∷_}
 use mathlib.Core.Path.{_≡_, refl, sym, ap, _∙_}
 use native.Mathlib.Nat.{le-refl}
 use native.Mathlib.Numerals.{add-one}
 use native.Mathlib.Omega.{arith}
 use borrow.Author.Tests.{lt-ltb, le-ltb}
-use lib.Dec.{ltb}
-use lib.ListN.{length, take, set, length-set}
+use lib.ListN.{length, set, length-set}
 use lib.Seq.{take-suc-set, take-set-le}
 use Rattle.clean.specs.Clean.{nextIn, upFrom}
-use Rattle.clean.specs.Pass.{Going, going, stepOf, repeats, passing, afterOf, startOf, Roomy, numberedAs, heldIn, Stands}
+use Rattle.clean.specs.Pass.{going, stepOf, repeats, passing, afterOf, startOf, Roomy, numberedAs, heldIn, Stands}
 use Rattle.clean.specs.declared.Passed.{Passed}
 
 -- ---- a point is kept or dropped

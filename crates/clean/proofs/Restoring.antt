@@ -1,10 +1,9 @@
 -- What the entry's rows hold while drops are put back. Assumes nothing.
 use Prim.Native.Nat.{ℕ, zero, suc, min, _+_, _-_, _≤_, _<_}
 use mathlib.Core.Bool.{Bool, true, false}
-use mathlib.Core.List.{List, [], _∷_, _++_, map}
+use mathlib.Core.List.{List, [], _∷_, map}
 use mathlib.Core.Path.{_≡_, refl, sym, ap, _∙_}
 use native.Mathlib.Nat.{le-of-suc-le-suc, le-refl}
-use native.Mathlib.Numerals.{add-one}
 use native.Mathlib.Omega.{arith}
 use borrow.Author.Tests.{ne-eqb, leb-true, leb-false, lt-ltb, le-ltb, ltb-true, ltb-false}
 use lib.Dec.{eqb, leb, ltb}
@@ -12,7 +11,7 @@ use lib.IntN.{ℤ}
 use lib.ListN.{length, getD, set, take, drop, length-map, List·getD-map}
 use lib.Seq.{take-all, take-at, drop-cons, drop-length}
 use Rattle.refusals.specs.Refusals.{rowsDiffer, noPoint}
-use Rattle.rows.specs.Lent.{Inputs, inputs}
+use Rattle.rows.specs.Lent.{inputs}
 use Rattle.rows.proofs.Filled.{Filled, more, filled}
 use Rattle.contour.specs.Output.{Outputs, outputs}
 use Rattle.clean.specs.Clean.{upFrom}

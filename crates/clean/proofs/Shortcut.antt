@@ -2,7 +2,7 @@
 -- the last on top, and the rest. No point of the stack repeats its neighbours (Steady), and a drop ahead of it leaves that so: whatever is
 -- dropped there, the point before it is on-curve, and an on-curve point is dropped for the point before it alone. Only the last point of all
 -- looks further, at the first: it is looked at when the rest is empty, and after it has gone nothing more goes. Assumes nothing.
-use Prim.Native.Nat.{ℕ, zero, suc, _+_, _-_, _≤_, _<_}
+use Prim.Native.Nat.{ℕ, zero, suc, _+_, _-_, _≤_}
 use mathlib.Core.Bool.{Bool, true, false, not, _&&_, true≢false, false≢true}
 use mathlib.Core.List.{List, [], _∷_, _++_, append-nil, append-assoc}
 use mathlib.Core.Path.{_≡_, refl, sym, ap, _∙_}
@@ -11,8 +11,8 @@ use borrow.Author.Tests.{lt-ltb}
 use lib.Dec.{ltb}
 use lib.ListN.{length, take, length-append}
 use lib.Seq.{take-at}
-use Rattle.clean.specs.Clean.{orElse, isNone, nextIn, Look, none, gone, behind, atPlace, Cleaning, cleaned, listing, unlessNone, isBefore, isBoth, isFirst, reason, lowest, dropping}
-use Rattle.clean.specs.Pass.{Going, going, stepOf, lastOf, repeats, passing, closes, closeIf, closing, swept}
+use Rattle.clean.specs.Clean.{orElse, nextIn, Look, none, gone, behind, atPlace, Cleaning, cleaned, listing, isBefore, isBoth, isFirst, lowest, dropping}
+use Rattle.clean.specs.Pass.{going, repeats, passing, closing, swept}
 
 -- ---- the three reasons, by tests that hold or not
 

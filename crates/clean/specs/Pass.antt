@@ -1,13 +1,12 @@
 -- One pass over an upload, which keeps or drops each point by what is kept before it, and then looks at the last one kept. That it drops the
 -- same points as dropping the lowest place first, from the start each time, is proofs/Shortcut.antt. Definitions only.
 use Prim.Native.Nat.{ℕ, zero, suc, _+_, _-_, _≤_, _<_}
-use mathlib.Core.Bool.{Bool, true, false, not, _&&_}
+use mathlib.Core.Bool.{Bool, true, false, _&&_}
 use mathlib.Core.List.{List, [], _∷_, _++_}
 use mathlib.Core.Path.{_≡_}
 use lib.Dec.{ltb}
-use lib.IntN.{ℤ}
 use lib.ListN.{length, take, set}
-use Rattle.clean.specs.Clean.{onPlace, samePlace, forBefore, forBoth, forFirst, orElse, nextIn, Cleaning, cleaned, isBefore, isBoth, upFrom}
+use Rattle.clean.specs.Clean.{forBefore, forBoth, forFirst, orElse, nextIn, Cleaning, cleaned, isBefore, isBoth}
 use Rattle.clean.specs.declared.Passed.{Passed}
 
 abbrev pub pickNumber : Bool → ℕ → ℕ → ℕ

@@ -14,11 +14,11 @@ use lib.Ieee.{binary64, ofInt, toSigned, inFloat}
 use lib.Ieee.Back.{positive-back, negative-back}
 use Rattle.refusals.specs.Refusals.{isOn, offNeighbours}
 use Rattle.refusals.specs.Accepted.{Accepted, accepted, next-on}
-use Rattle.corners.specs.declared.Seg.{Seg}
-use Rattle.corners.specs.Segments.{onAt, countOf, endOf, placeAfter, segFrom}
-use Rattle.corners.specs.OpenType.{points, outlineFrom, outline}
+use Rattle.outline.specs.declared.Seg.{Seg}
+use Rattle.outline.specs.Segments.{onAt, countOf, endOf, placeAfter, segFrom}
+use Rattle.outline.specs.OpenType.{points, outlineFrom, outline}
 use Rattle.rows.specs.Sixteen.{SixteenBits}
-use Rattle.corners.proofs.Outline.{segments, outline-is}
+use Rattle.outline.proofs.Outline.{segments, outline-is}
 use Rattle.contour.specs.Points.{Points, flagIf, pointAs, startPoint, pointsOf, pointsTo, cameTo, unchangedIn}
 use Rattle.contour.specs.Implied.{same, finished}
 use Rattle.contour.specs.Unchanged.{asUploaded, withoutImplied, UnchangedInCratesMode, UnchangedInClosedMode, oneOrZero, UploadedHasItsRows}

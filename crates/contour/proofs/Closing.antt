@@ -2,7 +2,7 @@
 use Prim.Native.Nat.{ℕ, zero, suc, _+_, _-_, _≤_, _<_}
 use mathlib.Core.Bool.{Bool, true, false}
 use mathlib.Core.List.{List, [], _∷_, _++_}
-use mathlib.Core.Path.{_≡_, refl, sym, ap, subst, _∙_}
+use mathlib.Core.Path.{_≡_, refl, sym, ap, _∙_}
 use native.Mathlib.Nat.{le-antisymm, le-of-suc-le-suc}
 use native.Mathlib.Numerals.{add-one}
 use native.Mathlib.Omega.{arith}
@@ -10,10 +10,10 @@ use borrow.Author.Tests.{lt-ltb, le-ltb}
 use lib.IntN.{ℤ}
 use lib.ListN.{length, take, drop, set, getD, length-append, length-take, length-drop}
 use lib.Seq.{length-take-le, take-append-le, take-all}
-use Rattle.corners.specs.Segments.{onAt}
+use Rattle.outline.specs.Segments.{onAt}
 use Rattle.contour.specs.declared.Written.{Written}
 use Rattle.contour.specs.Points.{Points, pointAs, cameTo, around}
-use Rattle.contour.specs.Writing.{so, over, unlessOver, written, extended, writingIn, Wrote, Closed, Holds}
+use Rattle.contour.specs.Writing.{so, over, written, extended, writingIn, Wrote, Closed}
 use Rattle.contour.specs.Laws.{nothing-written, wrote-after, wrote-over, wrote-all, holds-count}
 
 -- ---- the first k points as they came, in a row of so many places

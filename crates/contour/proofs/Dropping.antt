@@ -8,7 +8,7 @@ use native.Mathlib.Omega.{arith}
 use lib.IntN.{ℤ}
 use lib.ListN.{length, take, drop, set, getD, length-append, length-drop, length-set}
 use lib.Seq.{length-take-le, take-take, take-add, drop-at, getD-take, getD-drop, paste, paste-zero, paste-suc, take-paste, drop-paste}
-use Rattle.corners.specs.Corners.{previous}
+use Rattle.outline.specs.Segments.{previous}
 use Rattle.contour.specs.Points.{Points}
 use Rattle.contour.specs.Writing.{Holds}
 use Rattle.contour.specs.Implied.{removed, impliedAt, look, dropFrom}

@@ -10,9 +10,9 @@ use borrow.Author.Tests.{lt-ltb, le-ltb}
 use lib.IntN.{ℤ}
 use lib.ListN.{length, take, set, length-append}
 use lib.Seq.{length-take-le, take-all, take-suc-set}
-use Rattle.corners.specs.declared.Seg.{Seg}
-use Rattle.corners.specs.Segments.{countOf, endOf, startOf, segFrom}
-use Rattle.corners.specs.Laws.{place-none, place-more}
+use Rattle.outline.specs.declared.Seg.{Seg}
+use Rattle.outline.specs.Segments.{countOf, endOf, startOf, segFrom}
+use Rattle.outline.specs.Laws.{place-none, place-more}
 use Rattle.contour.specs.declared.Written.{Written}
 use Rattle.contour.specs.Points.{Points, startPoint, pointsOf, pointsTo, unchangedPoints}
 use Rattle.contour.specs.Writing.{over, unlessOver, written, extended, writingIn, Wrote}

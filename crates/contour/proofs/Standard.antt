@@ -11,7 +11,7 @@ use lib.IntN.{ℤ, pos, negsuc, negℤ, _+ℤ_}
 use lib.ListN.{length, getD, take, drop, List·getD-append}
 use lib.Seq.{length-take-le, split-at, getD-take, getD-drop, getD-append-add, take-at, drop-at}
 use lib.Signed.{quotZ}
-use Rattle.corners.specs.Corners.{previous}
+use Rattle.outline.specs.Segments.{previous}
 use Rattle.contour.specs.Points.{Points}
 use Rattle.contour.specs.Implied.{same, number, offCurve, midway, halfway, isImplied, impliedAt, removed}
 use Rattle.contour.specs.Standard.{FitsAndEven, TestsAgree, Midpoint, AtMidpoint, ImpliedAtMidpoint, MidpointImplied, midpointOf, impliedBetween, putBack, OutlineKept}

@@ -4,7 +4,7 @@ use mathlib.Core.List.{List, [], _∷_, map}
 use mathlib.Core.Path.{_≡_, refl}
 use lib.IntN.{ℤ, pos, negsuc}
 use lib.Ieee as Ieee
-use Rattle.corners.specs.Segments.{countOf, endOf, placeAfter, segFrom}
+use Rattle.outline.specs.Segments.{countOf, endOf, placeAfter, segFrom}
 use Rattle.contour.specs.Points.{pointsTo, unchangedPoints}
 use Rattle.contour.specs.Implied.{cutOf, middleOf, isImplied, impliedAt, look, dropFrom, dropImplied, finished}
 

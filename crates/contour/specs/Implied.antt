@@ -6,7 +6,7 @@ use lib.Dec.{eqb, ltb}
 use lib.IntN.{ℤ, pos, negsuc, _+ℤ_}
 use lib.Signed.{quotZ}
 use lib.ListN.{length, getD, take, drop}
-use Rattle.corners.specs.Corners.{previous}
+use Rattle.outline.specs.Segments.{previous}
 use Rattle.contour.specs.Points.{Points}
 
 -- ---- 16 bits

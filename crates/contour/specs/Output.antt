@@ -30,5 +30,5 @@ pub data Outputs : Type 0 where
   outputs : List ℤ → List ℤ → List ℕ → Outputs
 
 -- the rows with the points in their first places
-abbrev pub given : Points → Outputs → Outputs
-given ps (outputs ox oy of) = outputs (front (column 0 ps) ox) (front (column 1 ps) oy) (front (flags ps) of)
+abbrev pub withPoints : Points → Outputs → Outputs
+withPoints ps (outputs ox oy of) = outputs (front (column 0 ps) ox) (front (column 1 ps) oy) (front (flags ps) of)

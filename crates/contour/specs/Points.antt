@@ -9,9 +9,9 @@ use lib.Ieee.{toSigned}
 use Rattle.geometry.specs.declared.Point.{Point}
 use Rattle.geometry.specs.declared.Quad as Q
 use Rattle.geometry.specs.Geometry.{isLine}
-use Rattle.corners.specs.declared.Seg.{Seg}
-use Rattle.corners.specs.declared.Seg.the-variants.{Line, Quad}
-use Rattle.corners.specs.Segments.{point, onAt, countOf, segAt}
+use Rattle.outline.specs.declared.Seg.{Seg}
+use Rattle.outline.specs.declared.Seg.the-variants.{Line, Quad}
+use Rattle.outline.specs.Segments.{point, onAt, countOf, segAt}
 
 abbrev pub Points : Type 0
 Points = List (List ℤ)

@@ -8,7 +8,7 @@ use mathlib.Core.Path.{_≡_}
 use lib.IntN.{ℤ, pos, _+ℤ_}
 use lib.ListN.{length, getD, take, drop}
 use lib.Signed.{mag, quotZ}
-use Rattle.corners.specs.Corners.{previous}
+use Rattle.outline.specs.Segments.{previous}
 use Rattle.contour.specs.Points.{Points}
 use Rattle.contour.specs.Implied.{number, offCurve, isImplied, impliedAt, removed}
 

@@ -1,19 +1,19 @@
 // Module 9: the points of a contour, written to a row of [x, y, flag]; then reversed, with implied points
 // dropped. Each contract equates what is left in the row with a definition of specs/.
-use corners::Seg;
 use geometry::Point;
 use geometry::Quad;
+use outline::Seg;
 ghost use mathlib.Core.Path.{_≡_};
 ghost use mathlib.Core.Bool.{false};
 ghost use mathlib.Core.List.{[], _∷_, _++_, reverse};
 ghost use Prim.Native.Nat.{_-_, _<_, _≤_};
 ghost use lib.IntN.{pos, _+ℤ_};
 ghost use lib.ListN.{length, take, drop, getD, set};
-ghost use Rattle.corners.specs.Corners.{previous};
+ghost use Rattle.outline.specs.Segments.{previous};
 ghost use Rattle.contour.specs.Points.{onPoint, offPoint, pointAs, startPoint, pointsOf, piecePoints, unchangedPoints, cameTo, unchangedIn};
 ghost use Rattle.contour.specs.Writing.{written, Wrote, Appended, Closed, Holds};
 ghost use Rattle.contour.specs.Implied.{cutOf, middleOf, offCurve, halfway, midwayBy, isImplied, impliedAt, removed, dropImplied, finished};
-ghost use Rattle.contour.specs.Output.{column, flagOf, flags, front, outputs, given};
+ghost use Rattle.contour.specs.Output.{column, flagOf, flags, front, outputs, withPoints};
 
 // So many points are written; over: there were more than the row takes. Once over, it stays over.
 pub struct Written {
@@ -117,13 +117,13 @@ pub fn unchanged(xs: &[i16], ys: &[i16], flags: &[u8], points: &mut [[i16; 3]]) 
     ensures { λ r. ⌜ Wrote (now (points .exit)) r
         (written (length (now (points .entry))) (unchangedPoints (now (xs .entry)) (now (ys .entry)) (now (flags .entry)))) ⌝ }
 {
-    let m = corners::count(flags);
+    let m = outline::count(flags);
     let mut w = start(xs, ys, points);
     let mut a = 0;
     let mut k = 0;
     while k < m {
-        w = push_seg(points, w, corners::read_from(xs, ys, flags, a));
-        a = corners::end_of(flags, a);
+        w = push_seg(points, w, outline::read_from(xs, ys, flags, a));
+        a = outline::end_of(flags, a);
         k += 1;
     }
     w
@@ -374,7 +374,7 @@ fn copy_flags(points: &[[i16; 3]], n: usize, out: &mut [u8])
 pub fn copy_out(points: &[[i16; 3]], n: usize, ox: &mut [i16], oy: &mut [i16], of: &mut [u8])
     requires { ⌜ (n ≤ length (now points)) × (n ≤ length (now ox)) × (n ≤ length (now oy)) × (n ≤ length (now of)) ⌝ }
     ensures { λ _. ⌜ outputs (now (ox .exit)) (now (oy .exit)) (now (of .exit))
-        ≡ given (take n (now (points .entry))) (outputs (now (ox .entry)) (now (oy .entry)) (now (of .entry))) ⌝ }
+        ≡ withPoints (take n (now (points .entry))) (outputs (now (ox .entry)) (now (oy .entry)) (now (of .entry))) ⌝ }
 {
     copy_column(points, n, 0, ox);
     copy_column(points, n, 1, oy);

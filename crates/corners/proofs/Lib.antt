@@ -1,7 +1,5 @@
 -- What the proofs share; those that are `pub`, with other crates too. From `Values` on: theorems on the definitions, for a reader, which no function of this crate needs.
-mod Laws
 pub mod Rounds
 mod Values
 pub mod Reasons
 pub mod Whole
-pub mod Outline

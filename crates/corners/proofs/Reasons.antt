@@ -9,8 +9,8 @@ use native.Mathlib.Omega.{arith}
 use lib.IntN.{ℤ}
 use lib.ListN.{length, getD, length-set, length-replicate, getD-replicate}
 use lib.Seq.{getD-set-same, getD-set-other}
-use Rattle.corners.specs.Segments.{countOf}
-use Rattle.corners.specs.Corners.{none, markIf, marked, origin, turnAt, tangentAt, afterFirst, cornersOf}
+use Rattle.outline.specs.Segments.{countOf, origin}
+use Rattle.corners.specs.Corners.{none, markIf, marked, turnAt, tangentAt, afterFirst, cornersOf}
 use Rattle.corners.specs.Statements.{CornerWhenTested, NoCornerPastSegments}
 
 abbrev at : List Bool → ℕ → Bool

@@ -1,18 +1,18 @@
 -- The invariants of the rounds of `segment_sp`, that each holds at first, and after one more segment. Assumes nothing.
-use Prim.Native.Nat.{ℕ, zero, suc, _+_, _≤_, _<_}
+use Prim.Native.Nat.{ℕ, _+_, _≤_, _<_}
 use mathlib.Core.Bool.{Bool, true, false}
 use mathlib.Core.List.{List}
-use mathlib.Core.Path.{_≡_, refl, sym, ap, _∙_}
+use mathlib.Core.Path.{_≡_, refl, ap, _∙_}
 use native.Mathlib.Numerals.{add-one}
 use native.Mathlib.Nat.{le-antisymm}
 use native.Mathlib.Omega.{arith}
 use lib.IntN.{ℤ}
-use lib.ListN.{length, set, length-set}
+use lib.ListN.{length, length-set}
 use Rattle.geometry.specs.declared.Point.{Point}
-use Rattle.corners.specs.declared.Seg.{Seg}
-use Rattle.corners.specs.Segments.{countOf, endOf, startOf, segFrom, segAt, chordOf, leavingOf, arrivingOf}
-use Rattle.corners.specs.Corners.{origin, turns, afterTurn, tangentCorner, none, markIf, marked, previous, chordAt, stateAt, turnAt, tangentAt, cornersOf}
-use Rattle.corners.specs.Laws.{place-none, place-more}
+use Rattle.outline.specs.declared.Seg.{Seg}
+use Rattle.outline.specs.Segments.{countOf, endOf, startOf, segFrom, segAt, chordOf, leavingOf, arrivingOf, origin, previous}
+use Rattle.corners.specs.Corners.{turns, afterTurn, tangentCorner, none, markIf, marked, chordAt, stateAt, turnAt, tangentAt, cornersOf}
+use Rattle.outline.specs.Laws.{place-none, place-more}
 
 mark-length : (t : Bool) (marks : List Bool) (k : ℕ) → length (markIf t marks k) ≡ length marks
 mark-length true marks k = length-set marks k true

@@ -4,10 +4,9 @@ use mathlib.Core.List.{List, [], _∷_, map}
 use mathlib.Core.Bool.{Bool, true, false}
 use lib.IntN.{pos}
 use lib.Ieee as Ieee
-use lib.Ieee.{binary64}
 use Rattle.float.specs.Float.{absOf, tiny, closeTo, rootDown, rootNear, rootUnits, rootOf}
 use Rattle.float.specs.Decimals.{Decimal, decimal, value, nearest}
-use Rattle.corners.specs.Segments.{countOf, endOf, placeAfter, segFrom}
+use Rattle.outline.specs.Segments.{countOf, endOf, placeAfter, segFrom}
 use Rattle.corners.specs.Corners.{fiftieth, marked, stateAt, cornersOf}
 
 -- 0.02 is the f64 nearest to its decimal

@@ -17,14 +17,13 @@ use lib.Ieee.Fits.{down-pos, round-fits, add-fits}
 use lib.Ieee.Back.{round-whole, whole-unique}
 use Rattle.rows.specs.Sixteen.{SixteenBits}
 use Rattle.rows.proofs.Sixteen.{sixteen-at}
-use Rattle.float.specs.Numbers.{nil}
+use Rattle.float.specs.Numbers.{nought}
 use Rattle.float.specs.Float.{rootOf}
 use Rattle.float.specs.Dyadic.{Exact, signed}
 use Rattle.float.proofs.Dyadic.{round-unit, left, right, size-signed, size-of, sub-exact, whole-exact}
 use Rattle.geometry.specs.declared.Point.{Point}
 use Rattle.geometry.specs.Geometry.{squares, normOf}
-use Rattle.corners.specs.Segments.{onAt, nextOf, endIf, endOf, startOf, coordinate, step, segIf, segFrom, leavingOf, arrivingOf}
-use Rattle.corners.specs.Corners.{previous}
+use Rattle.outline.specs.Segments.{onAt, nextOf, endIf, endOf, startOf, coordinate, step, segIf, segFrom, leavingOf, arrivingOf, previous}
 use Rattle.corners.specs.Statements.{exactHypot, leavingHypot, arrivingHypot, BendTestIsExact}
 
 -- x is the whole number ±size
@@ -72,13 +71,13 @@ module _ (u v : ℤ) (hu : natAbs u ≤ 2 ^ 15) (hv : natAbs v ≤ 2 ^ 15) where
   step-small = rw (← size-of exact) (omega (arith, exact .small))
 
 -- less 0 a whole number has its own size
-pub minus-nil : (x : Float) (a : ℕ) → Whole x a → a < 2 ^ 53 → Whole (sub binary64 x nil) a
+pub minus-nil : (x : Float) (a : ℕ) → Whole x a → a < 2 ^ 53 → Whole (sub binary64 x nought) a
 minus-nil x a v small =
     let own : Exact x (signed (v .sign) a) 0 a = record { sign = v .sign; size = a; value = v .value; is = refl; small = le-refl a } in
     let less = sub-exact (lit≤ tt) (omega arith) own none in
     rw (← size-of less ∙ kept (v .sign) a) (record { sign = less .sign; value = less .value })
   where
-    none : Exact nil (pos 0) 0 0
+    none : Exact nought (pos 0) 0 0
     none = record { sign = false; size = 0; value = unfold ofBits in (refl, refl); is = refl; small = le-refl 0 }
 
     kept : (s : Bool) (n : ℕ) → natAbs (signed s n -ℤ pos 0) ≡ n

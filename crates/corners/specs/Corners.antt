@@ -1,5 +1,5 @@
 -- The corners of a contour, `segment_sp`: two rounds compare signs of start-to-end steps; then tangents are compared. Definitions only.
-use Prim.Native.Nat.{ℕ, zero, suc, _-_}
+use Prim.Native.Nat.{ℕ, zero, suc}
 use mathlib.Core.Bool.{Bool, true, false, _&&_, _||_}
 use mathlib.Core.List.{List}
 use lib.IntN.{ℤ}
@@ -7,21 +7,18 @@ use lib.ListN.{set, replicate}
 use lib.Ieee.{Float, binary64, sub, mul, div, lt, ofBits}
 use Rattle.float.specs.Float.{absOf, closeTo}
 use Rattle.geometry.specs.declared.Point.{Point}
-use Rattle.float.specs.Numbers.{nil}
+use Rattle.float.specs.Numbers.{nought}
 use Rattle.geometry.specs.Geometry.{normOf}
-use Rattle.corners.specs.Segments.{point, segAt, countOf, chordOf, leavingOf, arrivingOf}
+use Rattle.outline.specs.Segments.{previous, point, origin, segAt, countOf, chordOf, leavingOf, arrivingOf}
 
 -- ---- signs
 
-abbrev pub origin : Point
-origin = point nil nil
-
 -- a sign turn in x, in y: the product of the step compared with and this step is negative
 abbrev pub turnsX : Point → Point → Bool
-turnsX s c = lt (mul binary64 (s .x) (c .x)) nil
+turnsX s c = lt (mul binary64 (s .x) (c .x)) nought
 
 abbrev pub turnsY : Point → Point → Bool
-turnsY s c = lt (mul binary64 (s .y) (c .y)) nil
+turnsY s c = lt (mul binary64 (s .y) (c .y)) nought
 
 abbrev pub turns : Point → Point → Bool
 turns s c = turnsX s c || turnsY s c
@@ -32,7 +29,7 @@ replaced true old new = new
 replaced false old new = old
 
 abbrev pub keptOf : Float → Float → Float
-keptOf old new = replaced (closeTo old nil) old new
+keptOf old new = replaced (closeTo old nought) old new
 
 abbrev pub afterTurn : Bool → Point → Point → Point
 afterTurn true s c = c
@@ -42,7 +39,7 @@ afterTurn false s c = point (keptOf (s .x) (c .x)) (keptOf (s .y) (c .y))
 
 -- both coordinates are close to 0
 abbrev pub zeroTangent : Point → Bool
-zeroTangent d = closeTo (d .x) nil && closeTo (d .y) nil
+zeroTangent d = closeTo (d .x) nought && closeTo (d .y) nought
 
 -- a zero tangent before, a zero tangent after
 abbrev pub zeroBefore : Point → Point → Bool
@@ -80,11 +77,6 @@ markIf false marks k = marks
 unfoldable pub marked : (ℕ → Bool) → ℕ → List Bool → List Bool
 marked test zero marks = marks
 marked test (suc k) marks = markIf (test k) (marked test k marks) k
-
--- the index before k, of m, going round
-abbrev pub previous : ℕ → ℕ → ℕ
-previous m zero = m - 1
-previous m (suc k) = k
 
 module _ (xs ys : List ℤ) (fs : List ℕ) where
   abbrev pub chordAt : ℕ → Point

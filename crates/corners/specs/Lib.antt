@@ -1,5 +1,2 @@
-pub mod Segments
 pub mod Corners
-pub mod OpenType
-pub mod Laws
 pub mod Statements

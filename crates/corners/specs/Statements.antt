@@ -1,5 +1,5 @@
--- What a reader should know of segments and corners, as types; a theorem of proofs/ is of each: `read-by-opentype` of Outline, `corner-when` and
--- `no-corner-past` of Reasons, `bend-test-exact` of Whole. Statements only.
+-- What a reader should know of corners, as types; a theorem of proofs/ is of each: `corner-when` and `no-corner-past` of Reasons, `bend-test-exact`
+-- of Whole. Statements only.
 use Prim.Native.Nat.{ℕ, _+_, _≤_, _<_}
 use mathlib.Core.Bool.{Bool, false, _||_}
 use mathlib.Core.List.{List}
@@ -11,26 +11,8 @@ use Rattle.float.specs.Float.{absOf, rootOf}
 use Rattle.geometry.specs.declared.Point.{Point}
 use Rattle.geometry.specs.Geometry.{normOf}
 use Rattle.rows.specs.Sixteen.{SixteenBits}
-use Rattle.refusals.specs.Refusals.{judged}
-use Rattle.refusals.specs.declared.Judged.the-variants.{Fine}
-use Rattle.corners.specs.declared.Seg.{Seg}
-use Rattle.corners.specs.Segments.{onAt, countOf, nextOf, endIf, endOf, startOf, segAt, leavingOf, arrivingOf}
-use Rattle.corners.specs.OpenType.{points, outline}
-use Rattle.corners.specs.Corners.{origin, bend, fiftieth, zeroBefore, zeroAfter, previous, turnAt, tangentAt, afterFirst, cornersOf}
-
--- ---- segments
-
--- the segments that are read are those of the closed outline that OpenType describes: as many, segment k the k-th, and after the last the first again
-pub record ReadByOpenType (xs ys : List ℤ) (fs : List ℕ) : Type 0 where
-  pub count : countOf fs ≡ length (outline (points xs ys fs))
-  pub segment : (k : ℕ) (past : Seg) → k < countOf fs → segAt xs ys fs k ≡ getD (outline (points xs ys fs)) k past
-  pub round : (k : ℕ) → segAt xs ys fs (countOf fs + k) ≡ segAt xs ys fs k
-
--- of every contour that refusals 1 to 5 let through
-abbrev pub SegmentsAreOpenTypes : Type 0
-SegmentsAreOpenTypes = (xs ys : List ℤ) (fs : List ℕ) → judged xs ys fs ≡ Fine → ReadByOpenType xs ys fs
-
--- ---- corners
+use Rattle.outline.specs.Segments.{onAt, countOf, nextOf, endIf, endOf, startOf, segAt, leavingOf, arrivingOf, origin, previous}
+use Rattle.corners.specs.Corners.{bend, fiftieth, zeroBefore, zeroAfter, turnAt, tangentAt, afterFirst, cornersOf}
 
 -- In a row of n places an index is marked exactly when one of its tests holds: a sign turn in x or in y, in the first or in the second round; a zero
 -- tangent before or after, or an angle. An index past the segments is none.

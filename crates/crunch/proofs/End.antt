@@ -13,7 +13,7 @@ use Rattle.contour.specs.Points.{Points}
 use Rattle.contour.specs.Writing.{Writing, so, over, unlessOver, written, Wrote, Holds}
 use Rattle.contour.specs.Implied.{finished}
 use Rattle.contour.specs.Laws.{holds-count}
-use Rattle.contour.specs.Output.{Outputs, outputs, given}
+use Rattle.contour.specs.Output.{Outputs, outputs, withPoints}
 use Rattle.optimize.specs.declared.Tally.{Tally}
 use Rattle.assembly.specs.Assembly.{State}
 use Rattle.assembly.specs.Stands.{Stands, stops, ends, goes}
@@ -61,7 +61,7 @@ module _ (closed : Bool) where
   by-writing false ps tally = refl
 
   written-is : (room : ℕ) {row : Points} {p : Progress} (ps : Points) (t : Tally) → Wrote row (p .w) (written room ps) → p .tally ≡ t →
-      outcomeBy closed row p ≡ S.written closed room ps t
+      outcomeBy closed row p ≡ S.pointsOut closed room ps t
   unfolding written
   written-is room {row} {p} ps t wrote tally =
       by-writing (p .w .over) (take (p .w .count) row) (p .tally)
@@ -83,7 +83,7 @@ module _ (closed : Bool) where
 pub refused-out : (row : Points) (o : Outputs) {c : D.Crunched} {k : ℕ} → c ≡ Crunched.Refused k → o ≡ copied c row o
 refused-out row o e = rw e refl
 
-pub points-out : (row : Points) (o : Outputs) {o' : Outputs} {c : D.Crunched} {n : ℕ} {t : Tally} → c ≡ Crunched.Points n t → o' ≡ given (take n row) o → o' ≡ copied c row o
+pub points-out : (row : Points) (o : Outputs) {o' : Outputs} {c : D.Crunched} {n : ℕ} {t : Tally} → c ≡ Crunched.Points n t → o' ≡ withPoints (take n row) o → o' ≡ copied c row o
 points-out row o e h = rw e h
 
 pub fits-out : (row : Points) (ox oy : List ℤ) (of : List ℕ) {c : D.Crunched} {n : ℕ} {t : Tally} → c ≡ Crunched.Points n t → Fits row (outputs ox oy of) c →

@@ -1,12 +1,12 @@
 -- Counting the lookups that fell changes nothing else of a contour. Assumes nothing.
-use Prim.Native.Nat.{ℕ, _+_}
+use Prim.Native.Nat.{ℕ}
 use mathlib.Core.Bool.{Bool, true, false}
 use mathlib.Core.List.{List, [], _∷_}
 use mathlib.Core.Path.{_≡_, refl, ap, _∙_}
 use lib.Dec.{ltb}
 use lib.IntN.{ℤ}
 use lib.ListN.{length}
-use Rattle.corners.specs.Segments.{startOf}
+use Rattle.outline.specs.Segments.{startOf}
 use Rattle.refusals.specs.declared.Judged.{Judged}
 use Rattle.refusals.specs.declared.Judged.the-variants as Judged
 use Rattle.runs.specs.Runs.{Span, between, stopsOf, isCopied}

@@ -8,16 +8,13 @@ use lib.ListN.{length, take, drop, replicate, length-append, length-take, length
 use lib.Seq.{length-take-le}
 use Rattle.refusals.specs.declared.Judged.{Judged}
 use Rattle.rows.specs.Rows.{pointZero}
-use Rattle.rows.specs.Lent.{Inputs}
 use Rattle.settings.specs.Settings.{judgedFor}
 use Rattle.settings.specs.declared.Settings.{Settings}
 use Rattle.edition.specs.Edition.{Rooms}
 use Rattle.contour.specs.Points.{Points}
 use Rattle.assembly.specs.Assembly.{crunchRuns}
-use Rattle.crunch.specs.Crunch.{Outcome, outcomeOf, afterJudging, crunchOf}
-use Rattle.crunch.specs.Entry.{LentRows}
+use Rattle.crunch.specs.Crunch.{outcomeOf, afterJudging, crunchOf}
 use Rattle.crunch.specs.Stands.{Gives}
-use Rattle.crunch.specs.Steps.{Answered}
 use Rattle.crunch.specs.declared.Crunched as D
 
 -- ---- `crunch_into`

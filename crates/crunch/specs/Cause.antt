@@ -18,7 +18,7 @@ use Rattle.edition.specs.Edition as Edition
 use Rattle.refusals.specs.declared.Judged.the-variants as Judged
 use Rattle.survey.specs.Never.{Sixteen}
 use Rattle.assembly.specs.Assembly.{ended, itself, resultOf, crunchRuns}
-use Rattle.crunch.specs.Crunch.{written, crunchOf}
+use Rattle.crunch.specs.Crunch.{pointsOut, crunchOf}
 
 module _ (rooms : Rooms) (settings : Settings) (xs ys : List ℤ) (fs : List ℕ) where
   -- a run that is not one copied line is worked
@@ -47,7 +47,7 @@ module _ (rooms : Rooms) (settings : Settings) (xs ys : List ℤ) (fs : List ℕ
   abbrev pub ComesOut : Type 0
   ComesOut =
       (room : ℕ) (tally : Tally) → judgedFor settings xs ys fs ≡ Judged.Fine → LeftUnchanged tally →
-      crunchOf rooms room settings xs ys fs ≡ written (settings .closed) room (itself rooms settings xs ys fs) tally
+      crunchOf rooms room settings xs ys fs ≡ pointsOut (settings .closed) room (itself rooms settings xs ys fs) tally
 
   -- in the crate's mode
   abbrev pub OneCause : Type 0

@@ -28,13 +28,13 @@ module _ (closed : Bool) where
   overIf true ps tally = refused 9
   overIf false ps tally = crunched (finished closed ps) tally
 
-  abbrev pub written : ℕ → Points → Tally → Outcome
-  written room ps tally = overIf (ltb room (length ps)) ps tally
+  abbrev pub pointsOut : ℕ → Points → Tally → Outcome
+  pointsOut room ps tally = overIf (ltb room (length ps)) ps tally
 
   abbrev pub outcomeOf : ℕ → State → Outcome
   outcomeOf room (State.refused k) = refused k
-  outcomeOf room (State.ended ps tally) = written room ps tally
-  outcomeOf room (State.going ps tally) = written room ps tally
+  outcomeOf room (State.ended ps tally) = pointsOut room ps tally
+  outcomeOf room (State.going ps tally) = pointsOut room ps tally
 
 -- ---- the whole: refusals 1 to 5, and then 16, first
 

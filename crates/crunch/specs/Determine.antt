@@ -7,10 +7,9 @@ use mathlib.Core.Path.{_≡_, refl, sym, ap, _∙_}
 use lib.IntN.{ℤ}
 use lib.ListN.{length, take, drop, replicate, length-map}
 use lib.Seq.{take-length, take-append-le}
-use Rattle.rows.specs.Rows.{Work, work, zeroWork, pointZero}
+use Rattle.rows.specs.Rows.{work, pointZero}
 use Rattle.rows.specs.Lent.{Inputs, inputs}
 use Rattle.settings.specs.declared.Settings.{Settings}
-use Rattle.contour.specs.Points.{Points}
 use Rattle.contour.specs.Implied.{number}
 use Rattle.contour.specs.Output.{Outputs, outputs, column, flagOf, flags, front}
 use Rattle.edition.specs.Edition.{Rooms}

@@ -2,7 +2,6 @@
 use Prim.Native.Nat.{ℕ, min}
 use mathlib.Core.List.{List}
 use mathlib.Core.Path.{_≡_}
-use lib.Ieee.{Float}
 use lib.IntN.{ℤ}
 use lib.ListN.{length, replicate}
 use denote.Triple.Both.{Both}
@@ -10,7 +9,7 @@ use Rattle.rows.specs.Rows.{Work, pointZero}
 use Rattle.rows.specs.Lent.{Lent, before, after, Inputs, inputs}
 use Rattle.settings.specs.declared.Settings.{Settings}
 use Rattle.contour.specs.Points.{Points}
-use Rattle.contour.specs.Output.{Outputs, outputs, given}
+use Rattle.contour.specs.Output.{Outputs, outputs, withPoints}
 use Rattle.edition.specs.Scratch.{Scratch, roomsOf, cleared}
 use Rattle.crunch.specs.Crunch.{Outcome, refused, crunched, crunchOf}
 use Rattle.crunch.specs.declared.Crunched as C
@@ -35,7 +34,7 @@ answerOf (crunched ps t) = Crunched.Points (length ps) t
 -- a refusal writes no point; success writes the first points and no others
 abbrev pub outputsOf : Outcome → Outputs → Outputs
 outputsOf (refused k) o = o
-outputsOf (crunched ps t) o = given ps o
+outputsOf (crunched ps t) o = withPoints ps o
 
 -- ---- the rows
 

@@ -1,3 +1,4 @@
+-- Stands and Steps are for contracts inside the product alone: no promise of an entry and no statement for a reader speaks of them.
 pub mod Crunch
 pub mod Entry
 pub mod Stands

@@ -10,7 +10,7 @@ use Rattle.refusals.specs.declared.Judged.{Judged}
 use Rattle.refusals.specs.declared.Judged.the-variants as Judged
 use Rattle.rows.specs.Lent.{Inputs}
 use Rattle.contour.specs.Points.{Points}
-use Rattle.contour.specs.Output.{Outputs, given}
+use Rattle.contour.specs.Output.{Outputs, withPoints}
 use Rattle.contour.specs.Laws.{wrote-over, wrote-all, holds-count}
 use Rattle.cubics.specs.Making.{stored, MadeOf}
 use Rattle.cubics.specs.Entry.{roomOf, judgedOf, pointsOf, WrittenOut, Promise}
@@ -44,13 +44,13 @@ module _ (ps : Points) {row : Points} {m : Made} (made : MadeOf 1024 row m ps) w
         let less : roomOf o < length ps = rw (counted h, ← room) short in
         record { answer = rw (le-ltb 1024 (length ps) (few-enough h), ← made .far, f, lt-ltb (roomOf o) (length ps) less); left = refl }
 
-    pub all-written : {n : ℕ} {o′ : Outputs} → m .over ≡ false → m .far ≡ false → n ≡ roomOf o → m .count ≤ n → o′ ≡ given (take (m .count) row) o →
+    pub all-written : {n : ℕ} {o′ : Outputs} → m .over ≡ false → m .far ≡ false → n ≡ roomOf o → m .count ≤ n → o′ ≡ withPoints (take (m .count) row) o →
         WrittenOut ps (record { entry = o; exit = o′ }) (Quads (m .count))
     all-written {n} h f room fits written =
         let more : length ps ≤ roomOf o = rw (counted h, ← room) fits in
         record {
           answer = rw (le-ltb 1024 (length ps) (few-enough h), ← made .far, f, le-ltb (roomOf o) (length ps) more, counted h);
-          left = written ∙ ap (λ (q : Points). given q o) (held h f);
+          left = written ∙ ap (λ (q : Points). withPoints q o) (held h f);
         }
 
 -- ---- 1, 2, 4 and 5 first

@@ -11,7 +11,7 @@ use Rattle.refusals.specs.declared.Judged.{Judged}
 use Rattle.refusals.specs.declared.Judged.the-variants as Judged
 use Rattle.rows.specs.Lent.{Lent, before, after, Inputs, inputs}
 use Rattle.contour.specs.Points.{Points}
-use Rattle.contour.specs.Output.{Outputs, outputs, given}
+use Rattle.contour.specs.Output.{Outputs, outputs, withPoints}
 use Rattle.cubics.specs.Replacing as Replacing
 use Rattle.cubics.specs.Replacing.{anyOutside}
 use Rattle.cubics.specs.Refusing.{judgedCubics}
@@ -52,7 +52,7 @@ wholeOf i room = afterJudging (judgedOf i) (answerIn room (pointsOf i))
 -- what is left in the output rows: a refusal writes nothing
 abbrev pub leftBy : D.Replaced → Points → Outputs → Outputs
 leftBy (Replaced.Refused k) ps o = o
-leftBy (Replaced.Quads n) ps o = given ps o
+leftBy (Replaced.Quads n) ps o = withPoints ps o
 
 -- what comes of points that are made, in the rows w
 pub record WrittenOut (ps : Points) (w : Both Outputs Outputs) (r : D.Replaced) : Type 0 where

@@ -1,3 +1,4 @@
+-- Making is for contracts inside the product alone: no promise of an entry and no statement for a reader speaks of it.
 pub mod Replacing
 pub mod Making
 pub mod Refusing

@@ -1,5 +1,5 @@
 -- Each result of the work on a run of a contour in 16 bits has one cause. Assumes nothing.
-use Prim.Native.Nat.{ℕ, _+_, _≤_, _<_}
+use Prim.Native.Nat.{ℕ, _≤_, _<_}
 use mathlib.Core.Bool.{Bool}
 use mathlib.Core.List.{List}
 use mathlib.Core.Path.{_≡_, refl, sym, ap, _∙_, subst}
@@ -58,12 +58,12 @@ module _ (rooms : Rooms) (g : Grid) (penalty : Float) (xs ys : List ℤ) (fs : L
     searched-work : length (r .row) ≤ breakRoom (rooms .breaks) → work ≡ editionOf (rooms .answers) (rooms .links) (r .samples) (r .row) penalty
     searched-work h =
         let fits = subst (λ (b : Row). length b ≤ breakRoom (rooms .breaks) → breaksOf (breakRoom (rooms .breaks)) (r .samples) g (r .len) ≡ Breaks.breaks b) same (found .fits) in
-        sampled-work ∙ ap (λ (x : Breaks.Result). after (searched (r .samples) x)) (fits h)
+        sampled-work ∙ ap (λ (x : Breaks.RunBreaks). after (searched (r .samples) x)) (fits h)
 
     short-work : breakRoom (rooms .breaks) < length (r .row) → work ≡ refused 7
     short-work h =
         let more = subst (λ (b : Row). breakRoom (rooms .breaks) < length b → breaksOf (breakRoom (rooms .breaks)) (r .samples) g (r .len) ≡ Breaks.refused 7) same (found .short) in
-        sampled-work ∙ ap (λ (x : Breaks.Result). after (searched (r .samples) x)) (more h)
+        sampled-work ∙ ap (λ (x : Breaks.RunBreaks). after (searched (r .samples) x)) (more h)
 
     -- more breaks than a room takes
     many-work : leastRoom rooms < length (r .row) → work ≡ refused 7

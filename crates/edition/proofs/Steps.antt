@@ -14,16 +14,16 @@ use Rattle.optimize.specs.Stored.{Anywhere, Holds, Solves, lost, stays, found}
 use Rattle.optimize.specs.declared.Solved as S
 use Rattle.optimize.specs.declared.Solved.the-variants as Solved
 use Rattle.edition.specs.Edition as E
-use Rattle.edition.specs.Edition.{answerRoom, resultOf, fellIn, editionOf, Found, Works}
+use Rattle.edition.specs.Edition.{answerRoom, resultOf, fellIn, editionOf, FoundBreaks, Works}
 use Rattle.edition.specs.declared.Worked as D
 use Rattle.edition.specs.declared.Worked.the-variants as Worked
 
 abbrev pub workedBy : ℕ → S.Solved → D.Worked
-workedBy n Solved.Last = Worked.Refused 8
+workedBy n Solved.Missing = Worked.Refused 8
 workedBy n (Solved.Unchanged t) = Worked.Unchanged t
 workedBy n (Solved.Done k t) = Worked.Done n k t
 
-module _ (samples : List Sample) (breaks : Row) (penalty : Float) (fine : Found breaks) {answers : List (List Float)} {links : List ℕ} where
+module _ (samples : List Sample) (breaks : Row) (penalty : Float) (fine : FoundBreaks breaks) {answers : List (List Float)} {links : List ℕ} where
   solved-works : {o : Optimised} {c : ℕ} {r s : S.Solved} → optimizeOf (measureBy samples breaks) breaks penalty ≡ o → Solves breaks answers links o c r → r ≡ s →
       Works penalty breaks answers links (resultOf c o) (workedBy (length breaks) s)
   solved-works is (lost e) h = E.no (ap (workedBy (length breaks)) (sym h ∙ e))
@@ -34,7 +34,7 @@ module _ (samples : List Sample) (breaks : Row) (penalty : Float) (fine : Found 
       samples
       (ap (workedBy (length breaks)) (sym h ∙ e))
       (le-refl (length breaks))
-      (subst Found all fine)
+      (subst FoundBreaks all fine)
       (subst (λ (b : Row). optimizeOf (measureBy samples b) b penalty ≡ solved a p) all is)
       (subst (λ (b : Row). Holds Anywhere b answers links k a) all held)
 
@@ -43,7 +43,7 @@ module _ (answers links : ℕ) (samples : List Sample) (breaks : Row) (penalty :
   unfolding editionOf
   short {half} e h = rw (lt-ltb (answerRoom answers links) (length breaks) (subst (λ (k : ℕ). k / 2 < length breaks) e h)) refl
 
-  pub edited : Found breaks → {half : ℕ} → half ≡ min answers links → length breaks ≤ half / 2 → {answers' : List (List Float)} {links' : List ℕ} {r s : S.Solved} →
+  pub edited : FoundBreaks breaks → {half : ℕ} → half ≡ min answers links → length breaks ≤ half / 2 → {answers' : List (List Float)} {links' : List ℕ} {r s : S.Solved} →
       Solves breaks answers' links' (optimizeOf (measureBy samples breaks) breaks penalty) (fellIn samples breaks penalty) r → r ≡ s →
       Works penalty breaks answers' links' (editionOf answers links samples breaks penalty) (workedBy (length breaks) s)
   unfolding editionOf

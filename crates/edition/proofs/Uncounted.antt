@@ -1,13 +1,10 @@
 -- Counting the lookups that fell changes nothing else of a run. Assumes nothing.
 use Prim.Native.Nat.{ℕ}
 use mathlib.Core.Bool.{Bool, true, false}
-use mathlib.Core.List.{List}
 use mathlib.Core.Path.{_≡_, refl}
 use lib.Dec.{ltb}
 use lib.Ieee.{Float}
 use lib.ListN.{length}
-use Rattle.breaks.specs.Breaks.{Row}
-use Rattle.samples.specs.Samples.{Sample}
 use Rattle.optimize.specs.Optimize.{Optimised, measureBy, optimizeOf}
 use Rattle.optimize.specs.Optimize as O
 use Rattle.survey.specs.Survey.{Survey, surveyOf}

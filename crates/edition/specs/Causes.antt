@@ -12,7 +12,7 @@ use Rattle.breaks.specs.Breaks as Breaks
 use Rattle.breaks.specs.declared.Grid.{Grid}
 use Rattle.samples.specs.Samples.{Sample, thetasOf, quadsOf}
 use Rattle.samples.specs.Samples as Samples
-use Rattle.optimize.specs.Answers.{Answer}
+use Rattle.attempt.specs.Answers.{Statelet}
 use Rattle.optimize.specs.Optimize.{Optimised, measureBy, optimizeOf}
 use Rattle.optimize.specs.Optimize as O
 use Rattle.optimize.specs.Unchanged.{NoAnswer}
@@ -53,7 +53,7 @@ module _ (rooms : Rooms) (g : Grid) (penalty : Float) (xs ys : List ℤ) (fs : L
     many : (r : SampledRun rooms g xs ys fs first count) → leastRoom rooms < length (r .row) → Cause (refused 7)
     measuring : (r : SampledRun rooms g xs ys fs first count) → length (r .row) ≤ leastRoom rooms → optimised r ≡ O.refused8 → Cause (refused 8)
     unanswered : (u : Unanswered) → Cause (unchanged (tally 1 (fell (u .run))))
-    answered : (r : SampledRun rooms g xs ys fs first count) → length (r .row) ≤ leastRoom rooms → (a : Answer) (pairs : ℕ) → optimised r ≡ O.solved a pairs →
+    answered : (r : SampledRun rooms g xs ys fs first count) → length (r .row) ≤ leastRoom rooms → (a : Statelet) (pairs : ℕ) → optimised r ≡ O.solved a pairs →
         Cause (solved a (tally pairs (fell r)))
 
   -- no answer after one pair, and the lookups that fell in it

@@ -10,7 +10,7 @@ use lib.ListN.{length, take}
 use Rattle.breaks.specs.Breaks.{Row, breakAt}
 use Rattle.breaks.specs.declared.Grid.{Grid}
 use Rattle.samples.specs.Samples.{Sample}
-use Rattle.optimize.specs.Answers.{Answer}
+use Rattle.attempt.specs.Answers.{Statelet}
 use Rattle.optimize.specs.Optimize.{Optimised, measureBy, optimizeOf}
 use Rattle.optimize.specs.Optimize as O
 use Rattle.optimize.specs.Fallen.{fallenBetween, fellOf}
@@ -26,7 +26,7 @@ use Rattle.edition.specs.declared.Worked.the-variants as Worked
 pub data Result : Type 0 where
   refused : ℕ → Result
   unchanged : Tally → Result
-  solved : Answer → Tally → Result
+  solved : Statelet → Tally → Result
 
 -- half the shortest answer row: answers and links
 abbrev pub answerRoom : ℕ → ℕ → ℕ
@@ -71,7 +71,7 @@ workOf rooms g penalty xs ys fs first count =
 -- ---- what the functions leave in the rows
 
 -- breaks that a survey found: there are some, at most 2,048, and the first stands on doubles
-pub record Found (breaks : Row) : Type 0 where
+pub record FoundBreaks (breaks : Row) : Type 0 where
   pub some : 0 < length breaks
   pub few : length breaks ≤ 2048
   pub fit-x : T (fits binary64 (breakAt breaks 0 .xy .x))
@@ -81,6 +81,6 @@ pub record Found (breaks : Row) : Type 0 where
 pub data Works (penalty : Float) (breaks : Row) (answers : List (List Float)) (links : List ℕ) : Result → W.Worked → Type 0 where
   no : {r : W.Worked} {k : ℕ} → r ≡ Worked.Refused k → Works penalty breaks answers links (refused k) r
   stays : {r : W.Worked} {t : Tally} → r ≡ Worked.Unchanged t → Works penalty breaks answers links (unchanged t) r
-  holds : {r : W.Worked} {n k p c : ℕ} {a : Answer} (samples : List Sample) → r ≡ Worked.Done n k (tally p c) → n ≤ length breaks → Found (take n breaks) →
-      optimizeOf (measureBy samples (take n breaks)) (take n breaks) penalty ≡ O.solved a p → Holds Anywhere (take n breaks) answers links k a →
+  holds : {r : W.Worked} {n k p c : ℕ} {a : Statelet} (samples : List Sample) → r ≡ Worked.Done n k (tally p c) → n ≤ length breaks →
+      FoundBreaks (take n breaks) → optimizeOf (measureBy samples (take n breaks)) (take n breaks) penalty ≡ O.solved a p → Holds Anywhere (take n breaks) answers links k a →
       Works penalty breaks answers links (solved a (tally p c)) r

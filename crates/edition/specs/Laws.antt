@@ -4,7 +4,7 @@ use Prim.Native.Nat.{ℕ, _≤_}
 use native.Mathlib.Omega.{arith}
 use mathlib.Core.Bool.{Bool, true, false}
 use mathlib.Core.List.{List}
-use mathlib.Core.Path.{_≡_, refl, sym, ap, subst, _∙_}
+use mathlib.Core.Path.{_≡_, refl, sym, ap, _∙_}
 use borrow.Author.Tests.{ltb-false, le-ltb}
 use lib.Dec.{ltb}
 use lib.Ieee.{Float}
@@ -14,7 +14,7 @@ use Rattle.breaks.specs.Breaks.{Row}
 use Rattle.breaks.specs.declared.Grid.{Grid}
 use Rattle.rows.specs.Rows.{Work, work, zeroWork}
 use Rattle.samples.specs.Samples.{Sample}
-use Rattle.optimize.specs.Answers.{Answer}
+use Rattle.attempt.specs.Answers.{Statelet}
 use Rattle.optimize.specs.Laws.{pairs-few, pairs-few-unchanged}
 use Rattle.optimize.specs.Fallen.{mostFallen, Upto, nothing-upto}
 use Rattle.optimize.proofs.FewFall.{few-fall}
@@ -28,13 +28,13 @@ use Rattle.survey.specs.declared.Surveyed.the-variants as Surveyed
 use Rattle.optimize.specs.Tally.{untried}
 use Rattle.optimize.specs.declared.Tally.{Tally}
 use Rattle.edition.specs.Edition.{Result, refused, unchanged, solved, answerRoom, resultOf, fellIn, unlessShort, editionOf}
-use Rattle.edition.specs.Edition.{afterSurvey, Rooms, workOf, Found, Works, no, stays, holds}
+use Rattle.edition.specs.Edition.{afterSurvey, Rooms, workOf, FoundBreaks, Works, no, stays, holds}
 use Rattle.edition.specs.Scratch.{roomsOf, cleared}
 use Rattle.edition.specs.declared.Worked as W
 use Rattle.edition.specs.declared.Worked.the-variants as Worked
 
 pub surveyed-found : (sampleRow breakRow : ℕ) (xs ys : List ℤ) (fs : List ℕ) (first count : ℕ) (g : Grid) (samples : List Sample) (breaks : Row) →
-    surveyOf sampleRow breakRow xs ys fs first count g ≡ Survey.surveyed samples breaks → Found breaks
+    surveyOf sampleRow breakRow xs ys fs first count g ≡ Survey.surveyed samples breaks → FoundBreaks breaks
 surveyed-found sampleRow breakRow xs ys fs first count g samples breaks e =
     let some = surveyed-some sampleRow breakRow xs ys fs first count g samples breaks e in
     let fit = surveyed-fit sampleRow breakRow xs ys fs first count g samples breaks e 0 some in
@@ -43,7 +43,7 @@ surveyed-found sampleRow breakRow xs ys fs first count g samples breaks e =
 -- what the edition asks of the breaks that it is lent
 pub found-rows : (sampleRow breakRow : ℕ) (xs ys : List ℤ) (fs : List ℕ) (first count : ℕ) (g : Grid) (samples : List Sample) (breaks : Row)
     {n m : ℕ} {r : Y.Surveyed} →
-    surveyOf sampleRow breakRow xs ys fs first count g ≡ surveyIn samples breaks r → r ≡ Surveyed.Rows n m → Found (take m breaks)
+    surveyOf sampleRow breakRow xs ys fs first count g ≡ surveyIn samples breaks r → r ≡ Surveyed.Rows n m → FoundBreaks (take m breaks)
 found-rows sampleRow breakRow xs ys fs first count g samples breaks {n} {m} e h =
     surveyed-found sampleRow breakRow xs ys fs first count g (take n samples) (take m breaks) (e ∙ ap (surveyIn samples breaks) h)
 
@@ -54,14 +54,14 @@ in-row used e h kept = omega (arith, h, ap used e, kept)
 -- ---- a solved run
 
 -- the answer is the optimiser's for the survey, and the answer rows had room for its breaks
-pub record Optimal (rooms : Rooms) (g : Grid) (penalty : Float) (xs ys : List ℤ) (fs : List ℕ) (first count : ℕ) (a : Answer) (t : Tally) : Type 0 where
+pub record Optimal (rooms : Rooms) (g : Grid) (penalty : Float) (xs ys : List ℤ) (fs : List ℕ) (first count : ℕ) (a : Statelet) (t : Tally) : Type 0 where
   pub samples : List Sample
   pub breaks : Row
   pub survey : surveyOf (rooms .samples) (rooms .breaks) xs ys fs first count g ≡ Survey.surveyed samples breaks
   pub room : length breaks ≤ answerRoom (rooms .answers) (rooms .links)
   pub is : optimizeOf (measureBy samples breaks) breaks penalty ≡ O.solved a (t .pairs)
   pub fell : t .fallen ≡ fellIn samples breaks penalty
-  pub fine : Found breaks
+  pub fine : FoundBreaks breaks
 
 -- no two kinds of result are one
 abbrev isSolved : Result → ℕ
@@ -75,14 +75,14 @@ tallyOf (unchanged t) = t
 tallyOf (solved a t) = t
 
 -- the answer and the counts
-solved-is : (c : ℕ) (o : Optimised) {a : Answer} {t : Tally} → resultOf c o ≡ solved a t → (o ≡ O.solved a (t .pairs)) × (t .fallen ≡ c)
+solved-is : (c : ℕ) (o : Optimised) {a : Statelet} {t : Tally} → resultOf c o ≡ solved a t → (o ≡ O.solved a (t .pairs)) × (t .fallen ≡ c)
 solved-is c O.refused8 e = absurd (omega (arith, ap isSolved e))
 solved-is c (O.unchanged q) e = absurd (omega (arith, ap isSolved e))
 solved-is c (O.solved b q) {a} {t} e =
     let same : b ≡ a = cc in
     (rw (same, ← ap tallyOf e) refl, sym (ap (λ (t : Tally). t .fallen) (ap tallyOf e)))
 
-module _ (rooms : Rooms) (g : Grid) (penalty : Float) (xs ys : List ℤ) (fs : List ℕ) (first count : ℕ) (a : Answer) (t : Tally) where
+module _ (rooms : Rooms) (g : Grid) (penalty : Float) (xs ys : List ℤ) (fs : List ℕ) (first count : ℕ) (a : Statelet) (t : Tally) where
   abbrev Solved : Type 0
   Solved = Optimal rooms g penalty xs ys fs first count a t
 
@@ -119,7 +119,7 @@ tallyIn (Worked.Refused k) = untried
 tallyIn (Worked.Unchanged t) = t
 tallyIn (Worked.Done n k t) = t
 
-module _ (samples : List Sample) (breaks : Row) (penalty : Float) (fine : Found breaks) where
+module _ (samples : List Sample) (breaks : Row) (penalty : Float) (fine : FoundBreaks breaks) where
   abbrev fell : ℕ
   fell = fellIn samples breaks penalty
 

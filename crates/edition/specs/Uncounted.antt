@@ -8,10 +8,8 @@ use lib.Dec.{ltb}
 use lib.Ieee.{Float}
 use lib.IntN.{ℤ}
 use lib.ListN.{length}
-use Rattle.breaks.specs.Breaks.{Row}
 use Rattle.breaks.specs.declared.Grid.{Grid}
-use Rattle.samples.specs.Samples.{Sample}
-use Rattle.optimize.specs.Answers.{Answer}
+use Rattle.attempt.specs.Answers.{Statelet}
 use Rattle.optimize.specs.Optimize.{Optimised, measureBy, optimizeOf}
 use Rattle.optimize.specs.Optimize as O
 use Rattle.survey.specs.Survey.{Survey, surveyOf}
@@ -23,7 +21,7 @@ use Rattle.edition.specs.Edition as Counted
 pub data Result : Type 0 where
   refused : ℕ → Result
   unchanged : ℕ → Result
-  solved : Answer → ℕ → Result
+  solved : Statelet → ℕ → Result
 
 abbrev pub resultOf : Optimised → Result
 resultOf O.refused8 = refused 8

@@ -2,16 +2,15 @@
 // its own.
 use optimize::Solved;
 use optimize::Tally;
-ghost use mathlib.Core.Path.{_≡_};
 ghost use lib.ListN.{length};
-ghost use Rattle.edition.specs.Edition.{editionOf, Found, Works};
+ghost use Rattle.edition.specs.Edition.{editionOf, FoundBreaks, Works};
 
 pub enum Worked {
     // 6, 7 or 8
     Refused(u8),
-    // the contour is unchanged, after so many pairs
+    // the contour is unchanged, with the pairs tried and the lookups that fell
     Unchanged(Tally),
-    // so many breaks, the stored answer at the last one, and the pairs tried
+    // so many breaks, the stored answer at the last one, and the pairs tried and lookups that fell
     Done(usize, usize, Tally),
 }
 
@@ -23,7 +22,7 @@ pub fn edition(
     links: &mut [u32],
     penalty: f64,
 ) -> Worked
-    requires { ⌜ Found (now breaks) ⌝ }
+    requires { ⌜ FoundBreaks (now breaks) ⌝ }
     ensures { λ r. ⌜ Works penalty (now (breaks .entry)) (now (answers .exit)) (now (links .exit))
         (editionOf (length (now (answers .entry))) (length (now (links .entry))) (now (samples .entry)) (now (breaks .entry)) penalty) r ⌝ }
 {
@@ -32,7 +31,7 @@ pub fn edition(
         return Worked::Refused(7);
     }
     match optimize::optimize(samples, breaks, answers, links, penalty) {
-        Solved::Last => Worked::Refused(8),
+        Solved::Missing => Worked::Refused(8),
         Solved::Unchanged(t) => Worked::Unchanged(t),
         Solved::Done(k, t) => Worked::Done(n, k, t),
     }

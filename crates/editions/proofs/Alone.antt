@@ -1,12 +1,12 @@
 -- What an edition does by itself: its beginning, its end, and the whole of it, which is what the crunch entry's definition gives. Assumes nothing.
-use Prim.Native.Nat.{ℕ, _≤_, _<_}
+use Prim.Native.Nat.{ℕ}
 use native.Mathlib.Omega.{arith}
 use mathlib.Core.Bool.{Bool, true, false, not}
 use mathlib.Core.List.{List, [], _∷_}
 use mathlib.Core.Path.{_≡_, refl, sym, ap, subst, _∙_}
 use lib.IntN.{ℤ}
 use lib.ListN.{length, getD}
-use Rattle.corners.specs.Segments.{startOf}
+use Rattle.outline.specs.Segments.{startOf}
 use Rattle.refusals.specs.Refusals.{judged, refuse}
 use Rattle.refusals.specs.declared.Judged.{Judged}
 use Rattle.refusals.specs.declared.Judged.the-variants as Judged
@@ -19,9 +19,9 @@ use Rattle.contour.specs.Writing.{Wrote, written}
 use Rattle.contour.specs.Laws.{nothing-written}
 use Rattle.contour.specs.declared.Written.{Written}
 use Rattle.optimize.specs.Tally.{untried}
-use Rattle.assembly.specs.Assembly.{State, refused, going, closedUp, crunchAll, crunchIn, crunchRuns}
+use Rattle.assembly.specs.Assembly.{State, refused, closedUp, crunchAll, crunchIn, crunchRuns}
 use Rattle.assembly.specs.Laws.{stays-refused, stays-ended}
-use Rattle.assembly.specs.Stands.{Stands, goes, ClosesUp}
+use Rattle.assembly.specs.Stands.{Stands, goes}
 use Rattle.assembly.specs.Stands as S
 use Rattle.assembly.specs.declared.Crunching as C
 use Rattle.assembly.specs.declared.Crunching.the-variants as Crunching

@@ -1,5 +1,5 @@
 -- Isolation: the theorems of specs/Isolation.antt, by the crunch entry's own `determined`. Assumes nothing.
-use mathlib.Core.Path.{_≡_, ap, subst}
+use mathlib.Core.Path.{ap, subst}
 use Rattle.settings.specs.declared.Settings.{Settings}
 use Rattle.rows.specs.Lent.{Inputs}
 use Rattle.crunch.specs.Entry as Crunch

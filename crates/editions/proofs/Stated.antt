@@ -1,6 +1,5 @@
 -- The contract of the export, as the check reads it off src/export.rt: nothing is asked of a caller; and what is promised fixes both reports and
 -- every lent row, of the contour, of the order and of the lengths of the rows alone. Assumes nothing.
-use mathlib.Core.Path.{_≡_}
 use Rattle.contour.specs.Output.{outputs}
 use Rattle.editions.specs.Entry.{LentRows}
 use Rattle.editions.specs.Determine.{AlikeBoth, EqualReports, equal-reports}

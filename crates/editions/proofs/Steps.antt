@@ -1,5 +1,5 @@
 -- One edition's step on a run: what stands after it, of what stood before. Assumes nothing.
-use Prim.Native.Nat.{ℕ, _+_, _≤_}
+use Prim.Native.Nat.{ℕ, _+_}
 use native.Mathlib.Omega.{arith}
 use mathlib.Core.Bool.{Bool, true, false, false≢true}
 use mathlib.Core.List.{List, _++_}
@@ -8,8 +8,8 @@ use lib.Ieee.{Float}
 use lib.IntN.{ℤ}
 use lib.ListN.{length}
 use Rattle.breaks.specs.declared.Grid.{Grid}
-use Rattle.corners.specs.Segments.{startOf, segFrom}
-use Rattle.corners.specs.declared.Seg.{Seg}
+use Rattle.outline.specs.Segments.{startOf, segFrom}
+use Rattle.outline.specs.declared.Seg.{Seg}
 use Rattle.runs.specs.Runs.{Span, copiedFrom}
 use Rattle.settings.specs.Settings.{gridOf, penaltyOf}
 use Rattle.settings.specs.declared.Settings.{Settings}

@@ -14,7 +14,7 @@ use Rattle.crunch.specs.Determine.{Same, Alike, Equal}
 use Rattle.crunch.specs.Determine as Alone
 use Rattle.crunch.specs.declared.Crunched.{Crunched}
 use Rattle.crunch.specs.declared.Crunched.the-variants as Crunched
-use Rattle.editions.specs.Entry.{Rows, LentRows, rowsA, rowsB, lentBy, Promise}
+use Rattle.editions.specs.Entry.{Rows, LentRows, rowsA, rowsB, Promise}
 use Rattle.editions.specs.Exports.{report}
 use Rattle.editions.specs.declared.entry.Editions.{Editions}
 use Rattle.editions.specs.declared.export.EditionsReport.{EditionsReport}

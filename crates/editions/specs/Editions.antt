@@ -4,7 +4,7 @@ use Prim.Native.Nat.{ℕ}
 use mathlib.Core.Bool.{Bool, true, false}
 use mathlib.Core.List.{List, [], _∷_}
 use lib.IntN.{ℤ}
-use Rattle.corners.specs.Segments.{startOf}
+use Rattle.outline.specs.Segments.{startOf}
 use Rattle.runs.specs.Runs.{between, stopsOf}
 use Rattle.settings.specs.Settings.{yesOf, settingsFine}
 use Rattle.settings.specs.declared.Settings.{Settings}

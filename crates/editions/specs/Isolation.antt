@@ -6,7 +6,7 @@ use Rattle.crunch.specs.Entry as Crunch
 use Rattle.crunch.specs.Determine.{Same}
 use Rattle.crunch.specs.declared.Crunched.{Crunched}
 use Rattle.editions.specs.Editions.{settingsA, settingsB}
-use Rattle.editions.specs.Entry.{Rows, LentRows, rowsA, rowsB, lentBy, Promise}
+use Rattle.editions.specs.Entry.{Rows, LentRows, rowsA, rowsB, Promise}
 use Rattle.editions.specs.declared.entry.Editions.{Editions}
 use Rattle.editions.specs.declared.work.Order.{Order}
 

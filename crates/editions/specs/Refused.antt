@@ -22,7 +22,7 @@ use Rattle.survey.specs.Survey as Survey
 use Rattle.optimize.specs.Optimize.{Optimised, measureBy, optimizeOf}
 use Rattle.optimize.specs.Optimize as O
 use Rattle.optimize.specs.declared.Tally.{Tally}
-use Rattle.edition.specs.Edition.{Rooms, answerRoom, resultOf, fellIn}
+use Rattle.edition.specs.Edition.{answerRoom, resultOf, fellIn}
 use Rattle.edition.specs.Scratch.{roomsOf}
 use Rattle.contour.specs.Points.{Points, unchangedIn}
 use Rattle.contour.specs.Implied.{finished}

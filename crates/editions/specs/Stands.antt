@@ -1,12 +1,10 @@
 -- How an edition's progress, with its row for points, stands for a state of the definition, from one step to the next. Definitions only.
 use Prim.Native.Nat.{ℕ, _+_}
 use mathlib.Core.Bool.{Bool, true, false}
-use mathlib.Core.List.{List}
 use mathlib.Core.Path.{_≡_}
-use lib.IntN.{ℤ}
 use lib.ListN.{length, replicate}
-use Rattle.rows.specs.Lent.{Lent, before, after, room}
-use Rattle.rows.specs.Rows.{zeroWork, pointZero}
+use Rattle.rows.specs.Lent.{room}
+use Rattle.rows.specs.Rows.{pointZero}
 use Rattle.optimize.specs.Fallen.{Upto}
 use Rattle.optimize.specs.Tally.{untried}
 use Rattle.contour.specs.Points.{Points}

@@ -4,7 +4,6 @@ use assembly::Progress;
 use crunch::Crunched;
 use optimize::Tally;
 use settings::Settings;
-ghost use mathlib.Core.Path.{_≡_};
 ghost use Rattle.rows.specs.Lent.{before, after, room};
 ghost use Rattle.settings.specs.Settings.{settingsFine};
 ghost use Rattle.contour.specs.Output.{outputs};
@@ -76,7 +75,7 @@ pub fn end(
         if stops.len() == 0 {
             return crunch::finish(c, closed, points);
         }
-        let s = contour::point_as(true, xs, ys, corners::start_of(flags, stops[0]));
+        let s = contour::point_as(true, xs, ys, outline::start_of(flags, stops[0]));
         let d = assembly::close_up(c, points, s);
         return crunch::finish(d, closed, points);
     }

@@ -1,7 +1,7 @@
 // Both editions' work on the runs of a contour. Samples and breaks are written by the survey alone.
 use assembly::Crunching;
 use assembly::Progress;
-use corners::Seg;
+use outline::Seg;
 use runs::Run;
 use settings::Settings;
 use survey::Surveyed;
@@ -223,9 +223,9 @@ fn run_both(
     if is_over(ca) && is_over(cb) {
         return c;
     }
-    let at = corners::start_of(flags, first);
+    let at = outline::start_of(flags, first);
     if runs::is_copied_from(xs, ys, flags, at, count) {
-        let g = corners::read_from(xs, ys, flags, at);
+        let g = outline::read_from(xs, ys, flags, at);
         let a = copy_line(ca, g, points_a);
         let b = copy_line(cb, g, points_b);
         return Both { a, b };

@@ -11,7 +11,7 @@ use lib.IntN.{ℤ, pos}
 use lib.ListN.{length, getD, take, drop, length-map}
 use lib.Seq.{take-suc, take-length}
 use Rattle.refusals.specs.Refusals.{isOn, offNeighbours}
-use Rattle.corners.specs.Segments.{onAt}
+use Rattle.outline.specs.Segments.{onAt}
 use Rattle.rows.specs.Lent.{inputs}
 use Rattle.contour.specs.Points as Points
 use Rattle.contour.specs.Points.{Points, pointAs, cameTo}

@@ -15,7 +15,7 @@ use Rattle.refusals.specs.Refusals.{isOn, rowsDiffer, noPoint, tooMany, refuse,
 use Rattle.refusals.specs.Accepted.{Accepted, accepted, judged-fine}
 use Rattle.refusals.specs.declared.Judged.{Judged}
 use Rattle.refusals.specs.declared.Judged.the-variants as Judged
-use Rattle.corners.specs.Segments.{onAt}
+use Rattle.outline.specs.Segments.{onAt}
 use Rattle.rows.specs.Lent.{Inputs, inputs}
 use Rattle.contour.specs.Points.{Points, pointAs, cameTo}
 use Rattle.contour.specs.Implied.{number, offCurve}

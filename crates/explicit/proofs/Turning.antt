@@ -12,7 +12,7 @@ use lib.IntN.{ℤ, pos}
 use lib.ListN.{length, getD, take, drop, length-append, length-take, length-drop, List·getD-append}
 use lib.Seq.{drop-cons, drop-length, getD-drop, getD-take, getD-append-add, getD-at}
 use Rattle.refusals.specs.Refusals.{isOn}
-use Rattle.corners.specs.Segments.{onAt}
+use Rattle.outline.specs.Segments.{onAt}
 use Rattle.rows.specs.Lent.{inputs}
 use Rattle.contour.specs.Points.{Points, pointAs, cameTo}
 use Rattle.contour.specs.Writing.{written, extended, writingIn, Wrote}

@@ -9,7 +9,7 @@ use Rattle.refusals.specs.declared.Judged.{Judged}
 use Rattle.refusals.specs.declared.Judged.the-variants as Judged
 use Rattle.rows.specs.Lent.{Inputs}
 use Rattle.contour.specs.Points.{Points}
-use Rattle.contour.specs.Output.{Outputs, given}
+use Rattle.contour.specs.Output.{Outputs, withPoints}
 use Rattle.contour.specs.Writing.{written, Wrote}
 use Rattle.contour.specs.Laws.{wrote-over, wrote-all, holds-count}
 use Rattle.contour.specs.declared.Written.{Written}
@@ -35,13 +35,13 @@ module _ (ps : Points) {row : Points} {w : Written} (wrote : Wrote row w (writte
         let less : roomOf o < length ps = rw (counted, ← room) short in
         record { answer = rw (le-ltb 1024 (length ps) few, lt-ltb (roomOf o) (length ps) less); left = refl }
 
-    pub all-written : {n : ℕ} {o′ : Outputs} → n ≡ roomOf o → w .count ≤ n → o′ ≡ given (take (w .count) row) o →
+    pub all-written : {n : ℕ} {o′ : Outputs} → n ≡ roomOf o → w .count ≤ n → o′ ≡ withPoints (take (w .count) row) o →
         WrittenOut ps (record { entry = o; exit = o′ }) (Explicit.Points (w .count))
     all-written room enough out =
         let more : length ps ≤ roomOf o = rw (counted, ← room) enough in
         record {
           answer = rw (le-ltb 1024 (length ps) few, le-ltb (roomOf o) (length ps) more, counted);
-          left = out ∙ ap (λ (q : Points). given q o) (wrote-all 1024 ps wrote fits .0 .are);
+          left = out ∙ ap (λ (q : Points). withPoints q o) (wrote-all 1024 ps wrote fits .0 .are);
         }
 
 -- ---- 1, 2 and 21 first

@@ -12,7 +12,7 @@ use Rattle.refusals.specs.declared.Judged.{Judged}
 use Rattle.refusals.specs.declared.Judged.the-variants as Judged
 use Rattle.rows.specs.Lent.{Lent, before, after, Inputs, inputs}
 use Rattle.contour.specs.Points.{Points}
-use Rattle.contour.specs.Output.{Outputs, outputs, given}
+use Rattle.contour.specs.Output.{Outputs, outputs, withPoints}
 use Rattle.explicit.specs.Explicit.{explicitOf}
 use Rattle.explicit.specs.declared.ExplicitReport.{ExplicitReport}
 use Rattle.explicit.specs.declared.Explicit as D
@@ -61,7 +61,7 @@ wholeOf i room = afterJudging (judgedOf i) (answerIn room (explicitOf i))
 -- what is left in the output rows: a refusal writes nothing
 abbrev pub leftBy : D.Explicit → Points → Outputs → Outputs
 leftBy (Explicit.Refused k) ps o = o
-leftBy (Explicit.Points n) ps o = given ps o
+leftBy (Explicit.Points n) ps o = withPoints ps o
 
 -- what comes of points that are put in, in the rows w
 pub record WrittenOut (ps : Points) (w : Both Outputs Outputs) (r : D.Explicit) : Type 0 where

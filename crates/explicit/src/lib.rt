@@ -9,7 +9,7 @@ ghost use Prim.Native.Nat.{_<_, _≤_};
 ghost use lib.IntN.{_+ℤ_};
 ghost use lib.Signed.{mag};
 ghost use lib.ListN.{length};
-ghost use Rattle.corners.specs.Segments.{onAt};
+ghost use Rattle.outline.specs.Segments.{onAt};
 ghost use Rattle.rows.specs.Lent.{before, after, contour, Shown};
 ghost use Rattle.contour.specs.Points.{Points, pointAs};
 ghost use Rattle.contour.specs.Writing.{written, Wrote, Appended};

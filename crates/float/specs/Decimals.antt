@@ -4,7 +4,7 @@ use mathlib.Core.List.{List, [], _∷_, map}
 use mathlib.Core.Bool.{false}
 use Prim.Native.Nat.{ℕ, _^_}
 use lib.Ieee.{Float, binary64, round}
-use Rattle.float.specs.Numbers.{nil, half, one, two, three, four, five, six, ten, hundred}
+use Rattle.float.specs.Numbers.{nought, half, one, two, three, four, five, six, ten, hundred}
 use Rattle.float.specs.Float.{tiny}
 
 -- a constant, and the n and d of its decimal
@@ -24,7 +24,7 @@ AreNearest list = map value list ≡ map nearest list
 -- ---- the constants of this crate
 abbrev pub numbers : List Decimal
 numbers =
-    decimal nil 0 1
+    decimal nought 0 1
     ∷ decimal half 1 2
     ∷ decimal one 1 1
     ∷ decimal two 2 1

@@ -1,8 +1,8 @@
 -- The small numbers that the definitions name, each as its f64.
 use lib.Ieee.{Float, binary64, ofBits}
 
-abbrev pub nil : Float
-nil = ofBits binary64 0
+abbrev pub nought : Float
+nought = ofBits binary64 0
 
 abbrev pub half : Float
 half = ofBits binary64 0x3fe0_0000_0000_0000

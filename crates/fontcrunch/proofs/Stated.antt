@@ -1,7 +1,6 @@
 -- The contracts of the exports, as the check reads them off src/lib.rt: nothing is asked of a caller; and what is promised fixes the report and every
 -- lent row, of what is read and of the lengths of the scratch rows alone. Assumes nothing.
 use mathlib.Core.Path.{_≡_}
-use lib.ListN.{length}
 use Rattle.rows.specs.Rows.{work}
 use Rattle.contour.specs.Output.{outputs}
 use Rattle.pieces.specs.Slots.{chain}

@@ -1,7 +1,7 @@
 -- The promises of the exported entries determine the report and every lent row; and the report and what is written are those of the inputs and
 -- of the lengths of the rows alone, whatever the rows held. Assumes nothing.
 use Prim.Native.Nat.{ℕ}
-use mathlib.Core.Path.{_≡_, refl, sym, ap, _∙_}
+use mathlib.Core.Path.{_≡_, sym, ap, _∙_}
 use Rattle.rows.specs.Rows.{Work}
 use Rattle.rows.specs.Lent.{Inputs, Shown}
 use Rattle.settings.specs.declared.Settings.{Settings}
@@ -10,7 +10,7 @@ use Rattle.crunch.specs.Entry as Crunch
 use Rattle.crunch.specs.Determine as CrunchOnce
 use Rattle.chains.specs.Entry as Chains
 use Rattle.chains.specs.Determine as ChainsOnce
-use Rattle.checks.specs.Checks.{Given}
+use Rattle.checks.specs.Checks.{GivenChain}
 use Rattle.checks.specs.Entry as Checks
 use Rattle.checks.specs.Determine as ChecksOnce
 use Rattle.fontcrunch.specs.Exports.{crunchReport, ChainShown, checkReport}
@@ -84,13 +84,13 @@ pub record CheckSame (r r' : CheckReport) (w w' : Work) : Type 0 where
   pub report : r ≡ r'
   pub work : w ≡ w'
 
-pub check-equal-orders : {i : Inputs} {settings : Settings} {k : ℕ} {c : Given} {w w' : Scratch} {r r' : CheckReport} →
+pub check-equal-orders : {i : Inputs} {settings : Settings} {k : ℕ} {c : GivenChain} {w w' : Scratch} {r r' : CheckReport} →
     roomsOf (w .entry) ≡ roomsOf (w' .entry) →
     Shown checkReport (Checks.Promise i settings k c w) r → Shown checkReport (Checks.Promise i settings k c w') r' → CheckSame r r' (w .exit) (w' .exit)
 check-equal-orders rooms p q =
     let same = ChecksOnce.equal-orders rooms (p .promise) (q .promise) in
     record { report = shown-same p q (same .ruling); work = same .left }
 
-pub check-determined : {i : Inputs} {settings : Settings} {k : ℕ} {c : Given} {w w' : Scratch} {r r' : CheckReport} → w .entry ≡ w' .entry →
+pub check-determined : {i : Inputs} {settings : Settings} {k : ℕ} {c : GivenChain} {w w' : Scratch} {r r' : CheckReport} → w .entry ≡ w' .entry →
     Shown checkReport (Checks.Promise i settings k c w) r → Shown checkReport (Checks.Promise i settings k c w') r' → CheckSame r r' (w .exit) (w' .exit)
 check-determined e p q = check-equal-orders (ap roomsOf e) p q

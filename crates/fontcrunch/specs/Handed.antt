@@ -19,7 +19,7 @@ use Rattle.chains.specs.Determine.{placesOf}
 use Rattle.chains.specs.declared.Chained.{Chained}
 use Rattle.chains.specs.declared.Chained.the-variants as Chained
 use Rattle.chain.specs.declared.Piece.{Piece}
-use Rattle.checks.specs.Checks.{Given}
+use Rattle.checks.specs.Checks.{GivenChain}
 use Rattle.checks.specs.Entry as Checks
 use Rattle.checks.specs.declared.Ruling.{Ruling}
 use Rattle.checks.specs.declared.Verdict.the-variants as Verdict
@@ -58,7 +58,7 @@ module _ {i : Inputs} {settings : Settings} {k : ℕ} {c : Chains.LentChain} {w 
       ≡ givenBy (placesOf (length ps) (Chains.rowsOf whole breaks (c .entry))) s =
       rw (pieces-are (chained ps s t) e, said .shown .promise .rows, score) refl in
       ap (λ (v : Ruling). v .verdict) (asked .promise .ruling)
-      ∙ ap (λ (g : Given). Checks.wholeOf i settings k g (w' .entry) .verdict) given
+      ∙ ap (λ (g : GivenChain). Checks.wholeOf i settings k g (w' .entry) .verdict) given
       ∙ demand-three i settings k (c .entry) (w .entry) (w' .entry) ps s t same e
 
   handed-by : (o : Outcome) → whole ≡ o → Yes v

@@ -8,11 +8,11 @@ use lib.IntN.{ℤ, pos, negsuc}
 use lib.Ieee as Ieee
 use lib.Ieee.{Float, binary64, ofInt}
 use Rattle.float.specs.Float.{absOf, tiny, closeTo, wholeBy, rootOf, rootUnits, rootNear, rootDown}
-use Rattle.float.specs.Numbers.{nil, one}
+use Rattle.float.specs.Numbers.{nought, one}
 use Rattle.float.proofs.Table.{each}
 use Rattle.geometry.specs.declared.Point.{Point}
 use Rattle.refusals.specs.Refusals.{offNeighbours, judged}
-use Rattle.corners.specs.Segments.{countOf, endOf, placeAfter, segFrom}
+use Rattle.outline.specs.Segments.{countOf, endOf, placeAfter, segFrom}
 use Rattle.corners.specs.Corners as Corners
 use Rattle.corners.specs.Corners.{angleCorner}
 use Rattle.runs.specs.Runs.{marksFrom, cornerList, stopsOf, between}
@@ -21,11 +21,11 @@ use Rattle.measure.specs.declared.Measured.the-variants as Measured
 use Rattle.breaks.specs.Breaks as Breaks
 use Rattle.breaks.specs.declared.Grid.{Grid}
 use Rattle.breaks.specs.Breaks.{halfGrid, wholeGrid, onGrid}
-use Rattle.optimize.specs.Answers.{scoreOf, combined}
+use Rattle.attempt.specs.Answers.{combined}
 use Rattle.optimize.specs.Optimize.{Measure, tryQuad, bent, tryLineQuad, tryAll, splitsFrom}
 use Rattle.optimize.specs.Optimize.{falling, searchFrom, Optimised, refused8, unchanged, solved, optimizeOf}
 use Rattle.edition.specs.Scratch.{fullRooms}
-use Rattle.contour.specs.Points.{Points, pointsTo, piecesPoints}
+use Rattle.contour.specs.Points.{Points, piecesPoints}
 use Rattle.contour.specs.Implied.{isImplied, impliedAt, look, dropFrom, dropImplied, cutOf}
 use Rattle.assembly.specs.Assembly.{afterRun, crunchAll, crunchRuns}
 use Rattle.crunch.specs.Crunch.{Outcome, crunchOf}
@@ -45,41 +45,41 @@ pub data Case : Type 0 where
   run : ℕ → ℕ → Float → Case
 
 -- what comes of it
-pub data Result : Type 0 where
-  refused : ℕ → Result
+pub data Comes : Type 0 where
+  refused : ℕ → Comes
   -- the points out, and the pairs tried
-  gives : Points → ℕ → Result
+  gives : Points → ℕ → Comes
   -- whether the angle makes a corner
-  byAngle : Bool → Result
-  left : Points → Result
-  breakAt : Float → Result
+  byAngle : Bool → Comes
+  left : Points → Comes
+  breakAt : Float → Comes
   -- the pairs tried
-  tried : ℕ → Result
+  tried : ℕ → Comes
 
 pub record Row : Type 0 where
   pub case : Case
-  pub result : Result
+  pub result : Comes
 
 -- ---- evaluation
 
-abbrev pub outcome : Outcome → Result
+abbrev pub outcome : Outcome → Comes
 outcome (Crunch.refused k) = refused k
 outcome (Crunch.crunched ps t) = gives ps (t .pairs)
 
 -- n breaks from (k, 0) on, each a unit after the one before, all with the direction (1, 0): no two of them cross
 abbrev pub inLine : ℕ → ℕ → Breaks.Row
 inLine zero k = []
-inLine (suc n) k = (ofInt binary64 (pos k) ∷ ofInt binary64 (pos k) ∷ nil ∷ one ∷ nil ∷ []) ∷ inLine n (k + 1)
+inLine (suc n) k = (ofInt binary64 (pos k) ∷ ofInt binary64 (pos k) ∷ nought ∷ one ∷ nought ∷ []) ∷ inLine n (k + 1)
 
 abbrev pub atError : Float → Measure
 atError e i j q = Measured.At (record { error = e })
 
-abbrev pub pairsOf : Optimised → Result
+abbrev pub pairsOf : Optimised → Comes
 pairsOf refused8 = refused 8
 pairsOf (unchanged p) = tried p
 pairsOf (solved a p) = tried p
 
-abbrev pub evaluate : Case → Result
+abbrev pub evaluate : Case → Comes
 evaluate (contour penalty closed xs ys fs) = outcome (crunchOf fullRooms 16384 (settingsOf penalty 0 closed) xs ys fs)
 evaluate (tangents d0 d1) = byAngle (angleCorner d0 d1)
 evaluate (points closed ps) = left (dropImplied (isImplied (yesOf closed)) ps)

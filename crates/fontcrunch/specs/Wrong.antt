@@ -14,7 +14,7 @@ use Rattle.refusals.specs.Refusals.{offNeighbours, judged}
 use Rattle.refusals.specs.declared.Judged.{Judged}
 use Rattle.refusals.specs.declared.Judged.the-variants as Judged
 use Rattle.rows.specs.Lent.{Inputs, inputs}
-use Rattle.corners.specs.Segments.{countOf, placeAfter, segFrom}
+use Rattle.outline.specs.Segments.{countOf, placeAfter, segFrom}
 use Rattle.runs.specs.declared.Run.{Run}
 use Rattle.runs.specs.declared.Run.the-variants.{Between, Nothing}
 use Rattle.runs.specs.Runs.{numberedRun}
@@ -32,12 +32,12 @@ use Rattle.contour.specs.Points.{Points, pointsTo, unchangedPoints}
 use Rattle.contour.specs.Implied.{isImplied, impliedAt, look, dropFrom, finished}
 use Rattle.crunch.specs.Crunch.{Outcome, refused, crunched, crunchOf}
 use Rattle.chains.specs.Chains.{chained, chainOf}
-use Rattle.checks.specs.Checks.{Given, checkOf}
+use Rattle.checks.specs.Checks.{GivenChain, checkOf}
 use Rattle.checks.specs.Checks as Checks
 use Rattle.checks.specs.declared.Ruling.{Ruling}
 use Rattle.checks.specs.declared.Verdict.{Verdict}
 use Rattle.checks.specs.declared.Verdict.the-variants as Verdict
-use Rattle.fontcrunch.specs.Accepted.{given, accepted-chain}
+use Rattle.fontcrunch.specs.Accepted.{chainFrom, accepted-chain}
 use Rattle.fontcrunch.specs.Table.{outcome, gives, worked, on}
 
 -- ---- crunching, in rows with document 01's full rooms
@@ -114,11 +114,11 @@ copies-its-input f right wrong =
 
 -- ---- checking a chain
 
-abbrev pub checkWhole : Inputs → ℕ → Given → Ruling
+abbrev pub checkWhole : Inputs → ℕ → GivenChain → Ruling
 checkWhole (inputs xs ys fs) k c = checkOf fullRooms crateSettings xs ys fs c k
 
 -- a chain without a piece, and any score
-abbrev pub noPiece : Float → Given
+abbrev pub noPiece : Float → GivenChain
 noPiece score = record { starts = []; ends = []; xs = []; ys = []; score = score }
 
 no-piece : (n : ℕ) → Valid.joined n [] ≡ false
@@ -128,7 +128,7 @@ no-piece (suc n) = ne-eqb 0 (suc n) (λ (e : 0 ≡ suc n). absurd (omega (arith,
 
 no-piece-no : (samples : List (List Float)) (breaks : List (List Float)) (penalty score : Float) →
     Valid.checkRows samples breaks penalty [] [] [] [] score ≡ Checked.No
-unfolding Valid.checkRows Valid.checkOf Valid.goodShape Valid.piecesFrom
+unfolding Valid.checkRows Valid.checkedChain Valid.goodShape Valid.piecesFrom
 no-piece-no samples breaks penalty score = rw (no-piece (length breaks - 1)) refl
 
 never-yes : (half : ℕ) (penalty score : Float) (s : Survey) → Checks.ofSurvey half penalty (noPiece score) s .verdict ≡ Verdict.Yes → ⊥
@@ -146,7 +146,7 @@ never-yes half penalty score (Survey.surveyed samples breaks) e = by (ltb half (
         absurd (omega arith)
 
 -- of no contour, no run and no score is a chain without a piece accepted
-pub says-always-yes : (f : Inputs → ℕ → Given → Ruling) → ((i : Inputs) (k : ℕ) (c : Given) → f i k c ≡ checkWhole i k c) →
+pub says-always-yes : (f : Inputs → ℕ → GivenChain → Ruling) → ((i : Inputs) (k : ℕ) (c : GivenChain) → f i k c ≡ checkWhole i k c) →
     (i : Inputs) (k : ℕ) (score : Float) → f i k (noPiece score) .verdict ≡ Verdict.Yes → ⊥
 unfolding checkOf
 says-always-yes f right (inputs xs ys fs) k score e =
@@ -165,11 +165,11 @@ says-always-yes f right (inputs xs ys fs) k score e =
     judging Judged.Fine g = running (numberedRun false xs ys fs k) g
 
 -- whatever run the optimiser has a chain for, that chain is accepted
-pub says-always-no : (f : Inputs → ℕ → Given → Ruling) → ((i : Inputs) (k : ℕ) (c : Given) → f i k c ≡ checkWhole i k c) →
+pub says-always-no : (f : Inputs → ℕ → GivenChain → Ruling) → ((i : Inputs) (k : ℕ) (c : GivenChain) → f i k c ≡ checkWhole i k c) →
     (xs ys : List ℤ) (fs : List ℕ) (k room : ℕ) (ps : List Piece) (score : Float) (tally : Tally) →
-    chainOf fullRooms room crateSettings xs ys fs k ≡ chained ps score tally → f (inputs xs ys fs) k (given ps score) .verdict ≡ Verdict.No → ⊥
+    chainOf fullRooms room crateSettings xs ys fs k ≡ chained ps score tally → f (inputs xs ys fs) k (chainFrom ps score) .verdict ≡ Verdict.No → ⊥
 says-always-no f right xs ys fs k room ps score tally e denied =
     let accepted = accepted-chain fullRooms room crateSettings xs ys fs ps score tally k e in
-    let both : Verdict.Yes ≡ Verdict.No = sym accepted ∙ ap (λ (v : Ruling). v .verdict) (sym (right (inputs xs ys fs) k (given ps score))) ∙ denied in
+    let both : Verdict.Yes ≡ Verdict.No = sym accepted ∙ ap (λ (v : Ruling). v .verdict) (sym (right (inputs xs ys fs) k (chainFrom ps score))) ∙ denied in
     let z : _≡_ {A = ℕ} 0 1 = cc in
     absurd (omega arith)

@@ -218,7 +218,7 @@ pub extern "C" fn fontcrunch_check(
     links: &mut [u32],
 ) -> CheckReport
     ensures { λ r. ⌜ Shown checkReport (Checks.Promise (contour xs ys flags) (settingsOf penalty «whole_units» closed) k
-        (Checks.given starts ends cxs cys score) (scratch samples breaks answers links)) r ⌝ }
+        (Checks.chainGiven starts ends cxs cys score) (scratch samples breaks answers links)) r ⌝ }
 {
     check_report(checks::check_chain(
         xs,

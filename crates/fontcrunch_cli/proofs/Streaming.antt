@@ -1,18 +1,17 @@
 -- The output while the input comes in chunks: a line that ends, a chunk that ends within a line, the last line. Assumes nothing.
-use Prim.Native.Nat.{ℕ, zero, suc, _+_, _≤_, _<_, min}
+use Prim.Native.Nat.{ℕ, suc, _+_, _≤_, _<_, min}
 use mathlib.Core.Bool.{Bool, true, false}
 use mathlib.Core.List.{List, [], _∷_, _++_, append-assoc, append-nil}
 use mathlib.Core.Path.{_≡_, refl, sym, ap, subst, _∙_}
 use native.Mathlib.Omega.{arith}
 use borrow.Author.Tests.{leb-true, leb-false, ltb-true, ltb-false}
 use lib.Dec.{leb, ltb}
-use lib.ListN.{length, take, drop, length-drop, length-append, length-take, drop-of-length-le}
-use lib.Seq.{sets, drop-drop, drop-length, take-all, take-append-le, length-take-le, length-sets}
+use lib.ListN.{length, take, drop, length-drop, length-append, drop-of-length-le}
+use lib.Seq.{drop-drop, drop-length, take-all, take-append-le, length-take-le, length-sets}
 use Rattle.answering.specs.declared.Order.{Order}
-use Rattle.lines.specs.Line.{upTo, parsedOf}
+use Rattle.lines.specs.Line.{upTo}
 use Rattle.lines.specs.Text.{Put}
-use Rattle.lines.specs.Stream.{endedBy, linesOf, fedIf, Feeds}
-use Rattle.lines.specs.declared.stream.Fed.{Fed}
+use Rattle.lines.specs.Stream.{linesOf, fedIf, Feeds}
 use Rattle.lines.specs.declared.stream.Fed.the-variants.{Line, Part}
 use Rattle.lines.proofs.Parts.{next-part, no-part, none-in, none-in-front, under-way, whole-part, keeps}
 use Rattle.lines.proofs.Texts.{nothing, joined}

@@ -1,4 +1,5 @@
--- The output while the input comes chunk by chunk. Definitions only.
+-- The output while the input comes chunk by chunk; last, what a reader should know of it, as types, which `however-cut` and `flushed` of proofs/Chunks
+-- are of. Definitions and statements only.
 use Prim.Native.Nat.{ℕ, _≤_, _<_}
 use mathlib.Core.List.{List, [], _∷_, _++_}
 use mathlib.Core.Path.{_≡_}
@@ -52,3 +53,11 @@ pub data Written (s : Order) : List ℕ → List (List ℕ) → List ℕ → Typ
 unfoldable pub bytesOf : List (List ℕ) → List ℕ
 bytesOf [] = []
 bytesOf (chunk ∷ chunks) = chunk ++ bytesOf chunks
+
+-- what is written for the chunks, however the input is cut, is the output for the whole input
+abbrev pub HoweverCut : Type 0
+HoweverCut = (s : Order) (left : List ℕ) (chunks : List (List ℕ)) (done : List ℕ) → Written s left chunks done → done ≡ outputOf s (left ++ bytesOf chunks)
+
+-- a text that ends below its buffer's length stands there whole, so that the bytes before its end are it
+abbrev pub FlushedWhole : Type 0
+FlushedWhole = (text done text′ : List ℕ) (at : ℕ) → Put text 0 done text′ at → at < length text → take at text′ ≡ done

@@ -8,7 +8,6 @@ use answering::Order;
 use libc::STDERR_FILENO;
 use libc::STDIN_FILENO;
 use words::Asked;
-ghost use lib.ListN.{length};
 ghost use Rattle.fontcrunch_cli.specs.Stream.{Keeps, Chunked};
 
 // What a chunk's lines are answered goes out before more input is waited for.

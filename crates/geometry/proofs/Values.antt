@@ -7,7 +7,7 @@ use lib.Ieee as Ieee
 use lib.Ieee.{Float, nan, binary64, round, ofBits}
 use Rattle.float.specs.Float.{absOf, tiny, closeTo, wholeBy, rootDown, rootNear, rootUnits, rootOf}
 use Rattle.geometry.specs.Geometry.{isInt, isClose, distanceOf, unitizeOf, lineQuad, isLine, isSmooth, intersectOf, epsilon}
-use Rattle.float.specs.Numbers.{nil, half}
+use Rattle.float.specs.Numbers.{nought, half}
 use Rattle.float.specs.Decimals.{Decimal, decimal, value, nearest}
 use Rattle.geometry.specs.declared.Point.{Point}
 use Rattle.geometry.specs.declared.Quad.{Quad}
@@ -43,7 +43,7 @@ unfolding closeTo tiny absOf wholeBy Ieee.ofBits Ieee.round Ieee.sub Ieee.lt
 wholes = refl
 
 -- 1e-8 against 0 is not close
-close : map (isClose (whole 0 0)) (point (num 1 (10 ^ 9)) nil ∷ point (num 1 (10 ^ 8)) nil ∷ point nil (num 1 (10 ^ 8)) ∷ []) ≡ true ∷ false ∷ false ∷ []
+close : map (isClose (whole 0 0)) (point (num 1 (10 ^ 9)) nought ∷ point (num 1 (10 ^ 8)) nought ∷ point nought (num 1 (10 ^ 8)) ∷ []) ≡ true ∷ false ∷ false ∷ []
 unfolding closeTo tiny absOf Ieee.ofBits Ieee.round Ieee.sub Ieee.lt
 close = refl
 
@@ -66,8 +66,8 @@ joints = refl
 -- the lines through (0, 0) along (1, 0) and through (3, 5) along (0, 1) cross at (3, 0); a det of 2 ^ -52 has a crossing, half of it has none;
 -- a NaN det has a crossing, with NaN in it
 crossings : intersectOf (whole 0 0) (whole 1 0) (whole 3 5) (whole 0 1)
-    ∷ intersectOf (whole 0 0) (whole 1 0) (whole 0 0) (point nil epsilon)
-    ∷ intersectOf (whole 0 0) (whole 1 0) (whole 0 0) (point nil (Ieee.mul binary64 half epsilon))
+    ∷ intersectOf (whole 0 0) (whole 1 0) (whole 0 0) (point nought epsilon)
+    ∷ intersectOf (whole 0 0) (whole 1 0) (whole 0 0) (point nought (Ieee.mul binary64 half epsilon))
     ∷ intersectOf (whole 0 0) (point nan nan) (whole 3 5) (whole 0 1)
     ∷ []
     ≡ At (whole 3 0) ∷ At (whole 0 0) ∷ Nowhere ∷ At (point nan nan) ∷ []

@@ -5,7 +5,7 @@ use lib.Dec.{T}
 use lib.Ieee.{Float, nan, inf, fin, binary64, fits, sub, lt, round, ofBits}
 use lib.Ieee.Fits.{and-l, and-r}
 use lib.Ieee.Scale.{finite}
-use Rattle.float.specs.Numbers.{nil}
+use Rattle.float.specs.Numbers.{nought}
 use Rattle.float.specs.Float.{absOf, tiny, closeTo, wholeBy, floorOf, roundOf}
 use Rattle.float.proofs.Exact.{round-floor}
 use Rattle.float.proofs.Zeros.{IsZero, is-zero, zeros-sub, level-self, level-sub}
@@ -14,17 +14,17 @@ use Rattle.geometry.specs.declared.Point.{Point}
 
 -- ---- a rounded number is on whole units, where it is finite
 
-pub nil-zero : IsZero nil
+pub nought-zero : IsZero nought
 unfolding ofBits
-nil-zero = is-zero false
+nought-zero = is-zero false
 
 zero-small : {x : Float} → IsZero x → lt (absOf x) tiny ≡ true
 unfolding absOf tiny round lt
 zero-small (is-zero s) = refl
 
-zero-close : {x : Float} → IsZero x → closeTo x nil ≡ true
+zero-close : {x : Float} → IsZero x → closeTo x nought ≡ true
 unfolding closeTo
-zero-close z = zero-small (zeros-sub z nil-zero)
+zero-close z = zero-small (zeros-sub z nought-zero)
 
 floor-int : (x : Float) → T (finite x) → floorOf x ≡ x → isInt x ≡ true
 floor-int x t e = rw e (zero-close (level-sub (level-self x t)))

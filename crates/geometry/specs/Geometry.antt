@@ -3,7 +3,7 @@ use mathlib.Core.Bool.{Bool, true, false, _&&_}
 use lib.Dec.{T}
 use lib.Ieee.{Float, binary64, add, sub, mul, div, lt, ofBits}
 use lib.Ieee.Scale.{finite}
-use Rattle.float.specs.Numbers.{nil, half, one}
+use Rattle.float.specs.Numbers.{nought, half, one}
 use Rattle.float.specs.Float.{absOf, closeTo, floorOf, roundOf, rootOf}
 use Rattle.geometry.specs.declared.Point.{Point}
 use Rattle.geometry.specs.declared.Quad.{Quad}
@@ -53,7 +53,7 @@ roundPointOf p = record { x = roundOf (p .x); y = roundOf (p .y) }
 
 -- f - floor(f) is close to 0
 abbrev pub isInt : Float → Bool
-isInt f = closeTo (sub binary64 f (floorOf f)) nil
+isInt f = closeTo (sub binary64 f (floorOf f)) nought
 
 abbrev pub isWhole : Point → Bool
 isWhole p = isInt (p .x) && isInt (p .y)

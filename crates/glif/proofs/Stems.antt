@@ -47,16 +47,16 @@ unfolding alike
 alike-nil [] = refl
 alike-nil (x ∷ xs) = refl
 
-nil-alike : (xs : List ℕ) → alike [] xs ≡ false
+nought-alike : (xs : List ℕ) → alike [] xs ≡ false
 unfolding alike
-nil-alike xs = refl
+nought-alike xs = refl
 
 zero-other : (x : ℕ) → isName x ≡ true → eqb x 0 ≡ false
 zero-other x h = ne-eqb x 0 (λ e. false≢true (sym no-name ∙ sym (ap isName e) ∙ h))
 
 pub alike-stem : (xs ys : List ℕ) → alike xs ys ≡ alike (stem xs) (stem ys)
 unfolding stem pick
-alike-stem [] ys = nil-alike ys ∙ sym (nil-alike (stem ys))
+alike-stem [] ys = nought-alike ys ∙ sym (nought-alike (stem ys))
 alike-stem (x ∷ xs) [] = alike-nil (x ∷ xs) ∙ sym (alike-nil (stem (x ∷ xs)))
 alike-stem (x ∷ xs) (y ∷ ys) = by (isName x) (isName y) (eqb x y) refl refl refl (alike-stem xs ys)
   where

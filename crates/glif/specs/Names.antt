@@ -1,8 +1,8 @@
 -- Names by their places in the file: the open elements' in the front of a row, and those of a tag's attributes after them. Definitions only.
-use Prim.Native.Nat.{ℕ, zero, suc, _+_, _-_}
-use mathlib.Core.Bool.{Bool, true, false, not}
+use Prim.Native.Nat.{ℕ, zero, suc, _-_}
+use mathlib.Core.Bool.{Bool, false, not}
 use mathlib.Core.List.{List, [], _∷_}
-use lib.Dec.{eqb, ltb, leb}
+use lib.Dec.{eqb, leb}
 use lib.ListN.{length, getD, set, drop}
 use Rattle.gliftext.specs.Pick.{pick, both, either, sum}
 use Rattle.gliftext.specs.Table.{isName}

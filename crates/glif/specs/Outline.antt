@@ -1,9 +1,9 @@
 -- The points of the contours as they stand in the file, and what is refused of them. Definitions only.
-use Prim.Native.Nat.{ℕ, _+_, _-_}
-use mathlib.Core.Bool.{Bool, true, false, not}
+use Prim.Native.Nat.{ℕ, _-_}
+use mathlib.Core.Bool.{Bool, false, not}
 use mathlib.Core.List.{List, [], _∷_}
 use lib.Dec.{eqb, ltb}
-use lib.ListN.{length, set}
+use lib.ListN.{set}
 use Rattle.gliftext.specs.Pick.{pick, both, either, more, sum}
 use Rattle.gliftext.specs.Text.{offcurve}
 use Rattle.glif.specs.Tree.{onPath, opensTag}

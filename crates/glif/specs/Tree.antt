@@ -1,5 +1,5 @@
 -- The open elements: how many, and how far they are glyph, outline, contour, point. Definitions only.
-use Prim.Native.Nat.{ℕ, _+_, _-_}
+use Prim.Native.Nat.{ℕ, _-_}
 use mathlib.Core.Bool.{Bool, true, false, not}
 use lib.Dec.{eqb, ltb}
 use Rattle.gliftext.specs.Pick.{pick, both, either, more}

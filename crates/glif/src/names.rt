@@ -7,8 +7,7 @@ use gliftext::less;
 use gliftext::pick;
 use gliftext::plus;
 ghost use mathlib.Core.Path.{_≡_};
-ghost use mathlib.Core.Bool.{true};
-ghost use lib.ListN.{length, set, drop, getD};
+ghost use lib.ListN.{set, getD};
 ghost use Rattle.gliftext.specs.Table.{isName};
 ghost use Rattle.glif.specs.Names.{sameName, seenTo, repeated, unclosed, wrongNames, keptNames};
 

@@ -13,7 +13,7 @@ use gliftext::pick;
 use gliftext::plus;
 ghost use mathlib.Core.Path.{_≡_};
 ghost use mathlib.Core.List.{[], _∷_};
-ghost use lib.ListN.{length, set};
+ghost use lib.ListN.{set};
 ghost use Rattle.gliftext.specs.Pick.{pick};
 ghost use Rattle.glif.specs.Outline.{isNumber, isFar, offsetOf, noSum, begun, ended, known, cubicOf};
 ghost use Rattle.glif.specs.Outline.{wrongPoint, withPoint, pointMet, contourMet, contourLeft, summed, markOf, keptPoint};

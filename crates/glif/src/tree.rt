@@ -5,7 +5,6 @@ use gliftext::less;
 use gliftext::more;
 use gliftext::pick;
 ghost use mathlib.Core.Path.{_≡_};
-ghost use Prim.Native.Nat.{min};
 ghost use Rattle.gliftext.specs.Pick.{pick};
 ghost use Rattle.glif.specs.Tree.{pathWord, onPath, entered, left, textFits, treed, noTree, opensTag};
 

@@ -1,8 +1,8 @@
 -- Points, contours and files into rows, step by step. Assumes nothing.
-use Prim.Native.Nat.{ℕ, zero, suc, _+_, _-_, _≤_, _<_}
+use Prim.Native.Nat.{ℕ, suc, _+_, _-_, _≤_, _<_}
 use mathlib.Core.Bool.{Bool, true, false, not}
 use mathlib.Core.List.{List}
-use mathlib.Core.Path.{_≡_, refl, sym, ap, _∙_}
+use mathlib.Core.Path.{_≡_, refl, sym, _∙_}
 use native.Mathlib.Numerals.{add-one}
 use native.Mathlib.Omega.{arith}
 use borrow.Author.Tests.{lt-ltb, le-ltb}
@@ -12,7 +12,7 @@ use lib.Seq.{drop-cons}
 use Rattle.lines.specs.Line.{negative}
 use Rattle.gliftext.specs.Pick.{pick, both, more, sum}
 use Rattle.glif.specs.Outline.{nowhere}
-use Rattle.glifread.specs.Enter.{noPlace, isOff, isFirst, middleOf, signedOf, flagOf, endOf, Rows, rows, putAt, Drawn, drawn, Walked}
+use Rattle.glifread.specs.Enter.{noPlace, isOff, isFirst, middleOf, signedOf, flagOf, endOf, Rows, rows, putAt, Drawn, drawn}
 use Rattle.glifread.specs.Enter.{walked, enterOne, enterTo, sought, seekFrom, enterContour, Entering, entering, enterNext, enterUpTo, filled, enterAll}
 use Rattle.glifread.specs.declared.enter.Pen.{Pen}
 use Rattle.glifread.specs.declared.enter.Walk.{Walk}

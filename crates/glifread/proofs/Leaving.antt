@@ -1,7 +1,7 @@
 -- What reading leaves, from what each step gives. Assumes nothing.
 use Prim.Native.Nat.{ℕ}
 use mathlib.Core.List.{List}
-use mathlib.Core.Path.{_≡_, sym, ap, _∙_}
+use mathlib.Core.Path.{_≡_, ap, _∙_}
 use lib.Dec.{eqb}
 use lib.IntN.{ℤ}
 use lib.ListN.{length, replicate}
@@ -10,7 +10,6 @@ use Rattle.glif.specs.Scan.{Judged, judged, judgedOf}
 use Rattle.glif.specs.declared.scan.Found.{Found}
 use Rattle.glifread.specs.Enter.{noPlace, rows, filled, enterAll}
 use Rattle.glifread.specs.Reads.{refusal, reportOf, kept, roomsOf, answerBy, leftBy}
-use Rattle.glifread.specs.Entry.{Promise}
 use Rattle.glifread.specs.declared.read.GlifReadReport.{GlifReadReport}
 
 module _ (bytes ends : List ℕ) (xs ys : List ℤ) (fs : List ℕ) (p₀ : List (List ℕ))

@@ -1,16 +1,15 @@
 -- The middle of two coordinates, halves away from zero. Assumes nothing.
-use Prim.Native.Nat.{ℕ, zero, suc, _+_, _-_, _/_, _≤_, _<_}
+use Prim.Native.Nat.{ℕ, suc, _+_, _-_, _/_, _≤_, _<_}
 use mathlib.Core.Bool.{Bool, true, false}
-use mathlib.Core.Path.{_≡_, refl, sym, ap, _∙_}
+use mathlib.Core.Path.{_≡_, refl}
 use native.Mathlib.Omega.{arith}
 use borrow.Author.Tests.{lt-ltb, le-ltb, le-leb, ltb-true, ltb-false}
 use lib.Dec.{ltb}
 use lib.IntN.{ℤ, pos, negsuc, _+ℤ_}
-use lib.Signed.{mag}
 use Rattle.lines.specs.Line.{negative}
 use Rattle.gliftext.specs.Pick.{pick, more, sum}
 use Rattle.glifread.specs.Enter.{middleOf, signedOf}
-use Rattle.glifread.specs.Middles.{halfAway, counted, MiddleIsAway, CountedIsItself}
+use Rattle.glifread.specs.Middles.{halfAway, MiddleIsAway, CountedIsItself}
 
 plain-sum : (a b : ℕ) → a ≤ 65535 → b ≤ 65535 → sum a b ≡ a + b
 unfolding sum pick

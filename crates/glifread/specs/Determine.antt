@@ -1,10 +1,9 @@
 -- The promise of `read_glif` determines the report and every lent row; and the report and what enters the rows are those of the bytes
 -- and of the lengths of the rows alone, whatever the rows held. Assumes nothing.
-use Prim.Native.Nat.{ℕ, _%_}
-use mathlib.Core.Bool.{Bool, true, false}
+use Prim.Native.Nat.{ℕ}
+use mathlib.Core.Bool.{false}
 use mathlib.Core.List.{List}
 use mathlib.Core.Path.{_≡_, refl, sym, ap, _∙_}
-use native.Mathlib.Omega.{arith}
 use borrow.Author.Tests.{ne-eqb}
 use denote.Triple.Both.{Both}
 use lib.Dec.{eqb}

@@ -1,10 +1,10 @@
 -- Contours as they stand in the file into rows. Definitions only.
 use Prim.Native.Nat.{ℕ, zero, suc, _+_, _-_, _/_, _%_}
 use mathlib.Core.Bool.{Bool, true, false, not}
-use mathlib.Core.List.{List, [], _∷_}
+use mathlib.Core.List.{List}
 use lib.Dec.{eqb, ltb}
 use lib.IntN.{ℤ, pos}
-use lib.ListN.{length, getD, set, replicate}
+use lib.ListN.{getD, set, replicate}
 use Rattle.lines.specs.Line.{negative}
 use Rattle.gliftext.specs.Pick.{pick, both, more, sum}
 use Rattle.glif.specs.Outline.{nowhere}

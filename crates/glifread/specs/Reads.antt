@@ -1,6 +1,5 @@
 -- The numbers of refusals, and what reading answers and leaves. Definitions only.
 use Prim.Native.Nat.{ℕ, _%_}
-use mathlib.Core.Bool.{Bool}
 use mathlib.Core.List.{List}
 use lib.Dec.{eqb, ltb}
 use lib.ListN.{length, replicate}

@@ -1,6 +1,5 @@
 -- Files by the definition, computed: what is read of them. Assumes nothing.
 use Prim.Native.Nat.{ℕ}
-use mathlib.Core.Bool.{true, false}
 use mathlib.Core.List.{List, [], _∷_}
 use mathlib.Core.Path.{_≡_, refl}
 use Rattle.gliftext.specs.Pick.{pick, more, sum}
@@ -13,7 +12,7 @@ use Rattle.glif.specs.Names.{alike, sameName, seenTo, repeated, unclosed, wrong
 use Rattle.glif.specs.Outline.{isNumber, isFar, offsetOf, known, cubicOf, begun, ended}
 use Rattle.glif.specs.Outline.{wrongPoint, withPoint, pointMet, contourMet, contourLeft, summed, markOf, keptPoint}
 use Rattle.glif.specs.Scan.{turned, scanned, numberOf, foundOf, judgedOf}
-use lib.IntN.{ℤ, pos, negsuc}
+use lib.IntN.{pos, negsuc}
 use Rattle.glifread.specs.Enter.{isOff, isFirst, middleOf, signedOf, flagOf, endOf, rows, putAt}
 use Rattle.glifread.specs.Enter.{enterOne, enterTo, seekFrom, enterContour, enterNext, enterUpTo, Filled, filled, enterAll}
 use Rattle.glifread.specs.Reads.{Rooms, rooms, refusal, numbered, reportOf, answerBy, entersBy}

@@ -5,7 +5,6 @@ use glif::Found;
 use glif::judge;
 use gliftext::pick;
 ghost use mathlib.Core.Path.{_≡_};
-ghost use lib.ListN.{length};
 ghost use Rattle.rows.specs.Lent.{before};
 ghost use Rattle.glifread.specs.Reads.{refusal, reportOf, numbered};
 ghost use Rattle.glifread.specs.Entry.{lent, Promise};

@@ -1,14 +1,12 @@
 -- What is written of a coordinate and of a type is read back as that. Assumes nothing.
-use Prim.Native.Nat.{ℕ, zero, suc, _+_, _-_, _*_, _/_, _%_, _≤_, _<_}
+use Prim.Native.Nat.{ℕ, zero, suc, _+_, _-_, _*_, _/_, _%_, _<_}
 use native.Mathlib.Omega.{arith}
 use mathlib.Core.Bool.{Bool, true, false}
 use mathlib.Core.List.{List, [], _∷_, _++_}
 use mathlib.Core.Path.{_≡_, refl, sym, ap, subst, _∙_}
 use borrow.Author.Tests.{lt-ltb, le-ltb, le-leb, ne-eqb, ltb-true, ltb-false}
-use lib.Dec.{eqb, ltb, leb}
-use lib.IntN.{ℤ, pos, negsuc}
-use lib.Signed.{mag}
-use Rattle.lines.specs.Line.{negative}
+use lib.Dec.{ltb}
+use lib.IntN.{pos, negsuc}
 use Rattle.lines.specs.Text.{lastAfter, decimalIn, decimalOf}
 use Rattle.lines.specs.Text as Text
 use Rattle.gliftext.specs.Pick.{pick, sum}

@@ -12,7 +12,6 @@ use Rattle.gliftext.specs.Pick.{pick}
 use Rattle.glif.specs.Scan.{Judged, judged}
 use Rattle.glif.specs.declared.scan.Found.{Found}
 use Rattle.glyf.specs.Layout.{Outcome, done, refused, refuse}
-use Rattle.glyphs.specs.Glyphs.{andThen}
 use Rattle.edition.specs.Edition as Edition
 use Rattle.settings.specs.declared.Settings.{Settings}
 use Rattle.glifread.specs.Enter.{noPlace, Filled, filled, rows}
@@ -20,7 +19,7 @@ use Rattle.glifread.specs.Reads.{Kept, kept, rooms, roomsOf, refusal, reportOf,
 use Rattle.glifread.specs.Reads as Reads
 use Rattle.glifread.specs.Entry.{judgedIn, Promise}
 use Rattle.glifread.specs.declared.read.GlifReadReport.{GlifReadReport}
-use Rattle.glifwrite.specs.Writes.{Given, given}
+use Rattle.glifwrite.specs.Writes.{GivenRows, given}
 use Rattle.glifwrite.specs.declared.write.GlifWriteReport.{GlifWriteReport}
 use Rattle.glifs.specs.Glifs.{Rooms, zeroRows, foundBy, readOf, refusedBy, renewedOf, crunchGlifOf}
 use Rattle.glifs.specs.Entry.{zeroKept}
@@ -123,7 +122,7 @@ module _ (bytes : List ℕ) (ends xs ys flags : ℕ) (marks : List (List ℕ)) {
   found : readOf n bytes ≡ foundBy r (filled ends₂ (rows xs₂ ys₂ fs₂))
   found = λ i. foundBy (sym answer i) (sym enters i)
 
-  abbrev first : Given
+  abbrev first : GivenRows
   first = given (take (r .contours) ends₂) (take (r .points) xs₂) (take (r .points) ys₂) (take (r .points) fs₂)
 
   pub was-read : r .number ≡ 0 → readOf n bytes ≡ done first
@@ -143,13 +142,13 @@ module _ (n : Rooms) (settings : Settings) (bytes out : List ℕ) where
   none-read e h = rw e (record { answer = h; left = refl })
 
 -- the rows that were read into are as long as they were
-pub all-read : (settings : Settings) (bytes out : List ℕ) (work : Edition.Rooms) (ends xs ys flags marks points : ℕ) {g : Given} →
+pub all-read : (settings : Settings) (bytes out : List ℕ) (work : Edition.Rooms) (ends xs ys flags marks points : ℕ) {g : GivenRows} →
     readOf (rooms ends xs ys flags marks) bytes ≡ done g → {x y f : ℕ} → x ≡ xs → y ≡ ys → f ≡ flags → {out′ : List ℕ} {a : GlifWriteReport} →
     Writes bytes out out′ (renewedOf work settings x y f points g) a →
     Writes bytes out out′ (crunchGlifOf (record { out = length out; read = rooms ends xs ys flags marks; work = work; points = points }) settings bytes) a
 unfolding crunchGlifOf
 all-read settings bytes out work ends xs ys flags marks points {g} e hx hy hf {out′} {a} w =
-    rw e (subst (λ (o : Outcome Given). Writes bytes out out′ o a) (λ i. renewedOf work settings (hx i) (hy i) (hf i) points g) w)
+    rw e (subst (λ (o : Outcome GivenRows). Writes bytes out out′ o a) (λ i. renewedOf work settings (hx i) (hy i) (hf i) points g) w)
 
 -- ---- `crunch_glif`
 

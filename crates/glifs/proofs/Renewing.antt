@@ -1,5 +1,5 @@
 -- Contours that were read are crunched, and written into the file. Assumes nothing.
-use Prim.Native.Nat.{ℕ, _≤_}
+use Prim.Native.Nat.{ℕ}
 use mathlib.Core.Bool.{Bool, true, false, not, _&&_, false≢true}
 use mathlib.Core.List.{List}
 use mathlib.Core.Path.{_≡_, refl, sym, ap, subst, _∙_}
@@ -15,7 +15,7 @@ use Rattle.glyf.specs.Layout.{Outcome, done, refused, refuse, countOf, rising}
 use Rattle.glyphs.specs.Glyphs.{andThen, contoursFrom, leastOf, crunchRows}
 use Rattle.glyphs.specs.Stands.{Held}
 use Rattle.glyphs.proofs.Writing.{Anew}
-use Rattle.glifwrite.specs.Writes.{Given, given}
+use Rattle.glifwrite.specs.Writes.{GivenRows, given}
 use Rattle.glifwrite.specs.Entry as Written
 use Rattle.glifwrite.specs.declared.write.GlifWriteReport.{GlifWriteReport}
 use Rattle.glifs.specs.Glifs.{belong, givenOf, renewedOf, refusedBy}
@@ -52,7 +52,7 @@ module _ (ends : List ℕ) (xs ys : List ℤ) (fs : List ℕ) {contours count : 
           crunchRows work settings (leastOf (length xs) (length ys) (length fs) np)
           (contoursFrom 0 (take contours ends) (take count xs) (take count ys) (take count fs))
 
-      abbrev renewed : Outcome Given
+      abbrev renewed : Outcome GivenRows
       renewed =
           renewedOf work settings (length xs) (length ys) (length fs) np (given (take contours ends) (take count xs) (take count ys) (take count fs))
 
@@ -63,14 +63,14 @@ module _ (ends : List ℕ) (xs ys : List ℤ) (fs : List ℕ) {contours count : 
 
       module _ (bytes out : List ℕ) where
         pub not-held : not t ≡ true → {r : GlifWriteReport} → r ≡ refusedBy 1 → Writes bytes out out renewed r
-        not-held h {r} is = subst (λ (o : Outcome Given). Writes bytes out out o r) (sym (tested h)) (record { answer = is; left = refl })
+        not-held h {r} is = subst (λ (o : Outcome GivenRows). Writes bytes out out o r) (sym (tested h)) (record { answer = is; left = refl })
 
         module _ (h : not t ≡ false) where
           after : {o : Outcome (List Points)} → crunched ≡ o → renewed ≡ andThen o (λ cs. done (givenOf cs))
           after c = tested h ∙ ap (λ (o : Outcome (List Points)). andThen o (λ cs. done (givenOf cs))) c
 
           pub not-crunched : {k : ℕ} → crunched ≡ refused k → {r : GlifWriteReport} → r ≡ refusedBy k → Writes bytes out out renewed r
-          not-crunched c {r} is = subst (λ (o : Outcome Given). Writes bytes out out o r) (sym (after c)) (record { answer = is; left = refl })
+          not-crunched c {r} is = subst (λ (o : Outcome GivenRows). Writes bytes out out o r) (sym (after c)) (record { answer = is; left = refl })
 
           pub all-crunched : {ends′ : List ℕ} {n : ℕ} {xs′ ys′ : List ℤ} {fs′ : List ℕ} → Anew crunched ends′ n xs′ ys′ fs′ → {out′ : List ℕ} {r : GlifWriteReport} →
               Written.Promise bytes (given ends′ (take n xs′) (take n ys′) (take n fs′)) (record { entry = out; exit = out′ }) r → Writes bytes out out′ renewed r
@@ -78,4 +78,4 @@ module _ (ends : List ℕ) (xs ys : List ℤ) (fs : List ℕ) {contours count : 
               let q = a .placed in
               let is : renewed ≡ done (given ends′ (take n xs′) (take n ys′) (take n fs′)) =
               after (a .is) ∙ (λ i. done (given (sym (a .ends-are) i) (sym (q .are-xs) i) (sym (q .are-ys) i) (sym (q .are-flags) i))) in
-              subst (λ (o : Outcome Given). Writes bytes out out′ o r) (sym is) (record { answer = p .answer; left = p .left })
+              subst (λ (o : Outcome GivenRows). Writes bytes out out′ o r) (sym is) (record { answer = p .answer; left = p .left })

@@ -12,15 +12,14 @@ use lib.Seq.{length-take-le}
 use Rattle.gliftext.specs.Pick.{pick}
 use Rattle.gliftext.specs.Utf8.{isUtf8}
 use Rattle.glif.specs.Scan.{Pass, pass, Judged, judged, foundOf}
-use Rattle.glifread.specs.declared.enter.Walk.{Walk}
 use Rattle.glif.proofs.Stems.{pointsIn}
 use Rattle.glif.specs.declared.scan.Scan.{Scan}
 use Rattle.glif.specs.declared.scan.Found.{Found}
 use Rattle.glyf.specs.Layout.{done, refuse, countOf, rising}
-use Rattle.glifread.specs.Enter.{noPlace, Rows, rows, filled, Entering, entering, enterUpTo, atEnd, enterAll}
+use Rattle.glifread.specs.Enter.{noPlace, Rows, rows, filled, entering, enterUpTo, atEnd, enterAll}
 use Rattle.glifread.specs.Reads.{refusal, numbered, reportOf, Rooms, rooms, refusalIn, answerBy, entersBy}
 use Rattle.glifread.specs.Entry.{judgedIn}
-use Rattle.glifwrite.specs.Writes.{Given, given, scanIn}
+use Rattle.glifwrite.specs.Writes.{GivenRows, given, scanIn}
 use Rattle.glifs.specs.Separately.{ReadBelongs}
 use Rattle.glifs.specs.Glifs.{zeroIn, firstOf, foundBy, readOf, belong}
 use Rattle.glifs.proofs.Written.{Accepted, accepted, below, file-small, judged-by, found-number}
@@ -160,7 +159,7 @@ module _ (bytes : List ℕ) (e x y f m : ℕ) where
         both-and (rising ends) (eqb (length xs) (countOf ends)) rise (eq-eqb (length xs) (countOf ends) (taken .1 ∙ sym count))
 
   -- what was read was not refused
-  none-refused : (g : Given) → readOf rs bytes ≡ done g → refusalIn found rs ≡ 0
+  none-refused : (g : GivenRows) → readOf rs bytes ≡ done g → refusalIn found rs ≡ 0
   unfolding reportOf numbered refusal
   none-refused g read =
       let k = refusalIn found rs in

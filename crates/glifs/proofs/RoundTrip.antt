@@ -26,12 +26,12 @@ use Rattle.glifread.specs.Reads.{refusal, numbered, reportOf, Rooms, rooms, ref
 use Rattle.glifread.specs.Entry.{judgedIn}
 use Rattle.glifwrite.specs.Puts.{Putting, put, putByte}
 use Rattle.glifwrite.specs.Contours.{isOn, endAt, startOf, emptyTo, someEmpty, even, rowsRefused}
-use Rattle.glifwrite.specs.Writes.{Given, given, noPoints, readTo, scanIn, foundIn, placeIn, rowIn, fileIn, refusedBy, sizeOf, numberOf, numberIn, writeAll}
+use Rattle.glifwrite.specs.Writes.{GivenRows, given, noPoints, readTo, scanIn, foundIn, placeIn, rowIn, fileIn, refusedBy, sizeOf, numberOf, numberIn, writeAll}
 use Rattle.glifwrite.specs.Writes.{leftIn, answerOf}
 use Rattle.glifwrite.specs.Writes as Writes
 use Rattle.glifwrite.specs.Worked as Worked
 use Rattle.glifwrite.specs.declared.write.GlifWriteReport.{GlifWriteReport}
-use Rattle.glifwrite.specs.Outside.{piecesOf, putPieces}
+use Rattle.glifwrite.specs.Outside.{partsOf, putParts}
 use Rattle.glifwrite.proofs.Outside.{outside-is-kept}
 use Rattle.gliftext.proofs.Picks.{both-true, both-is, or-left, or-false}
 use Rattle.glifwrite.specs.Texts.{putText, written, Small}
@@ -182,7 +182,7 @@ sound-of xs ys fs from end some inside fine =
 -- ---- the whole
 
 module _ (bs ends : List ℕ) (xs ys : List ℤ) (fs out : List ℕ) (few : length bs ≤ most) (room : length out < most) where
-  abbrev g : Given
+  abbrev g : GivenRows
   g = given ends xs ys fs
 
   module _ (answered : numberIn bs g (length out) ≡ 0) (through : LetThrough ends xs ys fs) where
@@ -209,7 +209,7 @@ module _ (bs ends : List ℕ) (xs ys : List ℤ) (fs out : List ℕ) (few : leng
     abbrev ws : List ℕ
     ws = written bs g
 
-    puts : (q : Putting) → putPieces bs g (piecesOf bs (length bs)) q ≡ putText ws q
+    puts : (q : Putting) → putParts bs g (partsOf bs (length bs)) q ≡ putText ws q
     puts = puts-written bs ends xs ys fs few (belongs .number) (belongs .many) (through .small-x) (through .small-y) sound short [] (omega arith)
 
     all-put : (row : List ℕ) → writeAll bs g (length bs) row ≡ putText ws (put 0 row)

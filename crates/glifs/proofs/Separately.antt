@@ -3,7 +3,7 @@ use Prim.Native.Nat.{ℕ}
 use native.Mathlib.Omega.{arith}
 use mathlib.Core.Bool.{Bool, true, false, not}
 use mathlib.Core.List.{List}
-use mathlib.Core.Path.{_≡_, refl, sym, ap, _∙_}
+use mathlib.Core.Path.{_≡_, refl, sym}
 use lib.Dec.{ltb}
 use lib.IntN.{ℤ}
 use lib.ListN.{length}
@@ -18,16 +18,16 @@ use Rattle.glyphs.specs.Separately.{FirstRefused}
 use Rattle.glyphs.proofs.Separately.{each, first}
 use Rattle.glifread.specs.Reads.{rooms}
 use Rattle.glifread.specs.Reads as Reads
-use Rattle.glifwrite.specs.Writes.{Given, given}
+use Rattle.glifwrite.specs.Writes.{GivenRows, given}
 use Rattle.glifs.proofs.Rising.{read-belongs}
 use Rattle.glifs.specs.Glifs.{Rooms, readOf, belong, givenOf, renewedIn, crunchGlifOf}
 use Rattle.glifs.specs.Separately.{contoursOf, pointRoom, ContourByContour, WrittenByContours, RefusedByFirst}
 
-module _ (r : Rooms) (settings : Settings) (bytes : List ℕ) (g : Given) where
-  abbrev eachOf : Given → Outcome (List Points)
+module _ (r : Rooms) (settings : Settings) (bytes : List ℕ) (g : GivenRows) where
+  abbrev eachOf : GivenRows → Outcome (List Points)
   eachOf old = crunchEach (r .work) settings (pointRoom (r .read) (r .points)) (contoursOf old)
 
-  module _ (old : Given) (read : readOf (r .read) bytes ≡ done old) where
+  module _ (old : GivenRows) (read : readOf (r .read) bytes ≡ done old) where
     tested : (news : List Points) → eachOf old ≡ done news → (unfit many : Bool) →
         andThen (refuse 16 unfit (refuse 14 many (done news))) (λ cs. done (givenOf cs)) ≡ done g → ContourByContour r settings bytes g
     tested news is true many e = absurd (let z : _≡_ {A = ℕ} 0 1 = cc in omega arith)
@@ -45,7 +45,7 @@ module _ (r : Rooms) (settings : Settings) (bytes : List ℕ) (g : Given) where
     crunched (refused k) is e = absurd (let z : _≡_ {A = ℕ} 0 1 = cc in omega arith)
     crunched (done news) is e = tested news is (not (settingsFine settings)) (ltb 65536 (length (together news))) e
 
-  belonging : (old : Given) → readOf (r .read) bytes ≡ done old → (b : Bool) →
+  belonging : (old : GivenRows) → readOf (r .read) bytes ≡ done old → (b : Bool) →
       refuse 1 b (andThen (andThen (eachOf old) (numbered settings)) (λ cs. done (givenOf cs))) ≡ done g → ContourByContour r settings bytes g
   belonging old read true e = absurd (let z : _≡_ {A = ℕ} 0 1 = cc in omega arith)
   belonging old read false e = crunched old read (eachOf old) refl e
@@ -54,13 +54,13 @@ module _ (out : ℕ) (work : Edition.Rooms) (points : ℕ) (settings : Settings)
   abbrev lent : Reads.Rooms → Rooms
   lent n = record { out = out; read = n; work = work; points = points }
 
-  by-read : (ends xs ys flags marks : ℕ) (g : Given) (o : Outcome Given) → readOf (rooms ends xs ys flags marks) bytes ≡ o →
+  by-read : (ends xs ys flags marks : ℕ) (g : GivenRows) (o : Outcome GivenRows) → readOf (rooms ends xs ys flags marks) bytes ≡ o →
       andThen o (renewedIn (rooms ends xs ys flags marks) work settings points) ≡ done g → ContourByContour (lent (rooms ends xs ys flags marks)) settings bytes g
   by-read ends xs ys flags marks g (refused k) is e = absurd (let z : _≡_ {A = ℕ} 0 1 = cc in omega arith)
   by-read ends xs ys flags marks g (done (given es us vs fs)) is e =
       belonging (lent (rooms ends xs ys flags marks)) settings bytes g (given es us vs fs) is (not (belong es (length us))) e
 
-  by-rooms : (n : Reads.Rooms) (g : Given) → crunchGlifOf (lent n) settings bytes ≡ done g → ContourByContour (lent n) settings bytes g
+  by-rooms : (n : Reads.Rooms) (g : GivenRows) → crunchGlifOf (lent n) settings bytes ≡ done g → ContourByContour (lent n) settings bytes g
   unfolding crunchGlifOf
   by-rooms (rooms ends xs ys flags marks) g e = by-read ends xs ys flags marks g (readOf (rooms ends xs ys flags marks) bytes) refl e
 

@@ -18,7 +18,7 @@ use Rattle.glif.specs.Scan.{Pass, pass, scanned}
 use Rattle.glif.specs.declared.tree.Tree.{Tree}
 use Rattle.glif.specs.declared.outline.Sum.{Sum}
 use Rattle.glifwrite.specs.Writes.{readTo, scanIn, noPoints}
-use Rattle.glifwrite.specs.Outside.{Piece, own, contour, track, trackAs, trackOn, trackTo}
+use Rattle.glifwrite.specs.Outside.{Part, own, contour, track, trackAs, trackOn, trackTo}
 use Rattle.gliftext.proofs.Picks.{plain-more, both-is, both-left, both-right}
 use Rattle.glif.proofs.Stems.{Abs, Fed, fed, wrongIn, acts, moved, step, absOf, nameAt, namesIn, abs-turned, long-names, long-points}
 use Rattle.gliftext.proofs.Live.{Facts, facts}
@@ -117,34 +117,34 @@ module _ (bs : List ℕ) where
   abbrev pub closes : ℕ → Bool
   closes i = both (eqb (at i .tree .level) 3) (eqb (at (suc i) .tree .level) 2)
 
-  pub track-next : (i from tag k : ℕ) (ps : List Piece) → trackTo bs i ≡ track from tag k ps →
+  pub track-next : (i from tag k : ℕ) (ps : List Part) → trackTo bs i ≡ track from tag k ps →
       trackTo bs (suc i) ≡ trackAs i (pick (eqb (at (suc i) .text .state) 15) i tag) (opens i) (closes i) (track from tag k ps)
   unfolding trackTo trackOn
   track-next i from tag k ps e = rw (e, tree-at i, tree-at (suc i), state-at (suc i))
 
 -- pieces of the file that end with a byte that is no name's
-pub data Good (bs : List ℕ) : List Piece → Type 0 where
+pub data Good (bs : List ℕ) : List Part → Type 0 where
   good-nil : Good bs []
-  good-own : {from end : ℕ} {ps : List Piece} → from < end → end ≤ length bs → isName (getD bs (end - 1) 0) ≡ false → Good bs ps → Good bs (own from end ∷ ps)
-  good-contour : {k : ℕ} {ps : List Piece} → Good bs ps → Good bs (contour k ∷ ps)
+  good-own : {from end : ℕ} {ps : List Part} → from < end → end ≤ length bs → isName (getD bs (end - 1) 0) ≡ false → Good bs ps → Good bs (own from end ∷ ps)
+  good-contour : {k : ℕ} {ps : List Part} → Good bs ps → Good bs (contour k ∷ ps)
 
-pub good-append : {bs : List ℕ} {ps qs : List Piece} → Good bs ps → Good bs qs → Good bs (ps ++ qs)
+pub good-append : {bs : List ℕ} {ps qs : List Part} → Good bs ps → Good bs qs → Good bs (ps ++ qs)
 good-append good-nil h = h
 good-append (good-own a b c g) h = good-own a b c (good-append g h)
 good-append (good-contour g) h = good-contour (good-append g h)
 
 -- the pieces begin where the file does
-pub data Begun : List Piece → Type 0 where
-  begun-by : {end : ℕ} {ps : List Piece} → Begun (own 0 end ∷ ps)
+pub data Begun : List Part → Type 0 where
+  begun-by : {end : ℕ} {ps : List Part} → Begun (own 0 end ∷ ps)
 
-pub data Front : ℕ → List Piece → Type 0 where
+pub data Front : ℕ → List Part → Type 0 where
   front-none : Front 0 []
-  front-some : {from : ℕ} {ps : List Piece} → Begun ps → Front from ps
+  front-some : {from : ℕ} {ps : List Part} → Begun ps → Front from ps
 
-begun-append : {ps : List Piece} (qs : List Piece) → Begun ps → Begun (ps ++ qs)
+begun-append : {ps : List Part} (qs : List Part) → Begun ps → Begun (ps ++ qs)
 begun-append qs begun-by = begun-by
 
-front-opens : {from : ℕ} {ps : List Piece} (end : ℕ) (qs : List Piece) → Front from ps → Begun (ps ++ own from end ∷ qs)
+front-opens : {from : ℕ} {ps : List Part} (end : ℕ) (qs : List Part) → Front from ps → Begun (ps ++ own from end ∷ qs)
 front-opens end qs front-none = begun-by
 front-opens {from} end qs (front-some b) = begun-append (own from end ∷ qs) b
 
@@ -157,7 +157,7 @@ pub record Tracked (bs : List ℕ) (i : ℕ) : Type 0 where
   pub from : ℕ
   pub tag : ℕ
   pub k : ℕ
-  pub ps : List Piece
+  pub ps : List Part
   pub is : trackTo bs i ≡ track from tag k ps
   pub fits : at bs i .tree .level ≤ at bs i .tree .depth
   pub shallow : at bs i .tree .depth ≤ 256

@@ -21,8 +21,8 @@ use Rattle.glif.specs.declared.tree.Tree.{Tree}
 use Rattle.glif.specs.declared.outline.Sum.{Sum}
 use Rattle.glifwrite.specs.Puts.{Putting}
 use Rattle.glifwrite.specs.Contours.{isOn, endAt, startOf}
-use Rattle.glifwrite.specs.Writes.{Given, given}
-use Rattle.glifwrite.specs.Outside.{Piece, own, contour, putPieces, Track, track, trackAs, trackOn, trackTo}
+use Rattle.glifwrite.specs.Writes.{GivenRows, given}
+use Rattle.glifwrite.specs.Outside.{Part, own, contour, putParts, Track, track, trackAs, trackOn, trackTo}
 use Rattle.gliftext.proofs.Picks.{plain-more, both-true, in-left, in-right, or-right, or-left, or-false}
 use Rattle.glifwrite.specs.Texts.{putText, contourText, Small, piecesText}
 use Rattle.glifwrite.proofs.Texts.{text-append, range-text, contour-text}
@@ -42,11 +42,11 @@ use Rattle.glifs.proofs.Flags.{Flags, fine-at}
 -- ---- pieces as texts
 
 -- and as they are read
-abbrev pub pieceFed : List ℕ → Given → Piece → List Fed
+abbrev pub pieceFed : List ℕ → GivenRows → Part → List Fed
 pieceFed bs g (own from end) = take (end - from) (drop from (fedOf bs))
 pieceFed bs (given ends xs ys fs) (contour k) = fedOf (contourText xs ys fs (startOf ends k) (endAt ends k) (endAt ends k - startOf ends k))
 
-unfoldable pub piecesFed : List ℕ → Given → List Piece → List Fed
+unfoldable pub piecesFed : List ℕ → GivenRows → List Part → List Fed
 piecesFed bs g [] = []
 piecesFed bs g (p ∷ ps) = pieceFed bs g p ++ piecesFed bs g ps
 
@@ -61,10 +61,10 @@ own-fed bs from end v h k e =
     rw (many, fed-drop bs from) (fed-cut (drop from bs) (end - 1 - from) v room byte)
 
 module _ (bs ends : List ℕ) (xs ys : List ℤ) (fs : List ℕ) where
-  abbrev g : Given
+  abbrev g : GivenRows
   g = given ends xs ys fs
 
-  pub good-fed : {ps : List Piece} → Good bs ps → (v : List ℕ) → fedOf (piecesText bs g ps ++ v) ≡ piecesFed bs g ps ++ fedOf v
+  pub good-fed : {ps : List Part} → Good bs ps → (v : List ℕ) → fedOf (piecesText bs g ps ++ v) ≡ piecesFed bs g ps ++ fedOf v
   unfolding piecesText piecesFed
   good-fed good-nil v = refl
   good-fed (good-own {from} {end} {ps} a b c more) v =
@@ -79,21 +79,21 @@ module _ (bs ends : List ℕ) (xs ys : List ℤ) (fs : List ℕ) where
       ∙ ap (λ (l : List Fed). fedOf text ++ l) (good-fed more v)
       ∙ sym (append-assoc (fedOf text) (piecesFed bs g ps) (fedOf v))
 
-  pub good-put : {ps : List Piece} → Good bs ps → length bs ≤ most → Small xs → Small ys → ((k : ℕ) → endAt ends k ≤ 65536) → ((k : ℕ) → startOf ends k ≤ 65536) →
-      (q : Putting) → putPieces bs g ps q ≡ putText (piecesText bs g ps) q
-  unfolding piecesText putPieces putText
+  pub good-put : {ps : List Part} → Good bs ps → length bs ≤ most → Small xs → Small ys → ((k : ℕ) → endAt ends k ≤ 65536) → ((k : ℕ) → startOf ends k ≤ 65536) →
+      (q : Putting) → putParts bs g ps q ≡ putText (piecesText bs g ps) q
+  unfolding piecesText putParts putText
   good-put good-nil few sx sy short short′ q = refl
   good-put (good-own {from} {end} {ps} a b c more) few sx sy short short′ q =
-      ap (putPieces bs g ps) (range-text bs from (end - from) q (omega arith) (omega arith))
+      ap (putParts bs g ps) (range-text bs from (end - from) q (omega arith) (omega arith))
       ∙ good-put more few sx sy short short′ (putText (take (end - from) (drop from bs)) q)
       ∙ sym (text-append (take (end - from) (drop from bs)) (piecesText bs g ps) q)
   good-put (good-contour {k} {ps} more) few sx sy short short′ q =
       let text = contourText xs ys fs (startOf ends k) (endAt ends k) (endAt ends k - startOf ends k) in
-      ap (putPieces bs g ps) (contour-text xs ys fs (startOf ends k) (endAt ends k) (endAt ends k - startOf ends k) q sx sy (omega (arith, short k, short′ k)))
+      ap (putParts bs g ps) (contour-text xs ys fs (startOf ends k) (endAt ends k) (endAt ends k - startOf ends k) q sx sy (omega (arith, short k, short′ k)))
       ∙ good-put more few sx sy short short′ (putText text q)
       ∙ sym (text-append text (piecesText bs g ps) q)
 
-  fed-append : (ps qs : List Piece) → piecesFed bs g (ps ++ qs) ≡ piecesFed bs g ps ++ piecesFed bs g qs
+  fed-append : (ps qs : List Part) → piecesFed bs g (ps ++ qs) ≡ piecesFed bs g ps ++ piecesFed bs g qs
   unfolding piecesFed
   fed-append [] qs = refl
   fed-append (p ∷ ps) qs = ap (λ (l : List Fed). pieceFed bs g p ++ l) (fed-append ps qs) ∙ sym (append-assoc (pieceFed bs g p) (piecesFed bs g ps) (piecesFed bs g qs))
@@ -156,7 +156,7 @@ pub record Counted (ends : List ℕ) (k : ℕ) (s : Sum) : Type 0 where
   pub far : s .far ≡ false
   pub bare : s .bare ≡ false
 
-abbrev pub runOf : List ℕ → Given → Abs → List Piece → Abs
+abbrev pub runOf : List ℕ → GivenRows → Abs → List Part → Abs
 runOf bs g w₀ ps = steps (nameAt bs 0) (piecesFed bs g ps) w₀
 
 -- the bytes from one place to another, as they are read
@@ -164,7 +164,7 @@ abbrev pub part : List ℕ → ℕ → ℕ → List Fed
 part bs from i = take (i - from) (drop from (fedOf bs))
 
 -- outside of contours
-pub record Outer (bs ends : List ℕ) (xs ys : List ℤ) (fs : List ℕ) (w₀ : Abs) (i from k : ℕ) (ps : List Piece) : Type 0 where
+pub record Outer (bs ends : List ℕ) (xs ys : List ℤ) (fs : List ℕ) (w₀ : Abs) (i from k : ℕ) (ps : List Part) : Type 0 where
   pub like : Like (nameAt bs 0) (at bs i) (steps (nameAt bs 0) (part bs from i) (runOf bs (given ends xs ys fs) w₀ ps))
   pub counted : Counted ends k (steps (nameAt bs 0) (part bs from i) (runOf bs (given ends xs ys fs) w₀ ps) .sum)
   pub row : steps (nameAt bs 0) (part bs from i) (runOf bs (given ends xs ys fs) w₀ ps) .points ≡ rowTo bs ends xs ys fs (w₀ .points) k
@@ -481,7 +481,7 @@ module _ (bs ends : List ℕ) (xs ys : List ℤ) (fs : List ℕ) (few : length b
         contour-read z xs ys fs sx sy (t .k) (startOf ends (t .k)) (endAt ends (t .k)) sound (omega arith) (endAt ends (t .k) - startOf ends (t .k))
         (omega (arith, sound .some)) v′ ready sum-opens
 
-    abbrev ps′ : List Piece
+    abbrev ps′ : List Part
     ps′ = t .ps ++ own (t .from) (more i) ∷ contour (t .k) ∷ []
 
     run-opens : runOf bs (given ends xs ys fs) w₀ ps′ ≡ steps z (fedOf text) v′
@@ -549,7 +549,7 @@ module _ (bs ends : List ℕ) (xs ys : List ℤ) (fs : List ℕ) (few : length b
     low : n .c < most
     low = omega (arith, t .low, n .this)
 
-    closes-outer : {ps : List Piece} → w ≡ runOf bs (given ends xs ys fs) w₀ ps → Outer bs ends xs ys fs w₀ (suc i) (t .tag) (t .k) ps
+    closes-outer : {ps : List Part} → w ≡ runOf bs (given ends xs ys fs) w₀ ps → Outer bs ends xs ys fs w₀ (suc i) (t .tag) (t .k) ps
     closes-outer {ps} is =
         let run : step z (fedAt bs i) u ≡ steps z (part bs (t .tag) (suc i)) (runOf bs (given ends xs ys fs) w₀ ps) = run-closes ∙ ap (steps z (part bs (t .tag) (suc i))) is in
         record {

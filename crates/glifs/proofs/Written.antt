@@ -17,8 +17,8 @@ use Rattle.glif.specs.declared.scan.Found.{Found}
 use Rattle.glif.specs.declared.tree.Tree.{Tree}
 use Rattle.glif.specs.declared.outline.Sum.{Sum}
 use Rattle.glifwrite.specs.Contours.{endAt, startOf}
-use Rattle.glifwrite.specs.Writes.{Given, given, noPoints, readTo, scanIn, foundIn, fileIn}
-use Rattle.glifwrite.specs.Outside.{Piece, own, putPiece, putPieces, trackTo, closed, piecesOf}
+use Rattle.glifwrite.specs.Writes.{GivenRows, given, noPoints, readTo, scanIn, foundIn, fileIn}
+use Rattle.glifwrite.specs.Outside.{Part, own, putPart, putParts, trackTo, closed, partsOf}
 use Rattle.glifwrite.specs.Puts.{Putting}
 use Rattle.gliftext.proofs.Picks.{both-true, or-false}
 use Rattle.glifwrite.specs.Texts.{putText, Small, pieceText, piecesText, written}
@@ -200,17 +200,17 @@ start-stage bs ends xs ys fs ws row = record {
 
 -- ---- the text that is written
 
-text-pieces-append : (bs : List ℕ) (g : Given) (ps qs : List Piece) → piecesText bs g (ps ++ qs) ≡ piecesText bs g ps ++ piecesText bs g qs
+text-pieces-append : (bs : List ℕ) (g : GivenRows) (ps qs : List Part) → piecesText bs g (ps ++ qs) ≡ piecesText bs g ps ++ piecesText bs g qs
 unfolding piecesText
 text-pieces-append bs g [] qs = refl
 text-pieces-append bs g (p ∷ ps) qs =
     ap (λ (l : List ℕ). pieceText bs g p ++ l) (text-pieces-append bs g ps qs) ∙ sym (append-assoc (pieceText bs g p) (piecesText bs g ps) (piecesText bs g qs))
 
-module _ (bs : List ℕ) (g : Given) (t : Tracked bs (length bs)) where
+module _ (bs : List ℕ) (g : GivenRows) (t : Tracked bs (length bs)) where
   rest-all : take (length bs - t .from) (drop (t .from) bs) ≡ drop (t .from) bs
   rest-all = take-all (length bs - t .from) (drop (t .from) bs) (omega (arith, length-drop (t .from) bs))
 
-  pub pieces-are : piecesOf bs (length bs) ≡ t .ps ++ own (t .from) (length bs) ∷ []
+  pub pieces-are : partsOf bs (length bs) ≡ t .ps ++ own (t .from) (length bs) ∷ []
   pieces-are = ap (closed (length bs)) (t .is)
 
   pub written-is : written bs g ≡ piecesText bs g (t .ps) ++ drop (t .from) bs
@@ -225,7 +225,7 @@ module _ (bs : List ℕ) (g : Given) (t : Tracked bs (length bs)) where
       sym (fed-drop bs (t .from))
       ∙ sym (take-all (length bs - t .from) (drop (t .from) (fedOf bs)) (omega (arith, length-drop (t .from) (fedOf bs), fed-length bs)))
 
-begun-stem : (bs : List ℕ) (g : Given) {ps : List Piece} → Good bs ps → Begun ps → (v : List ℕ) → stem (piecesText bs g ps ++ v) ≡ stem bs
+begun-stem : (bs : List ℕ) (g : GivenRows) {ps : List Part} → Good bs ps → Begun ps → (v : List ℕ) → stem (piecesText bs g ps ++ v) ≡ stem bs
 unfolding piecesText
 begun-stem bs g (good-own {from} {end} {ps} a b c more) begun-by v =
     let many : end - 0 ≡ suc (end - 1) = omega arith in
@@ -233,22 +233,22 @@ begun-stem bs g (good-own {from} {end} {ps} a b c more) begun-by v =
     ∙ ap (λ (k : ℕ). stem (take k bs ++ (piecesText bs g ps ++ v))) many
     ∙ stem-cut bs (end - 1) (piecesText bs g ps ++ v) (omega arith) c
 
-front-stem : (bs : List ℕ) (g : Given) {from : ℕ} {ps : List Piece} → Good bs ps → Front from ps → stem (piecesText bs g ps ++ drop from bs) ≡ stem bs
+front-stem : (bs : List ℕ) (g : GivenRows) {from : ℕ} {ps : List Part} → Good bs ps → Front from ps → stem (piecesText bs g ps ++ drop from bs) ≡ stem bs
 unfolding piecesText
 front-stem bs g good front-none = refl
 front-stem bs g {from} good (front-some b) = begun-stem bs g good b (drop from bs)
 
-put-append : (bs : List ℕ) (g : Given) (ps rs : List Piece) (q : Putting) → putPieces bs g (ps ++ rs) q ≡ putPieces bs g rs (putPieces bs g ps q)
-unfolding putPieces
+put-append : (bs : List ℕ) (g : GivenRows) (ps rs : List Part) (q : Putting) → putParts bs g (ps ++ rs) q ≡ putParts bs g rs (putParts bs g ps q)
+unfolding putParts
 put-append bs g [] rs q = refl
-put-append bs g (p ∷ ps) rs q = put-append bs g ps rs (putPiece bs g p q)
+put-append bs g (p ∷ ps) rs q = put-append bs g ps rs (putPart bs g p q)
 
 -- ---- what is read of it
 
 module _ (bs ends : List ℕ) (xs ys : List ℤ) (fs : List ℕ) (few : length bs ≤ most) (passes : fileIn bs .number ≡ 0) (many : fileIn bs .contours ≡ length ends)
     (sx : Small xs) (sy : Small ys) (sound : (k : ℕ) → k < length ends → Sound fs (startOf ends k) (endAt ends k)) (short : (k : ℕ) → endAt ends k ≤ 65536)
     (row : List (List ℕ)) (row-few : length row ≤ nowhere) where
-  abbrev g : Given
+  abbrev g : GivenRows
   g = given ends xs ys fs
 
   abbrev n : ℕ
@@ -383,12 +383,12 @@ module _ (bs ends : List ℕ) (xs ys : List ℤ) (fs : List ℕ) (few : length b
   start-short zero = omega (arith, start-first ends)
   start-short (suc k) = omega (arith, start-next ends k, short k)
 
-  pub puts-written : (q : Putting) → putPieces bs g (piecesOf bs n) q ≡ putText ws q
-  unfolding putPieces
+  pub puts-written : (q : Putting) → putParts bs g (partsOf bs n) q ≡ putText ws q
+  unfolding putParts
   puts-written q =
-      ap (λ (l : List Piece). putPieces bs g l q) (pieces-are bs g t)
+      ap (λ (l : List Part). putParts bs g l q) (pieces-are bs g t)
       ∙ put-append bs g (t .ps) (own (t .from) n ∷ []) q
-      ∙ range-text bs (t .from) (n - t .from) (putPieces bs g (t .ps) q) (omega (arith, t .in-from)) (omega (arith, t .in-from))
+      ∙ range-text bs (t .from) (n - t .from) (putParts bs g (t .ps) q) (omega (arith, t .in-from)) (omega (arith, t .in-from))
       ∙ ap (putText (take (n - t .from) (drop (t .from) bs))) (good-put bs ends xs ys fs (t .good) few sx sy short start-short q)
       ∙ sym (text-append (piecesText bs g (t .ps)) (take (n - t .from) (drop (t .from) bs)) q)
       ∙ ap (λ (l : List ℕ). putText (piecesText bs g (t .ps) ++ l) q) (rest-all bs g t)

@@ -20,7 +20,7 @@ use Rattle.glifread.specs.Enter.{signedOf}
 use Rattle.glifread.specs.Reads.{rooms}
 use Rattle.glifread.specs.Reads as Reads
 use Rattle.glifwrite.specs.Contours.{endAt, startOf}
-use Rattle.glifwrite.specs.Writes.{Given, given, answerOf, leftIn}
+use Rattle.glifwrite.specs.Writes.{GivenRows, given, answerOf, leftIn}
 use Rattle.glifwrite.specs.Texts.{Small}
 use Rattle.glifs.specs.Glifs.{readOf}
 use Rattle.glifs.specs.Stands.{InRows}
@@ -73,7 +73,7 @@ abbrev pub suffice : Reads.Rooms → ℕ → ℕ → Type 0
 suffice (rooms ends xs ys flags marks) contours count = Suffice ends xs ys flags marks contours count
 
 -- the file at the front of the row that `write_glif` left
-abbrev pub leftAtFront : List ℕ → Given → List ℕ → List ℕ
+abbrev pub leftAtFront : List ℕ → GivenRows → List ℕ → List ℕ
 leftAtFront bytes g out = take (answerOf bytes g (length out) .bytes) (leftIn bytes g (length out) out)
 
 -- rows that 1 to 5 let through, flags 0 or 1, read back the same once written: where `write_glif` answers 0, reading what it left gives the rows

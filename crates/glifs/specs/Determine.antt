@@ -10,7 +10,7 @@ use Rattle.edition.specs.Scratch.{cleared}
 use Rattle.edition.specs.Laws.{same-cleared}
 use Rattle.glyf.specs.Layout.{Outcome, done, refused}
 use Rattle.glifread.specs.Reads as Reads
-use Rattle.glifwrite.specs.Writes.{Given, answerOf, leftIn}
+use Rattle.glifwrite.specs.Writes.{GivenRows, answerOf, leftIn}
 use Rattle.glifwrite.specs.Determine as Written
 use Rattle.glifwrite.specs.declared.write.GlifWriteReport.{GlifWriteReport}
 use Rattle.glifs.specs.Glifs.{Rooms, crunchGlifOf, shownOf, leftOf}
@@ -38,7 +38,7 @@ determined {bytes} {settings} e p p′ = record {
 -- one outcome is written into both rows of bytes, whatever they held; the reports are equal, and so is every scratch row
 pub record Alike (bytes : List ℕ) (r r′ : GlifWriteReport) (t t′ : LentRows) : Type 0 where
   pub answer : r ≡ r′
-  pub outcome : Outcome Given
+  pub outcome : Outcome GivenRows
   pub left : t .exit .out ≡ leftOf bytes outcome (t .entry .out)
   pub left′ : t′ .exit .out ≡ leftOf bytes outcome (t′ .entry .out)
   pub read : t .exit .read ≡ t′ .exit .read
@@ -59,7 +59,7 @@ equal-orders {bytes} {settings} {t} {t′} e p p′ = record {
 
 -- ---- a refusal writes no byte
 
-unless-done : (bytes : List ℕ) (o : Outcome Given) (out : List ℕ) → (shownOf bytes (length out) o .number ≡ 0 → ⊥) → leftOf bytes o out ≡ out
+unless-done : (bytes : List ℕ) (o : Outcome GivenRows) (out : List ℕ) → (shownOf bytes (length out) o .number ≡ 0 → ⊥) → leftOf bytes o out ≡ out
 unless-done bytes (done g) out h =
     Written.refused-leaves {w = record { entry = out; exit = leftIn bytes g (length out) out }} {r = answerOf bytes g (length out)}
     (record { answer = refl; left = refl }) h

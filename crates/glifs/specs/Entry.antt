@@ -15,7 +15,7 @@ use Rattle.glyf.specs.Layout.{Outcome}
 use Rattle.glifread.specs.Enter.{noPlace}
 use Rattle.glifread.specs.Reads.{Kept, kept, scratchRoom}
 use Rattle.glifread.specs.Reads as Reads
-use Rattle.glifwrite.specs.Writes.{Given}
+use Rattle.glifwrite.specs.Writes.{GivenRows}
 use Rattle.glifwrite.specs.declared.write.GlifWriteReport.{GlifWriteReport}
 use Rattle.glifs.specs.Glifs.{Rooms, zeroIn, crunchGlifOf, shownOf, leftOf}
 
@@ -39,7 +39,7 @@ abbrev pub roomsOf : Rows → Rooms
 roomsOf t = record { out = length (t .out); read = Reads.roomsOf (t .read); work = Scratch.roomsOf (t .work); points = length (t .points) }
 
 -- the whole of a file
-abbrev pub wholeOf : List ℕ → Settings → Rows → Outcome Given
+abbrev pub wholeOf : List ℕ → Settings → Rows → Outcome GivenRows
 wholeOf bytes settings t = crunchGlifOf (roomsOf t) settings bytes
 
 -- rows of so many places, zero throughout

@@ -17,7 +17,7 @@ use Rattle.glifread.specs.Reads.{rooms, answerBy, entersBy}
 use Rattle.glifread.specs.Reads as Reads
 use Rattle.glifread.specs.Entry.{judgedIn}
 use Rattle.glifread.specs.declared.read.GlifReadReport.{GlifReadReport}
-use Rattle.glifwrite.specs.Writes.{Given, given, answerOf, leftIn}
+use Rattle.glifwrite.specs.Writes.{GivenRows, given, answerOf, leftIn}
 use Rattle.glifwrite.specs.declared.write.GlifWriteReport.{GlifWriteReport}
 
 -- ---- reading, into rows that are zero
@@ -29,13 +29,13 @@ abbrev pub zeroIn : Reads.Rooms → Filled
 zeroIn (rooms ends xs ys flags points) = zeroRows ends xs ys flags
 
 -- so many contours and points in the first places
-abbrev pub firstOf : ℕ → ℕ → Filled → Given
+abbrev pub firstOf : ℕ → ℕ → Filled → GivenRows
 firstOf contours count (filled ends (rows xs ys fs)) = given (take contours ends) (take count xs) (take count ys) (take count fs)
 
-abbrev pub foundBy : GlifReadReport → Filled → Outcome Given
+abbrev pub foundBy : GlifReadReport → Filled → Outcome GivenRows
 foundBy r f = refuse (r .number) (not (eqb (r .number) 0)) (done (firstOf (r .contours) (r .points) f))
 
-abbrev pub readOf : Reads.Rooms → List ℕ → Outcome Given
+abbrev pub readOf : Reads.Rooms → List ℕ → Outcome GivenRows
 readOf n bytes = foundBy (answerBy (judgedIn bytes n) n) (entersBy (judgedIn bytes n) n (zeroIn n))
 
 -- ---- crunching
@@ -44,12 +44,12 @@ readOf n bytes = foundBy (answerBy (judgedIn bytes n) n) (entersBy (judgedIn byt
 unfoldable pub belong : List ℕ → ℕ → Bool
 belong ends count = rising ends && eqb count (countOf ends)
 
-abbrev pub givenOf : List Points → Given
+abbrev pub givenOf : List Points → GivenRows
 givenOf contours = let ps = together contours in given (endsFrom 0 contours) (column 0 ps) (column 1 ps) (flags ps)
 
 -- what becomes of contours that were read, with rows of so many places for x, y, flags and points. The reader's rows belong together (`ReadBelongs` of
 -- Separately): that is tested all the same, and 1 is never given for it
-abbrev pub renewedOf : Edition.Rooms → Settings → (xs ys flags points : ℕ) → Given → Outcome Given
+abbrev pub renewedOf : Edition.Rooms → Settings → (xs ys flags points : ℕ) → GivenRows → Outcome GivenRows
 renewedOf work settings nx ny nf np (given ends xs ys fs) =
     refuse 1 (not (belong ends (length xs)))
     (andThen (crunchRows work settings (leastOf nx ny nf np) (contoursFrom 0 ends xs ys fs)) (λ contours. done (givenOf contours)))
@@ -63,11 +63,11 @@ pub record Rooms : Type 0 where
   pub work : Edition.Rooms
   pub points : ℕ
 
-abbrev pub renewedIn : Reads.Rooms → Edition.Rooms → Settings → ℕ → Given → Outcome Given
+abbrev pub renewedIn : Reads.Rooms → Edition.Rooms → Settings → ℕ → GivenRows → Outcome GivenRows
 renewedIn (rooms ends xs ys flags marks) work settings points g = renewedOf work settings xs ys flags points g
 
 -- the rows that are to be written into the file, or the number of a refusal
-unfoldable pub crunchGlifOf : Rooms → Settings → List ℕ → Outcome Given
+unfoldable pub crunchGlifOf : Rooms → Settings → List ℕ → Outcome GivenRows
 crunchGlifOf r settings bytes = andThen (readOf (r .read) bytes) (renewedIn (r .read) (r .work) settings (r .points))
 
 -- ---- what is answered, and what the row of bytes holds
@@ -75,10 +75,10 @@ crunchGlifOf r settings bytes = andThen (readOf (r .read) bytes) (renewedIn (r .
 abbrev pub refusedBy : ℕ → GlifWriteReport
 refusedBy k = record { number = k; bytes = 0 }
 
-abbrev pub shownOf : List ℕ → ℕ → Outcome Given → GlifWriteReport
+abbrev pub shownOf : List ℕ → ℕ → Outcome GivenRows → GlifWriteReport
 shownOf bytes room (done g) = answerOf bytes g room
 shownOf bytes room (refused k) = refusedBy k
 
-abbrev pub leftOf : List ℕ → Outcome Given → List ℕ → List ℕ
+abbrev pub leftOf : List ℕ → Outcome GivenRows → List ℕ → List ℕ
 leftOf bytes (done g) out = leftIn bytes g (length out) out
 leftOf bytes (refused k) out = out

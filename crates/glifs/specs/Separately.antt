@@ -13,18 +13,18 @@ use Rattle.glyphs.specs.Glyphs.{contoursFrom, leastOf}
 use Rattle.glyphs.specs.Separately.{Each, FirstRefused}
 use Rattle.glifread.specs.Reads.{rooms}
 use Rattle.glifread.specs.Reads as Reads
-use Rattle.glifwrite.specs.Writes.{Given, given}
+use Rattle.glifwrite.specs.Writes.{GivenRows, given}
 use Rattle.glifs.specs.Glifs.{Rooms, readOf, belong, givenOf, crunchGlifOf}
 
-abbrev pub contoursOf : Given → List Inputs
+abbrev pub contoursOf : GivenRows → List Inputs
 contoursOf (given ends xs ys fs) = contoursFrom 0 ends xs ys fs
 
 abbrev pub pointRoom : Reads.Rooms → ℕ → ℕ
 pointRoom (rooms ends xs ys flags marks) points = leastOf xs ys flags points
 
 -- the rows written into the file are the contours that were read from it, each crunched by the crunch entry's own definition
-pub record ContourByContour (r : Rooms) (settings : Settings) (bytes : List ℕ) (g : Given) : Type 0 where
-  pub old : Given
+pub record ContourByContour (r : Rooms) (settings : Settings) (bytes : List ℕ) (g : GivenRows) : Type 0 where
+  pub old : GivenRows
   pub read : readOf (r .read) bytes ≡ done old
   pub contours : List Points
   pub each : Each (r .work) settings (pointRoom (r .read) (r .points)) (contoursOf old) contours
@@ -32,7 +32,7 @@ pub record ContourByContour (r : Rooms) (settings : Settings) (bytes : List ℕ)
 
 abbrev pub WrittenByContours : Type 0
 WrittenByContours =
-    (r : Rooms) (settings : Settings) (bytes : List ℕ) (g : Given) → crunchGlifOf r settings bytes ≡ done g → ContourByContour r settings bytes g
+    (r : Rooms) (settings : Settings) (bytes : List ℕ) (g : GivenRows) → crunchGlifOf r settings bytes ≡ done g → ContourByContour r settings bytes g
 
 -- the rows that are read belong together: the ends rise, and the last of them is that of the last point
 abbrev pub ReadBelongs : Type 0

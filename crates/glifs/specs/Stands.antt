@@ -4,7 +4,7 @@ use mathlib.Core.List.{List}
 use mathlib.Core.Path.{_≡_}
 use lib.ListN.{length}
 use Rattle.glyf.specs.Layout.{Outcome}
-use Rattle.glifwrite.specs.Writes.{Given}
+use Rattle.glifwrite.specs.Writes.{GivenRows}
 use Rattle.glifwrite.specs.declared.write.GlifWriteReport.{GlifWriteReport}
 use Rattle.glifs.specs.Glifs.{shownOf, leftOf}
 
@@ -16,6 +16,6 @@ pub record InRows (ends xs ys flags contours count : ℕ) : Type 0 where
   pub in-flags : count ≤ flags
 
 -- the rows are written into the file, at the front of the row of bytes; where refused that is not changed
-pub record Writes (bytes out out′ : List ℕ) (o : Outcome Given) (r : GlifWriteReport) : Type 0 where
+pub record Writes (bytes out out′ : List ℕ) (o : Outcome GivenRows) (r : GlifWriteReport) : Type 0 where
   pub answer : r ≡ shownOf bytes (length out) o
   pub left : out′ ≡ leftOf bytes o out

@@ -1,10 +1,9 @@
 -- What is remembered of the text while it is read, and how the action of a byte changes it. Definitions only.
-use Prim.Native.Nat.{ℕ, _+_, _*_}
-use mathlib.Core.Bool.{Bool, true, false, not}
+use Prim.Native.Nat.{ℕ}
+use mathlib.Core.Bool.{Bool, false, not}
 use lib.Dec.{eqb, ltb}
 use Rattle.gliftext.specs.Pick.{pick, both, either, more}
 use Rattle.gliftext.specs.Words.{pushed, grown, noNumber, fedNumber, namedChar, isChar, narrowed}
-use Rattle.gliftext.specs.declared.word.Number.{Number}
 use Rattle.gliftext.specs.declared.text.Name.{Name}
 use Rattle.gliftext.specs.declared.text.Value.{Value}
 use Rattle.gliftext.specs.declared.text.Point.{Point}

@@ -1,7 +1,7 @@
 -- UTF-8, as the Unicode standard's table 3-7 has it, without U+FFFE and U+FFFF, which are no characters of XML. Definitions only.
 use Prim.Native.Nat.{ℕ, zero, suc, _+_, _*_}
-use mathlib.Core.Bool.{Bool, true, false}
-use mathlib.Core.List.{List, [], _∷_, _++_}
+use mathlib.Core.Bool.{Bool}
+use mathlib.Core.List.{List, [], _∷_}
 use lib.Dec.{eqb, ltb}
 use lib.ListN.{length, getD}
 use Rattle.gliftext.specs.Pick.{pick}

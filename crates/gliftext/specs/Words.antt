@@ -1,6 +1,6 @@
 -- Words of at most eight bytes as one number; numbers in attributes; the characters that references stand for. Definitions only.
 use Prim.Native.Nat.{ℕ, _+_, _-_, _*_}
-use mathlib.Core.Bool.{Bool, true, false}
+use mathlib.Core.Bool.{Bool, false}
 use lib.Dec.{eqb, ltb}
 use Rattle.gliftext.specs.Pick.{pick, both, either}
 use Rattle.gliftext.specs.declared.word.Number.{Number}

@@ -1,21 +1,20 @@
 -- A file copied byte by byte, and what writing leaves. Assumes nothing.
-use Prim.Native.Nat.{ℕ, zero, suc, _+_, _-_, _≤_}
+use Prim.Native.Nat.{ℕ, _+_, _-_, _≤_}
 use mathlib.Core.Bool.{Bool, true, false}
 use mathlib.Core.List.{List}
-use mathlib.Core.Path.{_≡_, refl, sym, ap, _∙_}
-use native.Mathlib.Nat.{le-refl}
+use mathlib.Core.Path.{_≡_, ap, _∙_}
 use native.Mathlib.Numerals.{add-one}
 use native.Mathlib.Omega.{arith}
 use lib.Dec.{eqb, ltb}
 use lib.IntN.{ℤ}
 use lib.ListN.{length, replicate}
 use Rattle.gliftext.specs.Pick.{pick, both, more}
-use Rattle.glif.specs.Scan.{Pass, pass, turned, scanned, Judged, judged, judgedOf}
+use Rattle.glif.specs.Scan.{pass, turned, scanned, Judged, judged, judgedOf}
 use Rattle.glif.specs.declared.scan.Scan.{Scan}
 use Rattle.glif.specs.declared.scan.Found.{Found}
 use Rattle.glifwrite.specs.Puts.{Putting, put, putRange}
 use Rattle.glifwrite.specs.Contours.{endAt, startOf, putTo, rowsRefused}
-use Rattle.glifwrite.specs.Writes.{Given, given, noPoints, readTo, scanIn, Copying, copying, noCopy, copyOn, copyTo, writeAll}
+use Rattle.glifwrite.specs.Writes.{GivenRows, given, noPoints, readTo, Copying, copying, noCopy, copyOn, copyTo, writeAll}
 use Rattle.glifwrite.specs.Writes.{placeIn, rowIn, foundIn, refusedBy, fileIn, numberOf, reportOf, numberIn, answerOf, leftIn}
 use Rattle.glifwrite.specs.declared.write.Copy.{Copy}
 use Rattle.glifwrite.specs.declared.write.GlifWriteReport.{GlifWriteReport}
@@ -30,18 +29,18 @@ pub copy-is : (bs ends : List ℕ) (xs ys : List ℤ) (fs : List ℕ) (i : ℕ) 
 unfolding copyOn
 copy-is bs ends xs ys fs i s t c out e₁ e₂ e₃ e₄ e₅ e₆ e₇ e₈ e₉ f₁ f₂ f₃ = rw (f₂, f₃, e₂, e₃, ← e₁, ← e₄, ← e₅, ← e₆, ← e₇, ← e₈, ← e₉, ← f₁)
 
-pub copy-starts : (bs : List ℕ) (g : Given) (out : List ℕ) {c : Copy} → c ≡ noCopy → copying c out ≡ copyTo bs g 0 (copying noCopy out)
+pub copy-starts : (bs : List ℕ) (g : GivenRows) (out : List ℕ) {c : Copy} → c ≡ noCopy → copying c out ≡ copyTo bs g 0 (copying noCopy out)
 unfolding copyTo
 copy-starts bs g out e = rw e
 
-module _ (bs : List ℕ) (g : Given) (q₀ : Copying) where
+module _ (bs : List ℕ) (g : GivenRows) (q₀ : Copying) where
   pub copy-more : (i : ℕ) {s t : Scan} {ns ns′ : List ℕ} {ps ps′ : List (List ℕ)} {q r : Copying} → pass s ns ps ≡ readTo bs i → pass t ns′ ps′ ≡
       turned bs i (pass s ns ps) →
       q ≡ copyTo bs g i q₀ → r ≡ copyOn bs g i s t q → r ≡ copyTo bs g (i + 1) q₀
   unfolding copyTo scanned
   copy-more i a b d e = e ∙ rw (add-one i, ← d, ← a, ← b)
 
-pub copy-all : (bs : List ℕ) (g : Given) (n : ℕ) (out₀ : List ℕ) {i : ℕ} {c : Copy} {out : List ℕ} {r : Putting} → i ≤ n → n ≤ i →
+pub copy-all : (bs : List ℕ) (g : GivenRows) (n : ℕ) (out₀ : List ℕ) {i : ℕ} {c : Copy} {out : List ℕ} {r : Putting} → i ≤ n → n ≤ i →
     copying c out ≡ copyTo bs g i (copying noCopy out₀) → r ≡ putRange bs (c .from) (n - c .from) (put (c .at) out) → r ≡ writeAll bs g n out₀
 unfolding writeAll
 copy-all bs g n out₀ {i} h k e f =
@@ -60,7 +59,7 @@ module _ (bytes ends : List ℕ) (xs ys : List ℤ) (fs out : List ℕ) {f : Fou
     (many : n ≡ pick (eqb k 0) (length bytes) 0) (measured : put size nothing ≡ writeAll bytes (given ends xs ys fs) n (replicate 1 0))
     (short : nine ≡ pick (ltb (length out) size) 9 0) (numbered : number ≡ pick (eqb k 0) nine k) (most : m ≡ pick (eqb number 0) (length bytes) 0)
     (written : put place out′ ≡ writeAll bytes (given ends xs ys fs) m out) (report : r ≡ reportOf number size) where
-  abbrev g : Given
+  abbrev g : GivenRows
   g = given ends xs ys fs
 
   abbrev refusal : ℕ

@@ -9,26 +9,26 @@ use lib.IntN.{ℤ}
 use Rattle.gliftext.specs.Pick.{pick, both, more}
 use Rattle.glif.specs.declared.scan.Scan.{Scan}
 use Rattle.glifwrite.specs.Puts.{Putting, put, putRange}
-use Rattle.glifwrite.specs.Contours.{endAt, startOf, putTo}
-use Rattle.glifwrite.specs.Writes.{Given, given, readTo, scanIn, Copying, copying, noCopy, copied, copyAs, copyOn, copyTo, rest, writeAll}
-use Rattle.glifwrite.specs.Outside.{Piece, own, contour, putPiece, putPieces, Track, track, trackAs, trackOn, trackTo, closed, OutsideIsKept}
+use Rattle.glifwrite.specs.Contours.{startOf, putTo}
+use Rattle.glifwrite.specs.Writes.{GivenRows, given, readTo, scanIn, Copying, copying, noCopy, copied, copyAs, copyOn, copyTo, rest, writeAll}
+use Rattle.glifwrite.specs.Outside.{Part, own, contour, putPart, putParts, Track, track, trackOn, trackTo, closed, OutsideIsKept}
 
-pieces-append : (bytes : List ℕ) (g : Given) (ps rs : List Piece) (q : Putting) → putPieces bytes g (ps ++ rs) q ≡ putPieces bytes g rs (putPieces
+pieces-append : (bytes : List ℕ) (g : GivenRows) (ps rs : List Part) (q : Putting) → putParts bytes g (ps ++ rs) q ≡ putParts bytes g rs (putParts
     bytes g ps q)
-unfolding putPieces
+unfolding putParts
 pieces-append bytes g [] rs q = refl
-pieces-append bytes g (p ∷ ps) rs q = pieces-append bytes g ps rs (putPiece bytes g p q)
+pieces-append bytes g (p ∷ ps) rs q = pieces-append bytes g ps rs (putPart bytes g p q)
 
 -- copying stands where the track does, with its pieces put
-abbrev along : List ℕ → Given → Putting → Track → Copying
-along bytes g q₀ (track from tag k ps) = copied from tag k (putPieces bytes g ps q₀)
+abbrev along : List ℕ → GivenRows → Putting → Track → Copying
+along bytes g q₀ (track from tag k ps) = copied from tag k (putParts bytes g ps q₀)
 
 none : (bytes : List ℕ) (from n : ℕ) (q : Putting) → n ≡ 0 → putRange bytes from n q ≡ q
 unfolding putRange
 none bytes from n q e = rw e
 
 module _ (bytes ends : List ℕ) (xs ys : List ℤ) (fs : List ℕ) where
-  abbrev g : Given
+  abbrev g : GivenRows
   g = given ends xs ys fs
 
   no-points : (from to n : ℕ) (q : Putting) → n ≡ 0 → putTo xs ys fs from to n q ≡ q
@@ -38,8 +38,8 @@ module _ (bytes ends : List ℕ) (xs ys : List ℤ) (fs : List ℕ) where
   -- with the row in hand
   step-put : (i tag from old k at : ℕ) (out : List ℕ) (closes : Bool) (opens : Bool) →
       copyAs bytes g i tag opens closes (copying (record { from = from; tag = old; k = k; at = at }) out)
-      ≡ copied (pick closes tag from) tag (pick opens (more k) k) (putPieces bytes g (pick opens (own from (more i) ∷ contour k ∷ []) []) (put at out))
-  unfolding pick putPieces
+      ≡ copied (pick closes tag from) tag (pick opens (more k) k) (putParts bytes g (pick opens (own from (more i) ∷ contour k ∷ []) []) (put at out))
+  unfolding pick putParts
   step-put i tag from old k at out closes true = refl
   step-put i tag from old k at out closes false =
       let nothing : from - from ≡ 0 = omega arith in
@@ -49,12 +49,12 @@ module _ (bytes ends : List ℕ) (xs ys : List ℤ) (fs : List ℕ) where
 
   step-any : (i tag from old k : ℕ) (closes opens : Bool) (q : Putting) →
       copyAs bytes g i tag opens closes (copied from old k q)
-      ≡ copied (pick closes tag from) tag (pick opens (more k) k) (putPieces bytes g (pick opens (own from (more i) ∷ contour k ∷ []) []) q)
+      ≡ copied (pick closes tag from) tag (pick opens (more k) k) (putParts bytes g (pick opens (own from (more i) ∷ contour k ∷ []) []) q)
   step-any i tag from old k closes opens (put at out) = step-put i tag from old k at out closes opens
 
-  more-pieces : (opens : Bool) (ps rs : List Piece) (q : Putting) →
-      putPieces bytes g (pick opens rs []) (putPieces bytes g ps q) ≡ putPieces bytes g (pick opens (ps ++ rs) ps) q
-  unfolding pick putPieces
+  more-pieces : (opens : Bool) (ps rs : List Part) (q : Putting) →
+      putParts bytes g (pick opens rs []) (putParts bytes g ps q) ≡ putParts bytes g (pick opens (ps ++ rs) ps) q
+  unfolding pick putParts
   more-pieces true ps rs q = sym (pieces-append bytes g ps rs q)
   more-pieces false ps rs q = refl
 
@@ -68,13 +68,13 @@ module _ (bytes ends : List ℕ) (xs ys : List ℤ) (fs : List ℕ) where
   step : (i : ℕ) (s t : Scan) (q₀ : Putting) (w : Track) → copyOn bytes g i s t (along bytes g q₀ w) ≡ along bytes g q₀ (trackOn i s t w)
   unfolding trackOn
   step i s t q₀ (track from old k ps) =
-      on-any i s t from old k (putPieces bytes g ps q₀)
+      on-any i s t from old k (putParts bytes g ps q₀)
       ∙ step-any i (pick (eqb (t .text .state) 15) i old) from old k (both (eqb (s .tree .level) 3) (eqb (t .tree .level) 2))
-      (both (eqb (s .tree .level) 2) (eqb (t .tree .level) 3)) (putPieces bytes g ps q₀)
+      (both (eqb (s .tree .level) 2) (eqb (t .tree .level) 3)) (putParts bytes g ps q₀)
       ∙ ap (copied _ _ _) (more-pieces (both (eqb (s .tree .level) 2) (eqb (t .tree .level) 3)) ps (own from (more i) ∷ contour k ∷ []) q₀)
 
   tracked : (k : ℕ) (out : List ℕ) → copyTo bytes g k (copying noCopy out) ≡ along bytes g (put 0 out) (trackTo bytes k)
-  unfolding copyTo trackTo putPieces
+  unfolding copyTo trackTo putParts
   tracked zero out = refl
   tracked (suc k) out =
       ap (copyOn bytes g k (scanIn (readTo bytes k)) (scanIn (readTo bytes (suc k)))) (tracked k out)
@@ -83,9 +83,9 @@ module _ (bytes ends : List ℕ) (xs ys : List ℤ) (fs : List ℕ) where
   rest-any : (n from tag k : ℕ) (q : Putting) → rest bytes n (copied from tag k q) ≡ putRange bytes from (n - from) q
   rest-any n from tag k (put at out) = refl
 
-  finished : (n : ℕ) (q₀ : Putting) (w : Track) → rest bytes n (along bytes g q₀ w) ≡ putPieces bytes g (closed n w) q₀
-  unfolding putPieces
-  finished n q₀ (track from tag k ps) = rest-any n from tag k (putPieces bytes g ps q₀) ∙ sym (pieces-append bytes g ps (own from n ∷ []) q₀)
+  finished : (n : ℕ) (q₀ : Putting) (w : Track) → rest bytes n (along bytes g q₀ w) ≡ putParts bytes g (closed n w) q₀
+  unfolding putParts
+  finished n q₀ (track from tag k ps) = rest-any n from tag k (putParts bytes g ps q₀) ∙ sym (pieces-append bytes g ps (own from n ∷ []) q₀)
 
 pub outside-is-kept : OutsideIsKept
 unfolding writeAll

@@ -1,6 +1,6 @@
 -- The points of a contour of the rows, and what is asked of these. Definitions only.
 use Prim.Native.Nat.{ℕ, zero, suc, _-_, _%_}
-use mathlib.Core.Bool.{Bool, true, false}
+use mathlib.Core.Bool.{Bool, false}
 use mathlib.Core.List.{List}
 use lib.Dec.{eqb, ltb, leb}
 use lib.IntN.{ℤ, pos}

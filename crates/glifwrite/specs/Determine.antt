@@ -1,6 +1,6 @@
 -- The promise of `write_glif` determines the report and the row that is written; and the report and what is written are those of the file,
 -- the rows and the length of the row alone, whatever it held. Assumes nothing.
-use Prim.Native.Nat.{ℕ, _%_}
+use Prim.Native.Nat.{ℕ}
 use mathlib.Core.Bool.{false}
 use mathlib.Core.List.{List}
 use mathlib.Core.Path.{_≡_, refl, sym, ap, _∙_}
@@ -10,7 +10,7 @@ use lib.Dec.{eqb}
 use lib.ListN.{length}
 use Rattle.gliftext.specs.Pick.{pick}
 use Rattle.glifwrite.specs.Puts.{putRange}
-use Rattle.glifwrite.specs.Writes.{Given, copyTo, writeAll, rowIn, reportOf, numberIn, answerOf, leftIn}
+use Rattle.glifwrite.specs.Writes.{GivenRows, copyTo, writeAll, rowIn, reportOf, numberIn, answerOf, leftIn}
 use Rattle.glifwrite.specs.Entry.{Promise}
 use Rattle.glifwrite.specs.declared.write.GlifWriteReport.{GlifWriteReport}
 
@@ -20,7 +20,7 @@ pub record Same (r r′ : GlifWriteReport) (w w′ : List ℕ) : Type 0 where
   pub left : w ≡ w′
 
 -- two outcomes of one order are one
-pub determined : {bytes : List ℕ} {g : Given} {w w′ : Both (List ℕ) (List ℕ)} {r r′ : GlifWriteReport} → w .entry ≡ w′ .entry →
+pub determined : {bytes : List ℕ} {g : GivenRows} {w w′ : Both (List ℕ) (List ℕ)} {r r′ : GlifWriteReport} → w .entry ≡ w′ .entry →
     Promise bytes g w r → Promise bytes g w′ r′ → Same r r′ (w .exit) (w′ .exit)
 determined {bytes} {g} e p p′ = record {
   answer = p .answer ∙ ap (λ (v : List ℕ). answerOf bytes g (length v)) e ∙ sym (p′ .answer);
@@ -28,13 +28,13 @@ determined {bytes} {g} e p p′ = record {
 }
 
 -- one file is written to both, whatever the rows held: the reports are equal, and the same is put into each
-pub record Alike (bytes : List ℕ) (g : Given) (r r′ : GlifWriteReport) (w w′ : Both (List ℕ) (List ℕ)) : Type 0 where
+pub record Alike (bytes : List ℕ) (g : GivenRows) (r r′ : GlifWriteReport) (w w′ : Both (List ℕ) (List ℕ)) : Type 0 where
   pub answer : r ≡ r′
   pub room : ℕ
   pub left : w .exit ≡ leftIn bytes g room (w .entry)
   pub left′ : w′ .exit ≡ leftIn bytes g room (w′ .entry)
 
-pub equal-orders : {bytes : List ℕ} {g : Given} {w w′ : Both (List ℕ) (List ℕ)} {r r′ : GlifWriteReport} → length (w .entry) ≡ length (w′ .entry) →
+pub equal-orders : {bytes : List ℕ} {g : GivenRows} {w w′ : Both (List ℕ) (List ℕ)} {r r′ : GlifWriteReport} → length (w .entry) ≡ length (w′ .entry) →
     Promise bytes g w r → Promise bytes g w′ r′ → Alike bytes g r r′ w w′
 equal-orders {bytes} {g} {w} {w′} e p p′ = record {
   answer = p .answer ∙ ap (answerOf bytes g) e ∙ sym (p′ .answer);
@@ -45,11 +45,11 @@ equal-orders {bytes} {g} {w} {w′} e p p′ = record {
 
 -- ---- a refusal writes nothing
 
-none-copied : (bytes : List ℕ) (g : Given) (out : List ℕ) → rowIn (writeAll bytes g 0 out) ≡ out
+none-copied : (bytes : List ℕ) (g : GivenRows) (out : List ℕ) → rowIn (writeAll bytes g 0 out) ≡ out
 unfolding writeAll copyTo putRange
 none-copied bytes g out = refl
 
-none-left : (bytes : List ℕ) (g : Given) (n : ℕ) (out : List ℕ) → eqb n 0 ≡ false → rowIn (writeAll bytes g (pick (eqb n 0) (length bytes) 0) out) ≡ out
+none-left : (bytes : List ℕ) (g : GivenRows) (n : ℕ) (out : List ℕ) → eqb n 0 ≡ false → rowIn (writeAll bytes g (pick (eqb n 0) (length bytes) 0) out) ≡ out
 unfolding pick
 none-left bytes g n out e = rw e (none-copied bytes g out)
 
@@ -57,7 +57,7 @@ is-refused : (number size : ℕ) → (reportOf number size .number ≡ 0 → ⊥
 unfolding reportOf
 is-refused number size f e = f (rw e refl)
 
-pub refused-leaves : {bytes : List ℕ} {g : Given} {w : Both (List ℕ) (List ℕ)} {r : GlifWriteReport} → Promise bytes g w r → (r .number ≡ 0 → ⊥) →
+pub refused-leaves : {bytes : List ℕ} {g : GivenRows} {w : Both (List ℕ) (List ℕ)} {r : GlifWriteReport} → Promise bytes g w r → (r .number ≡ 0 → ⊥) →
     w .exit ≡ w .entry
 refused-leaves {bytes} {g} {w} {r} p h =
     p .left

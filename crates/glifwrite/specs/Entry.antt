@@ -6,10 +6,10 @@ use denote.Triple.Both.{Both}
 use lib.IntN.{ℤ}
 use lib.ListN.{length}
 use Rattle.rows.specs.Lent.{Lent, before, after}
-use Rattle.glifwrite.specs.Writes.{Given, given, answerOf, leftIn}
+use Rattle.glifwrite.specs.Writes.{GivenRows, given, answerOf, leftIn}
 use Rattle.glifwrite.specs.declared.write.GlifWriteReport.{GlifWriteReport}
 
-abbrev pub rowsGiven : Lent ℕ → Lent ℤ → Lent ℤ → Lent ℕ → Given
+abbrev pub rowsGiven : Lent ℕ → Lent ℤ → Lent ℤ → Lent ℕ → GivenRows
 rowsGiven ends xs ys flags = given (before ends) (before xs) (before ys) (before flags)
 
 -- the row as lent and as left
@@ -17,6 +17,6 @@ abbrev pub lent : Lent ℕ → Both (List ℕ) (List ℕ)
 lent out = record { entry = before out; exit = after out }
 
 -- the report, and what the row holds: the file with other points at its front, or, where refused, what it held
-pub record Promise (bytes : List ℕ) (g : Given) (w : Both (List ℕ) (List ℕ)) (r : GlifWriteReport) : Type 0 where
+pub record Promise (bytes : List ℕ) (g : GivenRows) (w : Both (List ℕ) (List ℕ)) (r : GlifWriteReport) : Type 0 where
   pub answer : r ≡ answerOf bytes g (length (w .entry))
   pub left : w .exit ≡ leftIn bytes g (length (w .entry)) (w .entry)

@@ -1,6 +1,6 @@
 -- What a written file is made of: its own bytes outside the insides of its contours, and between them the points of the rows. Definitions and a statement.
 use Prim.Native.Nat.{ℕ, zero, suc, _-_}
-use mathlib.Core.Bool.{Bool, true, false}
+use mathlib.Core.Bool.{Bool}
 use mathlib.Core.List.{List, [], _∷_, _++_}
 use mathlib.Core.Path.{_≡_}
 use lib.Dec.{eqb}
@@ -8,24 +8,24 @@ use Rattle.gliftext.specs.Pick.{pick, both, more}
 use Rattle.glif.specs.declared.scan.Scan.{Scan}
 use Rattle.glifwrite.specs.Puts.{Putting, put, putRange}
 use Rattle.glifwrite.specs.Contours.{endAt, startOf, putTo}
-use Rattle.glifwrite.specs.Writes.{Given, given, readTo, scanIn, writeAll}
+use Rattle.glifwrite.specs.Writes.{GivenRows, given, readTo, scanIn, writeAll}
 
 -- the file's bytes from one place to another; the points of contour k
-pub data Piece : Type 0 where
-  own : ℕ → ℕ → Piece
-  contour : ℕ → Piece
+pub data Part : Type 0 where
+  own : ℕ → ℕ → Part
+  contour : ℕ → Part
 
-abbrev pub putPiece : List ℕ → Given → Piece → Putting → Putting
-putPiece bytes g (own from to) q = putRange bytes from (to - from) q
-putPiece bytes (given ends xs ys flags) (contour k) q = putTo xs ys flags (startOf ends k) (endAt ends k) (endAt ends k - startOf ends k) q
+abbrev pub putPart : List ℕ → GivenRows → Part → Putting → Putting
+putPart bytes g (own from to) q = putRange bytes from (to - from) q
+putPart bytes (given ends xs ys flags) (contour k) q = putTo xs ys flags (startOf ends k) (endAt ends k) (endAt ends k - startOf ends k) q
 
-unfoldable pub putPieces : List ℕ → Given → List Piece → Putting → Putting
-putPieces bytes g [] q = q
-putPieces bytes g (p ∷ ps) q = putPieces bytes g ps (putPiece bytes g p q)
+unfoldable pub putParts : List ℕ → GivenRows → List Part → Putting → Putting
+putParts bytes g [] q = q
+putParts bytes g (p ∷ ps) q = putParts bytes g ps (putPart bytes g p q)
 
 -- from where the file is still to be copied, where the last `<` stands, how many contours were met, and the pieces so far: of the file alone
 pub data Track : Type 0 where
-  track : ℕ → ℕ → ℕ → List Piece → Track
+  track : ℕ → ℕ → ℕ → List Part → Track
 
 abbrev pub trackAs : ℕ → ℕ → Bool → Bool → Track → Track
 trackAs i tag opens closes (track from old k ps) =
@@ -43,13 +43,13 @@ unfoldable pub trackTo : List ℕ → ℕ → Track
 trackTo bytes zero = track 0 0 0 []
 trackTo bytes (suc k) = trackOn k (scanIn (readTo bytes k)) (scanIn (readTo bytes (suc k))) (trackTo bytes k)
 
-abbrev pub closed : ℕ → Track → List Piece
+abbrev pub closed : ℕ → Track → List Part
 closed n (track from tag k ps) = ps ++ own from n ∷ []
 
 -- the pieces of a file of n bytes: own 0 a, contour 0, own b c, contour 1, .., own z n
-abbrev pub piecesOf : List ℕ → ℕ → List Piece
-piecesOf bytes n = closed n (trackTo bytes n)
+abbrev pub partsOf : List ℕ → ℕ → List Part
+partsOf bytes n = closed n (trackTo bytes n)
 
 -- whatever the rows are, what is written is those pieces: outside the insides of contours the same bytes
 abbrev pub OutsideIsKept : Type 0
-OutsideIsKept = (bytes : List ℕ) (g : Given) (n : ℕ) (out : List ℕ) → writeAll bytes g n out ≡ putPieces bytes g (piecesOf bytes n) (put 0 out)
+OutsideIsKept = (bytes : List ℕ) (g : GivenRows) (n : ℕ) (out : List ℕ) → writeAll bytes g n out ≡ putParts bytes g (partsOf bytes n) (put 0 out)

@@ -11,8 +11,8 @@ use Rattle.lines.specs.Text.{signedOf}
 use Rattle.gliftext.specs.Pick.{pick, most}
 use Rattle.glifwrite.specs.Puts.{Putting, putByte, noDigits, putNumber, opening, between, closing, putPoint}
 use Rattle.glifwrite.specs.Contours.{isOn, endAt, startOf, putTo}
-use Rattle.glifwrite.specs.Writes.{Given, given}
-use Rattle.glifwrite.specs.Outside.{Piece, own, contour, piecesOf}
+use Rattle.glifwrite.specs.Writes.{GivenRows, given}
+use Rattle.glifwrite.specs.Outside.{Part, own, contour, partsOf}
 
 -- the bytes of a text, one after the other
 unfoldable pub putText : List ℕ → Putting → Putting
@@ -37,17 +37,17 @@ contourText xs ys fs from to (suc k) =
     ++ pointText (getD xs (from + k) (pos 0)) (getD ys (from + k) (pos 0)) (isOn fs (from + k))
     (isOn fs (pick (eqb (from + k) from) (to - 1) (from + k - 1)))
 
-abbrev pub pieceText : List ℕ → Given → Piece → List ℕ
+abbrev pub pieceText : List ℕ → GivenRows → Part → List ℕ
 pieceText bs g (own from end) = take (end - from) (drop from bs)
 pieceText bs (given ends xs ys fs) (contour k) = contourText xs ys fs (startOf ends k) (endAt ends k) (endAt ends k - startOf ends k)
 
-unfoldable pub piecesText : List ℕ → Given → List Piece → List ℕ
+unfoldable pub piecesText : List ℕ → GivenRows → List Part → List ℕ
 piecesText bs g [] = []
 piecesText bs g (p ∷ ps) = pieceText bs g p ++ piecesText bs g ps
 
 -- the file with the points of the rows
-unfoldable pub written : List ℕ → Given → List ℕ
-written bs g = piecesText bs g (piecesOf bs (length bs))
+unfoldable pub written : List ℕ → GivenRows → List ℕ
+written bs g = piecesText bs g (partsOf bs (length bs))
 
 -- ---- numbers of 16 bits
 

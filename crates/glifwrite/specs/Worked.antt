@@ -1,6 +1,5 @@
 -- A file written by the definition, computed. Assumes nothing.
 use Prim.Native.Nat.{ℕ}
-use mathlib.Core.Bool.{true, false}
 use mathlib.Core.List.{List, [], _∷_}
 use mathlib.Core.Path.{_≡_, refl}
 use Rattle.gliftext.specs.Pick.{pick, more, sum}
@@ -14,12 +13,12 @@ use Rattle.glif.specs.Outline.{isNumber, isFar, offsetOf, known, cubicOf, begun
 use Rattle.glif.specs.Outline.{wrongPoint, withPoint, pointMet, contourMet, contourLeft, summed, markOf, keptPoint}
 use Rattle.glif.specs.Scan.{turned, scanned, foundOf, judgedOf}
 use Rattle.glif.specs.Scan as scan
-use lib.IntN.{ℤ, pos, negsuc}
+use lib.IntN.{pos, negsuc}
 use lib.ListN.{replicate}
 use Rattle.lines.specs.Text.{decimalIn, decimalOf, signedOf}
 use Rattle.glifwrite.specs.Puts.{putByte, putRange, putNumber, putKind, putPoint}
 use Rattle.glifwrite.specs.Contours.{isOn, endAt, startOf, putPlace, putTo, emptyTo, someEmpty, even, rowsRefused}
-use Rattle.glifwrite.specs.Writes.{Given, given, copyOn, copyTo, writeAll, numberOf, reportOf, answerOf, leftIn}
+use Rattle.glifwrite.specs.Writes.{GivenRows, given, copyOn, copyTo, writeAll, numberOf, reportOf, answerOf, leftIn}
 
 -- <glyph><outline><contour><point x="0" y="0" type="line"/></contour></outline></glyph>
 abbrev pub file : List ℕ
@@ -30,7 +29,7 @@ file =
     108 ∷ 105 ∷ 110 ∷ 101 ∷ 62 ∷ 60 ∷ 47 ∷ 103 ∷ 108 ∷ 121 ∷ 112 ∷ 104 ∷ 62 ∷ []
 
 -- (1, -20) on-curve, (3, 40) off-curve
-abbrev pub points : Given
+abbrev pub points : GivenRows
 points = given (1 ∷ []) (pos 1 ∷ pos 3 ∷ []) (negsuc 19 ∷ pos 40 ∷ []) (1 ∷ 0 ∷ [])
 
 -- <glyph><outline><contour><point x="1" y="-20" type="qcurve"/><point x="3" y="40"/></contour></outline></glyph>

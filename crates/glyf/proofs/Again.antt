@@ -1,22 +1,22 @@
 -- What was read is written again and says the same; and the box of what is written. Assumes nothing.
 use Prim.Native.Nat.{ℕ, zero, suc, _+_, _-_, _*_, _%_, _≤_, _<_}
-use mathlib.Core.Bool.{Bool, true, false, not, _&&_, _||_}
-use mathlib.Core.List.{List, [], _∷_, _++_, map}
+use mathlib.Core.Bool.{Bool, true, false, not, _&&_}
+use mathlib.Core.List.{List, [], _∷_, map}
 use mathlib.Core.Path.{_≡_, refl, sym, ap, _∙_}
 use native.Mathlib.Nat.{div-add-mod'}
 use native.Mathlib.Omega.{arith}
-use borrow.Author.Tests.{lt-ltb, le-ltb, ltb-true, ltb-false, le-leb, eq-eqb}
-use lib.Dec.{eqb, leb, ltb}
-use lib.IntN.{ℤ, pos, negsuc, negℤ}
+use borrow.Author.Tests.{le-ltb, ltb-true, ltb-false, le-leb, eq-eqb}
+use lib.Dec.{ltb}
+use lib.IntN.{ℤ, pos, negℤ}
 use lib.Signed.{leZ}
-use lib.ListN.{length, take, drop, length-map}
+use lib.ListN.{length, take, length-map}
 use lib.Seq.{take-all}
-use Rattle.glyf.specs.Layout.{Glyph, glyph, Outcome, done, refused, refuse, Taken, taken, cut, next, byte, word, several, bit, isOn, flagged, flagsOf, differenceBy, differences}
-use Rattle.glyf.specs.Layout.{signedIf, signed, unsigned, Parts, countOf, partsOf, sums, in16, all16, rising, judgedParts, simpleOnly, headed, described, wordBytes, signedBytes}
-use Rattle.glyf.specs.Layout.{joined, pick, leastFrom, greatestFrom, least, greatest, boxOf, steps, bytesOf, trimmed, tooLarge, fitting, writtenOf}
-use Rattle.glyf.specs.Trips.{Held, asRead, allBytes, boxIn, Again, BoxWritten, ReadWrittenAgain}
+use Rattle.glyf.specs.Layout.{Glyph, glyph, done, refuse, Taken, taken, cut, next, byte, word, several, bit, isOn, flagged, flagsOf, differenceBy, differences}
+use Rattle.glyf.specs.Layout.{signedIf, signed, unsigned, Parts, countOf, partsOf, sums, in16, all16, rising, judgedParts, simpleOnly, headed, described}
+use Rattle.glyf.specs.Layout.{joined, pick, leastFrom, greatestFrom, least, greatest, bytesOf, trimmed, tooLarge, fitting, writtenOf}
+use Rattle.glyf.specs.Trips.{allBytes, BoxWritten, ReadWrittenAgain}
 use Rattle.glyf.proofs.Codes.{and-left, and-right, sign-back}
-use Rattle.glyf.proofs.Back.{Whole, whole-back, whole-of, Written, written, steps-sums}
+use Rattle.glyf.proofs.Back.{Whole, whole-back, whole-of, written, steps-sums}
 
 -- ---- what a parser took
 

@@ -1,20 +1,20 @@
 -- What is written is read back as it was. Assumes nothing.
-use Prim.Native.Nat.{ℕ, zero, suc, _+_, _-_, _*_, _≤_, _<_}
-use mathlib.Core.Bool.{Bool, true, false, not, _&&_, _||_}
+use Prim.Native.Nat.{ℕ, zero, suc, _+_, _-_, _<_}
+use mathlib.Core.Bool.{Bool, true, false, not, _||_}
 use mathlib.Core.List.{List, [], _∷_, _++_, map, append-assoc, append-nil}
-use mathlib.Core.Path.{_≡_, refl, sym, ap, subst, _∙_}
+use mathlib.Core.Path.{_≡_, refl, sym, ap, _∙_}
 use native.Mathlib.Nat.{div-add-mod'}
 use native.Mathlib.Omega.{arith}
 use borrow.Author.Tests.{lt-ltb, ltb-false, eqb-true}
 use lib.Dec.{eqb, ltb}
 use lib.IntN.{ℤ, pos, _+ℤ_, _-ℤ_, +ℤ-comm, -ℤ-+ℤ-cancel, +ℤ-negℤ-cancel}
-use lib.ListN.{length, take, drop}
+use lib.ListN.{length, take}
 use lib.Seq.{length-take-le}
-use Rattle.glyf.specs.Layout.{Glyph, glyph, Outcome, done, refused, refuse, Taken, taken, cut, next, byte, word, several, bit, isOn, flagsOf, differenceBy, differences}
-use Rattle.glyf.specs.Layout.{Parts, countOf, partsOf, sums, in16, all16, rising, glyphOf, judgedParts, headed, simpleOnly, described, wordBytes, signedBytes, joined}
-use Rattle.glyf.specs.Layout.{boxOf, steps, codeOf, codedFlags, packedFlags, bytesOf, trimmed, rowsDiffer, tooLarge, fitting, writtenOf}
+use Rattle.glyf.specs.Layout.{Glyph, done, refuse, taken, byte, several, isOn, flagsOf, differences}
+use Rattle.glyf.specs.Layout.{countOf, partsOf, sums, in16, all16, rising, described, wordBytes, signedBytes, joined}
+use Rattle.glyf.specs.Layout.{boxOf, steps, codeOf, codedFlags, packedFlags, bytesOf, trimmed, rowsDiffer, tooLarge, writtenOf}
 use Rattle.glyf.specs.Trips.{Held, asRead, WrittenReadBack}
-use Rattle.glyf.proofs.Codes.{and-left, and-right, words-back, bytes-back, difference-back, shortOf, sameOf, Says, flag-says, no-repeat}
+use Rattle.glyf.proofs.Codes.{and-left, and-right, words-back, bytes-back, difference-back, Says, flag-says, no-repeat}
 use Rattle.glyf.proofs.Unpacked.{Plain, Alike, Unpacks, flags-back}
 use Rattle.glyf.proofs.Unpacked as U
 

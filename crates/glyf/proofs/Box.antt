@@ -1,16 +1,15 @@
 -- The least and the greatest of a row bound it and stand in it: one law over an order, read twice. Assumes nothing.
-use Prim.Native.Nat.{ℕ, zero, suc, _≤_, _<_}
+use Prim.Native.Nat.{ℕ, zero, suc, _<_}
 use mathlib.Core.Bool.{Bool, true, false}
 use mathlib.Core.List.{List, [], _∷_}
-use mathlib.Core.Path.{_≡_, refl, sym, ap, _∙_}
+use mathlib.Core.Path.{_≡_, refl}
 use native.Mathlib.Omega.{arith}
 use borrow.Author.Tests.{leb-true, leb-false, le-leb}
-use lib.Dec.{leb}
 use lib.IntN.{ℤ, pos, negsuc}
 use lib.Signed.{leZ}
 use lib.ListN.{length, getD}
 use Rattle.glyf.specs.Layout.{pick, leastFrom, greatestFrom, least, greatest}
-use Rattle.glyf.specs.Trips.{Stands, Bounds, BoxBounds}
+use Rattle.glyf.specs.Trips.{Stands, BoxBounds}
 
 -- the number that is kept, going through a row by an order
 unfoldable kept : (ℤ → ℤ → Bool) → ℤ → List ℤ → ℤ

@@ -1,13 +1,13 @@
 -- What is written and read back, and what is read and written again: the statements. Proofs are in proofs/Back, Box and Again.
 use Prim.Native.Nat.{ℕ, _<_}
-use mathlib.Core.Bool.{Bool, true, false, _&&_}
+use mathlib.Core.Bool.{Bool, true, _&&_}
 use mathlib.Core.List.{List, [], _∷_, map}
 use mathlib.Core.Path.{_≡_}
 use lib.Dec.{ltb}
 use lib.IntN.{ℤ, pos}
 use lib.Signed.{leZ}
 use lib.ListN.{length, getD, drop}
-use Rattle.glyf.specs.Layout.{Glyph, glyph, Outcome, done, isOn, all16, signed, Taken, taken, next, word, several, least, greatest, boxOf}
+use Rattle.glyf.specs.Layout.{Glyph, glyph, done, isOn, all16, signed, Taken, taken, next, word, several, least, greatest, boxOf}
 use Rattle.glyf.specs.Layout.{trimmed, fitting, bytesOf, described, writtenOf}
 
 -- the coordinates are of 16 bits, as rows of i16 hold them

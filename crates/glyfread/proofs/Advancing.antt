@@ -1,8 +1,8 @@
 -- One point of a walk, and the points after it. Assumes nothing.
-use Prim.Native.Nat.{ℕ, zero, suc, _+_, _-_, _^_, _≤_, _<_}
+use Prim.Native.Nat.{ℕ, suc, _+_, _-_, _≤_, _<_}
 use mathlib.Core.Bool.{Bool, true, false, _&&_}
 use mathlib.Core.List.{List, [], _∷_}
-use mathlib.Core.Path.{_≡_, refl, sym, ap, _∙_}
+use mathlib.Core.Path.{_≡_, refl, sym, _∙_}
 use native.Mathlib.Omega.{arith}
 use native.Mathlib.Numerals.{add-one}
 use borrow.Author.Tests.{leb-true, leb-false}
@@ -10,11 +10,10 @@ use lib.Dec.{leb}
 use lib.IntN.{ℤ, pos, negℤ, _+ℤ_}
 use lib.ListN.{length, getD, drop, drop-of-length-le}
 use lib.Seq.{drop-cons}
-use lib.Signed.{mag}
 use mir.Syntax.{w16, w32}
 use mir.Val.{SFits, toZ, ofZ}
 use mir.Facts.{toZ-ofZ}
-use Rattle.glyf.specs.Layout.{bit, signed, in16, all16, Taken, taken, cut, next, byte, word, flagsOf, differenceBy, differences, sums}
+use Rattle.glyf.specs.Layout.{bit, signed, in16, all16, Taken, taken, cut, next, flagsOf, differenceBy, differences, sums}
 use Rattle.glyfread.specs.Steps.{nextFlag, deltaIf, shortAt, longAt, deltaAt, wordAt, movedIf, movedTo}
 use Rattle.glyfread.specs.Walks.{Coords, coords, upTo, ahead, fits, inFront, Advanced}
 use Rattle.glyfread.specs.declared.walk.Walk.{Walk}
@@ -23,7 +22,7 @@ use Rattle.glyfread.specs.declared.walk.Delta.{Delta}
 use Rattle.glyfread.specs.declared.walk.Delta.the-variants as D
 use Rattle.glyfread.specs.declared.walk.Moved.{Moved}
 use Rattle.glyfread.specs.declared.walk.Moved.the-variants as M
-use Rattle.glyfread.proofs.Walking.{onFlag, flag-step}
+use Rattle.glyfread.proofs.Walking.{flag-step}
 
 -- ---- a difference at a place
 

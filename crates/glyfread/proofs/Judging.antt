@@ -1,10 +1,10 @@
 -- 13 and 14 of a description that stands whole. Assumes nothing.
 use Prim.Native.Nat.{ℕ}
-use mathlib.Core.Bool.{Bool, true, false, not, _&&_, false≢true}
+use mathlib.Core.Bool.{Bool, true, false, false≢true}
 use mathlib.Core.List.{List}
-use mathlib.Core.Path.{_≡_, refl, sym, ap, _∙_}
+use mathlib.Core.Path.{_≡_, sym, ap, _∙_}
 use lib.ListN.{take, drop}
-use Rattle.glyf.specs.Layout.{Glyph, Outcome, done, refused, Taken, taken, cut, rising, described}
+use Rattle.glyf.specs.Layout.{done, refused, Taken, taken, cut, rising, described}
 use Rattle.glyfread.specs.Steps.{wordsAt}
 use Rattle.glyfread.specs.Walks.{Coords, coords, startAt, ahead, fits, xsIn, ysIn, onIn}
 use Rattle.glyfread.specs.Reads.{judgedAs, standing, pointsAt, Stands, Judged}

@@ -4,14 +4,14 @@ use mathlib.Core.Bool.{Bool, true, false, _||_}
 use mathlib.Core.List.{List}
 use mathlib.Core.Path.{_≡_, refl, sym, ap, _∙_}
 use native.Mathlib.Omega.{arith}
-use borrow.Author.Tests.{ltb-true, ltb-false}
+use borrow.Author.Tests.{ltb-false}
 use lib.Dec.{ltb}
 use lib.IntN.{ℤ}
 use lib.ListN.{length, take, drop}
-use Rattle.glyf.specs.Layout.{Glyph, glyph, Outcome, refused, refuse, done, described, Rooms, roomsOf, tooSmall, roomy, readOf, laidIn, leftBy}
+use Rattle.glyf.specs.Layout.{Glyph, glyph, Outcome, refused, refuse, done, described, roomsOf, tooSmall, roomy, readOf, laidIn, leftBy}
 use Rattle.glyfread.specs.Steps.{wordsAt}
 use Rattle.glyf.specs.Layout.{laid}
-use Rattle.glyfread.specs.Walks.{startAt, ahead, fits, xsIn, ysIn, onIn, Roomy}
+use Rattle.glyfread.specs.Walks.{startAt, ahead, xsIn, ysIn, onIn, Roomy}
 use Rattle.glyfread.specs.Reads.{pointsAt, glyphAt, Judged, lacking, answerOf}
 use Rattle.glyfread.specs.declared.read.Places.{Places}
 use Rattle.glyfread.specs.declared.walk.Walk.{Walk}

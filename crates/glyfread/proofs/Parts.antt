@@ -8,7 +8,7 @@ use native.Mathlib.Numerals.{add-one}
 use borrow.Author.Tests.{leb-true, leb-false}
 use lib.Dec.{leb}
 use lib.IntN.{ℤ, pos}
-use lib.ListN.{length, getD, take, drop, length-drop, drop-of-length-le}
+use lib.ListN.{length, getD, take, drop, drop-of-length-le}
 use lib.Seq.{drop-cons}
 use Rattle.glyf.specs.Layout.{Taken, taken, cut, next, byte, word, several, flagged, flagsOf, bit}
 use Rattle.glyf.specs.Layout.{differenceBy, differences, signed, countOf, Parts, partsOf, judgedParts, described, refused, sums}
@@ -19,7 +19,7 @@ use mathlib.Core.Bool.{false≢true}
 use lib.ListN.{length-map}
 use Rattle.glyfread.specs.declared.walk.Walk.{Walk}
 use Rattle.glyfread.specs.declared.read.Places.{Places}
-use Rattle.glyfread.specs.Reads.{Headed, standing, pointsAt, Stands}
+use Rattle.glyfread.specs.Reads.{Headed, pointsAt, Stands}
 use Rattle.glyfread.specs.declared.walk.Scan.the-variants as S
 use lib.IntN.{negℤ}
 use borrow.Author.Tests.{lt-ltb, le-ltb}

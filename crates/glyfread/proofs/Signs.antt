@@ -1,7 +1,7 @@
 -- Signed numbers at the widths of the code. Assumes nothing.
 use Prim.Native.Nat.{ℕ, zero, suc, _+_, _-_, _^_, _≤_, _<_}
 use mathlib.Core.Bool.{Bool, true, false, cond, false≢true}
-use mathlib.Core.Path.{_≡_, refl, sym, ap, subst, _∙_}
+use mathlib.Core.Path.{_≡_, refl, ap, _∙_}
 use native.Mathlib.Omega.{arith}
 use borrow.Author.Tests.{lt-ltb, le-ltb, le-leb, lt-leb, ltb-true, ltb-false}
 use lib.Dec.{ltb}
@@ -10,8 +10,8 @@ use lib.Signed.{mag, ltZ}
 use mir.Syntax.{w16, w32, w64}
 use mir.Val.{SFits, toZ, ofZ}
 use mir.Facts.{toZ-pos, toZ-ofZ, sfits-widen}
-use Rattle.glyf.specs.Layout.{signedIf, signed, in16}
-use Rattle.glyfread.specs.Steps.{movedIf, movedTo}
+use Rattle.glyf.specs.Layout.{signedIf, signed}
+use Rattle.glyfread.specs.Steps.{movedTo}
 use Rattle.glyfread.specs.declared.walk.Moved.the-variants as M
 
 -- ---- a word in two's complement

@@ -1,11 +1,11 @@
 -- A flag at a place, and the flags of the points from there on. Assumes nothing.
 use Prim.Native.Nat.{ℕ, zero, suc, _+_, _-_, _*_, _≤_, _<_}
 use mathlib.Core.Bool.{Bool, true, false}
-use mathlib.Core.List.{List, [], _∷_}
-use mathlib.Core.Path.{_≡_, refl, sym, ap, _∙_}
+use mathlib.Core.List.{List, _∷_}
+use mathlib.Core.Path.{_≡_, refl, sym, _∙_}
 use native.Mathlib.Omega.{arith}
 use native.Mathlib.Numerals.{add-one}
-use borrow.Author.Tests.{le-leb, lt-leb, leb-true, leb-false, lt-ltb, le-ltb}
+use borrow.Author.Tests.{le-leb, lt-leb, leb-true, leb-false}
 use lib.Dec.{leb}
 use lib.ListN.{length, getD, drop, length-drop, drop-of-length-le}
 use lib.Seq.{drop-cons}
@@ -15,7 +15,7 @@ use mir.Val.{toZ, ofZ}
 use mir.Facts.{toZ-ofZ}
 use Rattle.glyfread.proofs.Signs.{pos-fits, neg-fits, word-fits}
 use Rattle.glyf.specs.Layout.{bit, signed, Taken, taken, cut, next, byte, flagged, flagsOf}
-use Rattle.glyfread.specs.Steps.{flagIf, dueFlag, freshFlag, nextFlag, widthOf, widths, scanOn, scanOf, wordAt, shortAt, longAt}
+use Rattle.glyfread.specs.Steps.{flagIf, freshFlag, nextFlag, widthOf, widths, scanOn, scanOf, wordAt, shortAt, longAt}
 use Rattle.glyfread.specs.declared.walk.Flag.{Flag}
 use Rattle.glyfread.specs.declared.walk.Flag.the-variants as F
 use Rattle.glyfread.specs.declared.walk.Scan.{Scan}

@@ -1,16 +1,13 @@
 -- Words in bytes, and parts of the bytes laid at the front of a row. Assumes nothing.
 use Prim.Native.Nat.{ℕ, zero, suc, _+_, _-_, _*_, _≤_, _<_}
-use mathlib.Core.Bool.{Bool, true, false, _&&_}
-use mathlib.Core.List.{List, [], _∷_}
+use mathlib.Core.Bool.{true, false}
+use mathlib.Core.List.{List}
 use mathlib.Core.Path.{_≡_, refl, sym, ap, _∙_}
 use native.Mathlib.Omega.{arith}
-use native.Mathlib.Numerals.{add-one}
-use borrow.Author.Tests.{lt-ltb, le-ltb}
-use lib.Dec.{ltb}
 use lib.ListN.{length, getD, take, drop, length-drop, length-take}
 use native.Mathlib.Nat.{le-antisymm}
 use Rattle.rows.proofs.Filled.{Filled, filled}
-use lib.Seq.{drop-cons, getD-take, getD-drop, take-length}
+use lib.Seq.{getD-take, getD-drop, take-length}
 use Rattle.glyf.specs.Layout.{countOf, rising}
 use Rattle.glyfread.specs.Steps.{wordAt, wordsAt}
 use Rattle.glyf.specs.Layout.{laid}

@@ -1,11 +1,11 @@
 -- What the steps of reading give, over places in the bytes and in the types of the code. Definitions only.
 use Prim.Native.Nat.{ℕ, zero, suc, _+_, _-_, _*_, _≤_}
-use mathlib.Core.Bool.{Bool, true, false, _&&_}
-use mathlib.Core.List.{List, [], _∷_, _++_, map}
-use lib.Dec.{leb, ltb}
+use mathlib.Core.Bool.{Bool, true, false}
+use mathlib.Core.List.{List, [], _∷_}
+use lib.Dec.{leb}
 use lib.IntN.{ℤ, pos, negℤ}
-use lib.ListN.{length, getD, drop}
-use Rattle.glyf.specs.Layout.{bit, signed, in16, all16, Taken, taken, cut, next, flagsOf, differences, sums, isOn}
+use lib.ListN.{length, getD}
+use Rattle.glyf.specs.Layout.{bit, signed, in16, Taken, taken, cut}
 use Rattle.glyfread.specs.declared.walk.Flag.{Flag}
 use Rattle.glyfread.specs.declared.walk.Flag.the-variants as F
 use Rattle.glyfread.specs.declared.walk.Delta.{Delta}

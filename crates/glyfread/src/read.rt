@@ -13,7 +13,7 @@ ghost use mathlib.Core.Path.{_≡_};
 ghost use Prim.Native.Nat.{_+_, _*_, _<_, _≤_};
 ghost use lib.ListN.{length};
 ghost use Rattle.glyf.specs.Layout.{countOf};
-ghost use Rattle.glyfread.specs.Steps.{wordAt, wordsAt};
+ghost use Rattle.glyfread.specs.Steps.{wordsAt};
 ghost use Rattle.glyfread.specs.Reads.{Headed, Finds, Stands, Judges, lacking};
 ghost use Rattle.glyfread.specs.Entry.{filled, Promise};
 ghost use Rattle.rows.specs.Lent.{before};

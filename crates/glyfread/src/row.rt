@@ -1,9 +1,8 @@
 // Numbers in bytes: words of two, the ends of contours, and bytes copied from row to row.
 ghost use mathlib.Core.Path.{_≡_};
-ghost use mathlib.Core.List.{_++_};
 ghost use Prim.Native.Nat.{_+_, _*_, _<_, _≤_};
 ghost use lib.ListN.{length, set, take, drop};
-ghost use Rattle.glyf.specs.Layout.{bit, signed, unsigned, in16, countOf, rising};
+ghost use Rattle.glyf.specs.Layout.{bit, signed, rising};
 ghost use Rattle.glyfread.specs.Steps.{wordAt, wordsAt};
 ghost use Rattle.glyf.specs.Layout.{laid};
 ghost use mathlib.Core.Bool.{true};

@@ -2,16 +2,16 @@
 use Prim.Native.Nat.{ℕ, zero, suc, _+_, _-_, _≤_, _<_}
 use mathlib.Core.Bool.{Bool, true, false, _&&_}
 use mathlib.Core.List.{List, [], _∷_, _++_, map}
-use mathlib.Core.Path.{_≡_, refl, sym, ap, _∙_}
+use mathlib.Core.Path.{_≡_, refl, sym, _∙_}
 use native.Mathlib.Omega.{arith}
 use native.Mathlib.Numerals.{add-one}
 use borrow.Author.Tests.{eq-eqb, ne-eqb, le-leb, lt-leb}
 use lib.Dec.{leb, eqb, leb·suc-suc, leb·zero}
-use lib.IntN.{ℤ, pos, negsuc, natAbs, _-ℤ_}
+use lib.IntN.{ℤ, pos, negsuc, _-ℤ_}
 use lib.ListN.{length, getD, drop, drop-of-length-le}
 use lib.Seq.{drop-cons}
-use Rattle.glyf.specs.Layout.{bitsOf, codeOf, codeBy, Size, still, small, large, sizeIf, in16, all16, steps, joined, wordBytes}
-use Rattle.glyfwrite.specs.Differences.{differenceOf, sized, bitsIn, longBy, codedBy, codeIn, fitsBy}
+use Rattle.glyf.specs.Layout.{bitsOf, codeOf, codeBy, Size, still, small, large, sizeIf, in16, all16, steps, joined}
+use Rattle.glyfwrite.specs.Differences.{differenceOf, sized, bitsIn, codedBy, codeIn, fitsBy}
 use Rattle.glyfwrite.specs.declared.difference.Difference.{Difference}
 
 -- ---- its three sizes

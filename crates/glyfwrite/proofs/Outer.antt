@@ -2,7 +2,7 @@
 use Prim.Native.Nat.{ℕ, zero, suc, _+_, _-_, _≤_, _<_}
 use mathlib.Core.Bool.{Bool, true, false, not}
 use mathlib.Core.List.{List, [], _∷_, map}
-use mathlib.Core.Path.{_≡_, refl, sym, ap, _∙_}
+use mathlib.Core.Path.{_≡_, refl, _∙_}
 use native.Mathlib.Omega.{arith}
 use native.Mathlib.Numerals.{add-one}
 use borrow.Author.Tests.{ltb-true, ltb-false, le-leb, lt-leb}
@@ -11,7 +11,7 @@ use lib.IntN.{ℤ, pos, negsuc, _-ℤ_, +ℤ-idr}
 use lib.Signed.{ltZ, leZ}
 use lib.ListN.{length, getD, drop, drop-of-length-le}
 use lib.Seq.{drop-cons}
-use Rattle.glyf.specs.Layout.{unsigned, signedBytes, wordBytes, boxOf, least, greatest, leastFrom, greatestFrom, joined}
+use Rattle.glyf.specs.Layout.{unsigned, signedBytes, boxOf, least, greatest, leastFrom, greatestFrom, joined}
 use Rattle.glyfwrite.specs.Differences.{differenceOf, longBy}
 use Rattle.glyfwrite.specs.Outermost.{further, outermostFrom, outermost}
 use Rattle.glyfwrite.specs.Puts.{Put}

@@ -1,22 +1,22 @@
 -- Flags in runs. Assumes nothing.
-use Prim.Native.Nat.{ℕ, zero, suc, _+_, _-_, _≤_, _<_}
+use Prim.Native.Nat.{ℕ, _+_, _-_, _≤_, _<_}
 use mathlib.Core.Bool.{Bool, true, false, _&&_}
-use mathlib.Core.List.{List, [], _∷_, _++_, append-nil}
-use mathlib.Core.Path.{_≡_, refl, sym, ap, _∙_}
+use mathlib.Core.List.{List, [], _∷_, append-nil}
+use mathlib.Core.Path.{_≡_, refl, sym}
 use native.Mathlib.Omega.{arith}
 use native.Mathlib.Numerals.{add-one}
-use borrow.Author.Tests.{lt-ltb, eqb-true, ltb-true}
+use borrow.Author.Tests.{eqb-true, ltb-true}
 use lib.Dec.{eqb, ltb}
 use lib.IntN.{ℤ, pos, _-ℤ_}
 use lib.ListN.{length, getD, drop, drop-of-length-le}
 use lib.Seq.{drop-cons}
-use Rattle.glyf.specs.Layout.{runOf, packed, packedIf, packedFlags, codedFlags, steps, isOn, bitsOf}
-use Rattle.glyfwrite.specs.Differences.{differenceOf, bitsIn, flagBy}
+use Rattle.glyf.specs.Layout.{runOf, packed, packedIf, packedFlags, codedFlags, steps}
+use Rattle.glyfwrite.specs.Differences.{differenceOf, flagBy}
 use Rattle.glyfwrite.specs.Puts.{Put}
 use Rattle.glyfwrite.specs.Runs.{Turned}
 use Rattle.glyfwrite.specs.declared.difference.Difference.{Difference}
 use Rattle.glyfwrite.specs.declared.flags.Run.{Run}
-use Rattle.glyfwrite.proofs.Putting.{Going, begin, more, all, nothing}
+use Rattle.glyfwrite.proofs.Putting.{Going, more, all, nothing}
 use Rattle.glyfwrite.proofs.Coding.{same-bits}
 
 -- ---- one flag more

@@ -1,16 +1,16 @@
 -- The parts of a description put together, and rows judged. Assumes nothing.
-use Prim.Native.Nat.{ℕ, zero, suc, _+_, _-_, _≤_, _<_}
-use mathlib.Core.Bool.{Bool, true, false, not, _||_, _&&_}
+use Prim.Native.Nat.{ℕ, suc, _+_, _-_, _≤_, _<_}
+use mathlib.Core.Bool.{Bool, true, false, not, _||_}
 use mathlib.Core.List.{List, [], _∷_, _++_, append-assoc}
 use mathlib.Core.Path.{_≡_, refl, sym, ap, _∙_}
 use native.Mathlib.Nat.{zero-add}
 use native.Mathlib.Omega.{arith}
 use borrow.Author.Tests.{eq-eqb, ne-eqb, lt-ltb, le-ltb, ltb-false}
-use lib.Dec.{eqb, ltb}
+use lib.Dec.{ltb}
 use lib.IntN.{ℤ, pos}
-use lib.ListN.{length, take, drop, length-take}
+use lib.ListN.{length, take}
 use lib.Seq.{sets, sets-eq, length-take-le}
-use Rattle.glyf.specs.Layout.{Glyph, Outcome, done, refused, refuse, laid, leftBy, glyph, wordBytes, joined, bytesOf, countOf, trimmed, rising, rowsDiffer, tooLarge, fitting, writtenOf, all16, steps}
+use Rattle.glyf.specs.Layout.{Glyph, Outcome, refused, laid, leftBy, glyph, bytesOf, countOf, trimmed, rising, tooLarge, fitting, writtenOf, all16, steps}
 use Rattle.glyfwrite.specs.Puts.{Put}
 use Rattle.glyfwrite.specs.Writes.{headText, codeText, pointsText, Counted, Fine, Writes, answerOf}
 use Rattle.glyfwrite.specs.declared.write.Wrote.{Wrote}

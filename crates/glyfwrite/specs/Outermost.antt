@@ -1,7 +1,7 @@
 -- The greatest of a row or the least, by one name. Definitions only.
 use mathlib.Core.Bool.{Bool, true, false}
-use mathlib.Core.List.{List, [], _∷_}
-use lib.IntN.{ℤ, pos}
+use mathlib.Core.List.{List}
+use lib.IntN.{ℤ}
 use lib.Signed.{leZ}
 use Rattle.glyf.specs.Layout.{pick, leastFrom, greatestFrom, least, greatest}
 

@@ -5,7 +5,6 @@ use crate::put::put_word;
 ghost use mathlib.Core.Path.{_≡_};
 ghost use mathlib.Core.List.{map};
 ghost use Prim.Native.Nat.{_+_, _<_, _≤_};
-ghost use lib.ListN.{length};
 ghost use Rattle.glyf.specs.Layout.{signedBytes, boxOf, joined};
 ghost use Rattle.glyfwrite.specs.Puts.{Put};
 ghost use Rattle.glyfwrite.specs.Outermost.{further, outermost};

@@ -4,7 +4,7 @@ use crate::write::Wrote;
 use crate::write::write_glyph;
 ghost use mathlib.Core.Path.{_≡_};
 ghost use Rattle.rows.specs.Lent.{Shown};
-ghost use Rattle.glyfwrite.specs.Entry.{given, Promise};
+ghost use Rattle.glyfwrite.specs.Entry.{glyphGiven, Promise};
 ghost use Rattle.glyfwrite.specs.Exports.{report};
 
 // The number of a refusal, or 0; how many bytes were written.
@@ -35,7 +35,7 @@ pub extern "C" fn fontcrunch_write_glyph(
     instructions: &[u8],
     out: &mut [u8],
 ) -> GlyphWriteReport
-    ensures { λ r. ⌜ Shown report (Promise (given ends xs ys flags instructions) out) r ⌝ }
+    ensures { λ r. ⌜ Shown report (Promise (glyphGiven ends xs ys flags instructions) out) r ⌝ }
 {
     report_of(write_glyph(ends, xs, ys, flags, instructions, out))
 }

@@ -9,14 +9,12 @@ use crate::put::put_words;
 use glyf::count_of;
 use glyf::ends_rise;
 ghost use mathlib.Core.Path.{_≡_};
-ghost use mathlib.Core.Bool.{not};
-ghost use mathlib.Core.List.{[], map, _++_};
-ghost use Prim.Native.Nat.{_+_, _*_, _<_, _≤_};
-ghost use lib.IntN.{pos};
+ghost use mathlib.Core.List.{[]};
+ghost use Prim.Native.Nat.{_<_, _≤_};
 ghost use lib.ListN.{length};
-ghost use Rattle.glyf.specs.Layout.{glyph, wordBytes, signedBytes, boxOf, joined, packedFlags, codedFlags, steps, codeOf, tooLarge, bytesOf, fitting};
+ghost use Rattle.glyf.specs.Layout.{glyph, tooLarge, bytesOf, fitting};
 ghost use Rattle.glyfwrite.specs.Puts.{Put};
-ghost use Rattle.glyfwrite.specs.Entry.{given, Promise};
+ghost use Rattle.glyfwrite.specs.Entry.{glyphGiven, Promise};
 ghost use Rattle.glyfwrite.specs.Writes.{headText, codeText, pointsText, Counted, Judges, Writes};
 
 // How many bytes, or the number of a refusal.
@@ -151,7 +149,7 @@ pub fn write_glyph(
     instructions: &[u8],
     out: &mut [u8],
 ) -> Wrote
-    ensures { λ r. ⌜ Promise (given ends xs ys flags instructions) out r ⌝ }
+    ensures { λ r. ⌜ Promise (glyphGiven ends xs ys flags instructions) out r ⌝ }
 {
     match judge(ends, xs, ys, flags, instructions) {
         Judged::Refused(k) => Wrote::Refused(k),

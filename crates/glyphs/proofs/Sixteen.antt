@@ -2,7 +2,7 @@
 use Prim.Native.Nat.{ℕ, zero, suc, _+_, _-_, _^_, _<_}
 use native.Mathlib.Omega.{arith}
 use mathlib.Core.Bool.{Bool, true, false}
-use mathlib.Core.List.{List, [], _∷_, _++_, reverse, reverseAux}
+use mathlib.Core.List.{List, [], _∷_, _++_, reverseAux}
 use mathlib.Core.Path.{_≡_, refl, subst}
 use borrow.Author.Tests.{le-leb}
 use lib.Dec.{ltb}
@@ -15,9 +15,9 @@ use Rattle.refusals.specs.declared.Judged.{Judged}
 use Rattle.refusals.specs.declared.Judged.the-variants as Judged
 use Rattle.geometry.specs.declared.Quad as Q
 use Rattle.geometry.specs.Geometry.{isLine}
-use Rattle.corners.specs.Segments.{onAt, countOf, segAt}
-use Rattle.corners.specs.declared.Seg.{Seg}
-use Rattle.corners.specs.declared.Seg.the-variants.{Line, Quad}
+use Rattle.outline.specs.Segments.{onAt, countOf, segAt}
+use Rattle.outline.specs.declared.Seg.{Seg}
+use Rattle.outline.specs.declared.Seg.the-variants.{Line, Quad}
 use Rattle.runs.specs.Runs.{Span, between, stopsOf, isCopied}
 use Rattle.runs.specs.declared.Run.the-variants.{Between}
 use Rattle.settings.specs.Settings.{judgedFor}

@@ -13,7 +13,7 @@ use Rattle.refusals.specs.declared.Judged.{Judged}
 use Rattle.refusals.specs.declared.Judged.the-variants as Judged
 use Rattle.runs.specs.Runs.{Span, between, stopsOf, isCopied}
 use Rattle.runs.specs.declared.Run.the-variants.{Between}
-use Rattle.corners.specs.Segments.{onAt, countOf, segAt}
+use Rattle.outline.specs.Segments.{onAt, countOf, segAt}
 use Rattle.settings.specs.Settings.{thenSettings, judgedFor}
 use Rattle.settings.specs.declared.Settings.{Settings}
 use Rattle.optimize.specs.declared.Tally.{Tally}

@@ -16,7 +16,7 @@ use Rattle.settings.specs.declared.Settings.{Settings}
 use Rattle.edition.specs.Edition.{Rooms}
 use Rattle.contour.specs.Points.{Points}
 use Rattle.contour.specs.Implied.{number}
-use Rattle.contour.specs.Output.{outputs, given, column, flagOf, flags, front}
+use Rattle.contour.specs.Output.{outputs, withPoints, column, flagOf, flags, front}
 use Rattle.contour.specs.Writing.{Holds}
 use Rattle.contour.specs.Laws.{holds-count}
 use Rattle.glyf.specs.Layout.{Glyph, glyph, Outcome, done, refused, refuse, writtenOf}
@@ -54,7 +54,7 @@ first-copied : {A : Type 0} (n : ℕ) (s row : List A) {row′ : List A} → len
 first-copied n s row e h = ap (take n) h ∙ take-at s (drop (length s) row) n e
 
 module _ (row : Points) (n : ℕ) (few : n ≤ length row) (xs ys : List ℤ) (fs : List ℕ) {xs′ ys′ : List ℤ} {fs′ : List ℕ}
-    (e : outputs xs′ ys′ fs′ ≡ given (take n row) (outputs xs ys fs)) where
+    (e : outputs xs′ ys′ fs′ ≡ withPoints (take n row) (outputs xs ys fs)) where
   many : length (take n row) ≡ n
   many = length-take-le n row few
 

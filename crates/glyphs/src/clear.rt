@@ -2,7 +2,7 @@
 ghost use mathlib.Core.Path.{_≡_};
 ghost use lib.IntN.{pos};
 ghost use lib.ListN.{replicate};
-ghost use Rattle.glyf.specs.Layout.{glyph, roomsOf};
+ghost use Rattle.glyf.specs.Layout.{roomsOf};
 ghost use Rattle.rows.specs.Lent.{after, room};
 ghost use Rattle.glyfread.specs.Entry.{filled};
 ghost use Rattle.glyphs.specs.Entry.{zeroGlyph};

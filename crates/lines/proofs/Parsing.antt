@@ -1,5 +1,5 @@
 -- Points one after the other: the words of each, and the rows that hold them. Assumes nothing.
-use Prim.Native.Nat.{ℕ, zero, suc, _+_, _-_, _≤_, _<_}
+use Prim.Native.Nat.{ℕ, suc, _+_, _-_, _≤_, _<_}
 use mathlib.Core.List.{List, [], _∷_}
 use mathlib.Core.Option.{Option, none, some}
 use mathlib.Core.Path.{_≡_, refl, sym, ap, _∙_, subst}
@@ -8,7 +8,7 @@ use native.Mathlib.Numerals.{add-one}
 use borrow.Author.Tests.{le-leb, lt-leb}
 use lib.IntN.{ℤ}
 use lib.ListN.{length, take, drop, set, length-set}
-use Rattle.lines.specs.Line.{split, coordinateOf, flagOf, Point, point, inFront, pointsOf, parsedOf, laid, Leaves}
+use Rattle.lines.specs.Line.{coordinateOf, flagOf, Point, point, inFront, pointsOf, parsedOf, laid, Leaves}
 use Rattle.lines.specs.Steps.{wordsFrom, asTriple, onward, Inside}
 use Rattle.lines.specs.declared.line.Parsed.the-variants.{Points, Malformed}
 use Rattle.lines.specs.declared.line.Triple.{Triple}

@@ -3,7 +3,7 @@ use Prim.Native.Nat.{ℕ, zero, suc, _+_, _-_, _*_, _≤_, _<_, min}
 use mathlib.Core.Bool.{Bool, true, false, _&&_}
 use mathlib.Core.List.{List, [], _∷_}
 use mathlib.Core.Option.{Option, none, some, Option·map}
-use mathlib.Core.Path.{_≡_, refl, sym, ap, _∙_}
+use mathlib.Core.Path.{_≡_, refl, ap, _∙_}
 use native.Mathlib.Omega.{arith}
 use native.Mathlib.Numerals.{add-one}
 use borrow.Author.Tests.{le-leb, lt-leb, leb-true, leb-false, eq-eqb, ne-eqb}
@@ -11,7 +11,7 @@ use lib.Dec.{leb, leb·zero, leb·suc-suc}
 use lib.IntN.{ℤ, pos, natAbs}
 use lib.ListN.{length, getD, take, drop, drop-of-length-le}
 use lib.Seq.{drop-cons, take-length}
-use Rattle.lines.specs.Line.{given, isDigit, digitsOn, wholeOf, negative, only, isCoordinate, isFlag, numberOf}
+use Rattle.lines.specs.Line.{provided, isDigit, digitsOn, naturalOf, negative, only, isCoordinate, isFlag, numberOf}
 use Rattle.lines.specs.Steps.{sizeOf, asCoordinate, asFlag, coordinateIf, belowZero, fromZero, flagIf, flagUpTo}
 use Rattle.lines.specs.declared.word.Size.the-variants as S
 use Rattle.lines.specs.declared.word.Coordinate.the-variants as C
@@ -25,7 +25,7 @@ unfolding digitsOn sizeOf
 on-from [] v w e = ap S.Is e
 on-from (d ∷ ds) v w e = by (isDigit d) (on-from ds (v * 10 + (d - 48)) (w * 10 + (d - 48)) (omega arith))
   where
-    by : (t : Bool) → sizeOf (digitsOn (v * 10 + (d - 48)) ds) ≡ sizeOf (digitsOn (w * 10 + (d - 48)) ds) → sizeOf (given t (digitsOn (v * 10 + (d - 48)) ds)) ≡ sizeOf (given t (digitsOn (w * 10 + (d - 48)) ds))
+    by : (t : Bool) → sizeOf (digitsOn (v * 10 + (d - 48)) ds) ≡ sizeOf (digitsOn (w * 10 + (d - 48)) ds) → sizeOf (provided t (digitsOn (v * 10 + (d - 48)) ds)) ≡ sizeOf (provided t (digitsOn (w * 10 + (d - 48)) ds))
     by true later = later
     by false later = refl
 
@@ -47,13 +47,13 @@ module _ (ds : List ℕ) (i v : ℕ) where
   unfolding digitsOn sizeOf
   all h = rw (drop-of-length-le ds h)
 
-pub some-digits : (ds : List ℕ) → (length ds ≡ 0 → ⊥) → wholeOf ds ≡ digitsOn 0 ds
-unfolding wholeOf
+pub some-digits : (ds : List ℕ) → (length ds ≡ 0 → ⊥) → naturalOf ds ≡ digitsOn 0 ds
+unfolding naturalOf
 some-digits [] h = absurd (h refl)
 some-digits (d ∷ ds) h = refl
 
-pub no-digits : (ds : List ℕ) → length ds ≡ 0 → wholeOf ds ≡ none
-unfolding wholeOf
+pub no-digits : (ds : List ℕ) → length ds ≡ 0 → naturalOf ds ≡ none
+unfolding naturalOf
 no-digits [] h = refl
 no-digits (d ∷ ds) h = absurd (omega arith)
 
@@ -80,7 +80,7 @@ unfolding fromZero sizeOf asCoordinate
 from-zero none = refl
 from-zero (some v) = rw (cap-test v 32767 (omega arith)) (by (leb v 32767) refl)
   where
-    by : (t : Bool) → leb v 32767 ≡ t → coordinateIf t (pos (min v 4294967296)) ≡ asCoordinate (given t (some (pos v)))
+    by : (t : Bool) → leb v 32767 ≡ t → coordinateIf t (pos (min v 4294967296)) ≡ asCoordinate (provided t (some (pos v)))
     by true e = ap (λ (n : ℕ). C.Is (pos n)) (uncapped v 32767 (omega arith) e)
     by false e = refl
 
@@ -90,7 +90,7 @@ below-zero none = refl
 below-zero (some zero) = refl
 below-zero (some (suc n)) = rw (cap-test (suc n) 32768 (omega arith), leb·suc-suc n 32767) (by (leb n 32767) refl)
   where
-    by : (t : Bool) → leb n 32767 ≡ t → coordinateIf t (negative (min (suc n) 4294967296)) ≡ asCoordinate (given (t && true) (some (negative (suc n))))
+    by : (t : Bool) → leb n 32767 ≡ t → coordinateIf t (negative (min (suc n) 4294967296)) ≡ asCoordinate (provided (t && true) (some (negative (suc n))))
     by true e = ap (λ (k : ℕ). C.Is (negative k)) (uncapped (suc n) 32768 (omega arith) (leb·suc-suc n 32767 ∙ e))
     by false e = refl
 
@@ -99,7 +99,7 @@ unfolding flagUpTo sizeOf asFlag
 flag-from-zero none = refl
 flag-from-zero (some v) = rw (cap-test v 255 (omega arith), leb·zero v) (by (leb v 255) refl)
   where
-    by : (t : Bool) → leb v 255 ≡ t → flagIf t (min v 4294967296) ≡ asFlag (Option·map natAbs (given t (some (pos v))))
+    by : (t : Bool) → leb v 255 ≡ t → flagIf t (min v 4294967296) ≡ asFlag (Option·map natAbs (provided t (some (pos v))))
     by true e = ap F.Is (uncapped v 255 (omega arith) e)
     by false e = refl
 
@@ -116,14 +116,14 @@ unfolding numberOf
 empty [] h = refl
 empty (b ∷ bs) h = absurd (omega arith)
 
-pub minus : (word : List ℕ) → (length word ≡ 0 → ⊥) → getD word 0 0 ≡ 45 → numberOf word ≡ Option·map negative (wholeOf (take (length word - 1) (drop 1 word)))
+pub minus : (word : List ℕ) → (length word ≡ 0 → ⊥) → getD word 0 0 ≡ 45 → numberOf word ≡ Option·map negative (naturalOf (take (length word - 1) (drop 1 word)))
 unfolding numberOf
 minus [] h e = absurd (h refl)
 minus (b ∷ bs) h e =
     let rest : suc (length bs) - 1 ≡ length bs = omega arith in
     rw (eq-eqb b 45 e, rest, take-length bs)
 
-pub plain : (word : List ℕ) → (length word ≡ 0 → ⊥) → (getD word 0 0 ≡ 45 → ⊥) → numberOf word ≡ Option·map pos (wholeOf word)
+pub plain : (word : List ℕ) → (length word ≡ 0 → ⊥) → (getD word 0 0 ≡ 45 → ⊥) → numberOf word ≡ Option·map pos (naturalOf word)
 unfolding numberOf
 plain [] h e = absurd (h refl)
 plain (b ∷ bs) h e = rw (ne-eqb b 45 e)

@@ -11,7 +11,7 @@ use lib.Dec.{eqb, leb, ltb}
 use lib.IntN.{pos, negsuc}
 use lib.ListN.{length, take, drop, set, length-take, length-append}
 use lib.Seq.{sets, sets-eq, take-all, take-nil}
-use Rattle.lines.specs.Line.{before, split, until, upTo, given, isDigit, digitsOn, wholeOf, negative, signed, numberOf, contourOf, parsedOf}
+use Rattle.lines.specs.Line.{before, split, until, upTo, provided, isDigit, digitsOn, naturalOf, negative, signed, numberOf, contourOf, parsedOf}
 use Rattle.lines.specs.Text.{Put, lastAfter, decimalIn, decimalOf, signedOf}
 use Rattle.lines.specs.Statements.{DecimalReadBack, NumberReadBack, CutSaysTheSame, onFirst, LineGoesOn, FirstPlacesHold, TextIsWhole}
 use Rattle.lines.proofs.Texts.{sets-out}
@@ -31,7 +31,7 @@ one-more [] v w d h e =
 one-more (b ∷ ds) v w d h e = by (isDigit b) (λ l. one-more ds (v * 10 + (b - 48)) w d h l) e
   where
     by : (t : Bool) → (digitsOn (v * 10 + (b - 48)) ds ≡ some w → digitsOn (v * 10 + (b - 48)) (ds ++ ((48 + d) ∷ [])) ≡ some (w * 10 + d)) →
-        given t (digitsOn (v * 10 + (b - 48)) ds) ≡ some w → given t (digitsOn (v * 10 + (b - 48)) (ds ++ ((48 + d) ∷ []))) ≡ some (w * 10 + d)
+        provided t (digitsOn (v * 10 + (b - 48)) ds) ≡ some w → provided t (digitsOn (v * 10 + (b - 48)) (ds ++ ((48 + d) ∷ []))) ≡ some (w * 10 + d)
     by true later e = later e
     by false later e = cc
 
@@ -64,8 +64,8 @@ unfolding decimalOf
 decimal-back n = some-digits (decimalIn (suc n) n) (some-text (suc n) n (omega arith)) ∙ in-steps (suc n) n (omega arith)
 
 -- a word of digits has no sign
-unsigned : (word : List ℕ) (n : ℕ) → wholeOf word ≡ some n → numberOf word ≡ some (pos n)
-unfolding wholeOf numberOf digitsOn
+unsigned : (word : List ℕ) (n : ℕ) → naturalOf word ≡ some n → numberOf word ≡ some (pos n)
+unfolding naturalOf numberOf digitsOn
 unsigned [] n e = cc
 unsigned (b ∷ bs) n e = by (eqb b 45) refl
   where
@@ -76,7 +76,7 @@ unsigned (b ∷ bs) n e = by (eqb b 45) refl
         cc
     by false h = ap (Option·map pos) e
 
-minus : (ds : List ℕ) (n : ℕ) → wholeOf ds ≡ some (suc n) → numberOf (45 ∷ ds) ≡ some (negsuc n)
+minus : (ds : List ℕ) (n : ℕ) → naturalOf ds ≡ some (suc n) → numberOf (45 ∷ ds) ≡ some (negsuc n)
 unfolding numberOf
 minus ds n e = ap (Option·map negative) e
 
@@ -91,7 +91,7 @@ pub cut : CutSaysTheSame
 unfolding parsedOf
 cut line = by (leb (length line) 65536) refl
   where
-    by : (t : Bool) → leb (length line) 65536 ≡ t → given (leb (length (take 65537 line)) 65536) (contourOf (take 65537 line)) ≡ given t (contourOf line)
+    by : (t : Bool) → leb (length line) 65536 ≡ t → provided (leb (length (take 65537 line)) 65536) (contourOf (take 65537 line)) ≡ provided t (contourOf line)
     by true h =
         let short = leb-true (length line) 65536 h in
         rw (take-all 65537 line (omega arith), h)

@@ -36,9 +36,9 @@ upTo stop (b ∷ bs) = until (eqb b stop) b (upTo stop bs)
 
 -- ---- whole numbers
 
-abbrev pub given : {A : Type 0} → Bool → Option A → Option A
-given true o = o
-given false o = none
+abbrev pub provided : {A : Type 0} → Bool → Option A → Option A
+provided true o = o
+provided false o = none
 
 -- `0` to `9`
 abbrev pub isDigit : ℕ → Bool
@@ -47,20 +47,20 @@ isDigit b = leb 48 b && leb b 57
 -- the number that decimal digits say, after those that say v
 unfoldable pub digitsOn : ℕ → List ℕ → Option ℕ
 digitsOn v [] = some v
-digitsOn v (b ∷ bs) = given (isDigit b) (digitsOn (v * 10 + (b - 48)) bs)
+digitsOn v (b ∷ bs) = provided (isDigit b) (digitsOn (v * 10 + (b - 48)) bs)
 
 -- one digit or more; zeros in front count for nothing
-unfoldable pub wholeOf : List ℕ → Option ℕ
-wholeOf [] = none
-wholeOf (b ∷ bs) = digitsOn 0 (b ∷ bs)
+unfoldable pub naturalOf : List ℕ → Option ℕ
+naturalOf [] = none
+naturalOf (b ∷ bs) = digitsOn 0 (b ∷ bs)
 
 abbrev pub negative : ℕ → ℤ
 negative n = negℤ (pos n)
 
 -- a `-` before the digits or nothing, so that -0 is 0
 abbrev pub signed : Bool → ℕ → List ℕ → Option ℤ
-signed true b bs = Option·map negative (wholeOf bs)
-signed false b bs = Option·map pos (wholeOf (b ∷ bs))
+signed true b bs = Option·map negative (naturalOf bs)
+signed false b bs = Option·map pos (naturalOf (b ∷ bs))
 
 unfoldable pub numberOf : List ℕ → Option ℤ
 numberOf [] = none
@@ -69,7 +69,7 @@ numberOf (b ∷ bs) = signed (eqb b 45) b bs
 -- ---- points
 
 abbrev pub only : (ℤ → Bool) → Option ℤ → Option ℤ
-only test (some z) = given (test z) (some z)
+only test (some z) = provided (test z) (some z)
 only test none = none
 
 abbrev pub within : ℤ → ℤ → ℤ → Bool
@@ -120,7 +120,7 @@ contourOf (b ∷ bs) = pointsOf (split 32 (b ∷ bs))
 
 -- the points of a line, none where it is malformed; a line of more than 65,536 bytes is
 unfoldable pub parsedOf : List ℕ → Option (List Point)
-parsedOf line = given (leb (length line) 65536) (contourOf line)
+parsedOf line = provided (leb (length line) 65536) (contourOf line)
 
 -- a number of points and the rows that hold them, or a line that was malformed
 pub data Filled : Type 0 where

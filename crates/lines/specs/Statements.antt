@@ -6,12 +6,12 @@ use mathlib.Core.Path.{_≡_}
 use lib.IntN.{ℤ}
 use lib.ListN.{length, take, drop}
 use lib.Seq.{sets}
-use Rattle.lines.specs.Line.{split, upTo, wholeOf, numberOf, parsedOf}
+use Rattle.lines.specs.Line.{split, upTo, naturalOf, numberOf, parsedOf}
 use Rattle.lines.specs.Text.{Put, decimalOf, signedOf}
 
 -- a number printed and read back is that number
 abbrev pub DecimalReadBack : Type 0
-DecimalReadBack = (n : ℕ) → wholeOf (decimalOf n) ≡ some n
+DecimalReadBack = (n : ℕ) → naturalOf (decimalOf n) ≡ some n
 
 abbrev pub NumberReadBack : Type 0
 NumberReadBack = (z : ℤ) → numberOf (signedOf z) ≡ some z

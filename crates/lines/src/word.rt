@@ -2,7 +2,7 @@
 ghost use mathlib.Core.Path.{_≡_};
 ghost use Prim.Native.Nat.{_+_, _≤_, min};
 ghost use lib.ListN.{length, drop};
-ghost use Rattle.lines.specs.Line.{upTo, wholeOf, coordinateOf, flagOf};
+ghost use Rattle.lines.specs.Line.{upTo, naturalOf, coordinateOf, flagOf};
 ghost use Rattle.lines.specs.Steps.{sizeOf, asCoordinate, asFlag, belowZero, fromZero, flagUpTo};
 
 // The place of the first byte `stop` at or after `from`, the length where there is none.
@@ -35,7 +35,7 @@ fn capped(v: u64) -> u64
 }
 
 pub fn read_size(digits: &[u8]) -> Size
-    ensures { λ r. ⌜ r ≡ sizeOf (wholeOf (now (digits .entry))) ⌝ }
+    ensures { λ r. ⌜ r ≡ sizeOf (naturalOf (now (digits .entry))) ⌝ }
 {
     if digits.len() == 0 {
         return Size::Not;

@@ -1,5 +1,5 @@
 -- A place b that lies below s, by less than one unit, is s cut. Assumes nothing.
-use Prim.Native.Nat.{ℕ, _+_, _*_, _/_, _-_, _^_, _≤_, _<_, min}
+use Prim.Native.Nat.{ℕ, _+_, _*_, _/_, _-_, _^_, _<_, min}
 use mathlib.Core.Bool.{true, false, false≢true, true≢false}
 use mathlib.Core.Path.{_≡_, subst}
 use native.Mathlib.Nat.{div-eq-of-lt-le, lt-of-mul-lt-mul-right}

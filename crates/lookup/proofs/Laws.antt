@@ -8,14 +8,14 @@ use lib.ListN.{length, getD}
 use lib.Ieee.{Float, toUnsigned}
 use Rattle.float.specs.Float.{fractOf}
 use Rattle.lookup.specs.Lookup.{origin, lookedUp, spotAt, spotBetween}
-use Rattle.lookup.specs.declared.Looked.the-variants.{At, Last}
+use Rattle.lookup.specs.declared.Looked.the-variants.{At, Missing}
 
 module _ (row : List (List Float)) (s : Float) (b : ℕ) (place : b ≡ toUnsigned 64 s) where
   pub past : length row ≤ b → spotAt row s ≡ At (record { xy = origin; dir = origin })
   unfolding lookedUp
   past h = rw (← place, le-leb (length row) b h)
 
-  pub last : b < length row → length row ≤ b + 1 → spotAt row s ≡ Last
+  pub last : b < length row → length row ≤ b + 1 → spotAt row s ≡ Missing
   unfolding lookedUp
   last h g = rw (← place, lt-leb (length row) b h, le-leb (length row) (b + 1) g)
 

@@ -5,13 +5,13 @@ use mathlib.Core.List.{List, []}
 use lib.Dec.{leb}
 use lib.ListN.{length, getD}
 use lib.Ieee.{Float, nan, toUnsigned}
-use Rattle.float.specs.Numbers.{nil}
+use Rattle.float.specs.Numbers.{nought}
 use Rattle.float.specs.Float.{fractOf}
 use Rattle.geometry.specs.Geometry.{lerpOf}
 use Rattle.geometry.specs.declared.Point.{Point}
 use Rattle.lookup.specs.declared.Spot.{Spot}
 use Rattle.lookup.specs.declared.Looked.{Looked}
-use Rattle.lookup.specs.declared.Looked.the-variants.{At, Last}
+use Rattle.lookup.specs.declared.Looked.the-variants.{At, Missing}
 
 -- a point, or the refusal 8
 pub data Found : Type 0 where
@@ -27,7 +27,7 @@ abbrev pub pointBetween : ℕ → List Float → List Float → Float → Point
 pointBetween k p q u = lerpOf (pointFrom k p) (pointFrom k q) u
 
 abbrev pub origin : Point
-origin = record { x = nil; y = nil }
+origin = record { x = nought; y = nought }
 
 -- a lookup falls off at or past the row's length
 abbrev pub fell : List (List Float) → Float → Bool
@@ -50,8 +50,8 @@ dirAt row s = lookedUp 2 row s
 -- the place, then the direction
 abbrev pub both : Found → Found → Looked
 both (found p) (found d) = At (record { xy = p; dir = d })
-both (found p) refused = Last
-both refused f = Last
+both (found p) refused = Missing
+both refused f = Missing
 
 abbrev pub spotAt : List (List Float) → Float → Looked
 spotAt row s = both (xyAt row s) (dirAt row s)

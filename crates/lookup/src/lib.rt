@@ -15,7 +15,7 @@ pub struct Spot {
 pub enum Looked {
     At(Spot),
     // At the last stored place: refusal 8.
-    Last,
+    Missing,
 }
 
 // The place of a sample.
@@ -74,7 +74,7 @@ pub fn lookup(row: &[[f64; 4]], s: f64) -> Looked
         });
     }
     if row.len() - b <= 1 {
-        return Looked::Last;
+        return Looked::Missing;
     }
     Looked::At(between(row[b], row[b + 1], part(s, b)))
 }

@@ -7,7 +7,7 @@ use native.Mathlib.Numerals.{add-one}
 use native.Mathlib.Omega.{arith}
 use lib.ListN.{getD}
 use lib.Ieee.{Float, nan, binary64, add, mul}
-use Rattle.float.specs.Numbers.{nil}
+use Rattle.float.specs.Numbers.{nought}
 use Rattle.geometry.specs.declared.Quad.{Quad}
 use Rattle.arclen.specs.Rk4.{Tried, at, refused, Rates, halfOf, moved, rk4, walk}
 use Rattle.arclen.specs.Arclen.{tenth, speedOf}
@@ -21,7 +21,7 @@ use Rattle.measure.specs.Fallen.{asking, askedIn, askedAll, fallenAt, fa
 use Rattle.measure.specs.declared.MeasureFunctor.{MeasureFunctor}
 use Rattle.measure.specs.declared.Measure as M
 use Rattle.measure.specs.declared.Measured.{Measured}
-use Rattle.measure.specs.declared.Measured.the-variants.{At, Last}
+use Rattle.measure.specs.declared.Measured.the-variants.{At, Missing}
 use Rattle.measure.proofs.Laws.{paired, rates-are, part, step-flat}
 
 abbrev isAt : Tried → Bool
@@ -33,9 +33,9 @@ apart e = false≢true (ap isAt e)
 
 abbrev isMeasured : Measured → Bool
 isMeasured (At r) = true
-isMeasured Last = false
+isMeasured Missing = false
 
-never : {r : M.Measure} → Last ≡ At r → ⊥
+never : {r : M.Measure} → Missing ≡ At r → ⊥
 never e = false≢true (ap isMeasured e)
 
 -- what the four rates of a step that is not refused ask for
@@ -65,12 +65,12 @@ module _ (row : List (List Float)) (k : MeasureFunctor) (f : Rates) (vel : Float
           at-length y + (at-length (ahead (halfOf h) (vel t)) + (at-length (ahead (halfOf h) (vel m)) + (at-length (ahead h (vel m)) + 0)))
       go (At a) (At b) (At c) p q r =
           rw (p, q (add binary64 e (mul binary64 (halfOf h) (a .error))), r (add binary64 e (mul binary64 (halfOf h) (b .error))))
-      go (At a) (At b) Last p q r =
+      go (At a) (At b) Missing p q r =
           absurd (apart (sym (stops3 f h t (y ∷ e ∷ []) p (q (add binary64 e (mul binary64 (halfOf h) (a .error))))
           (r (add binary64 e (mul binary64 (halfOf h) (b .error))))) ∙ done))
-      go (At a) Last r3 p q r =
+      go (At a) Missing r3 p q r =
           absurd (apart (sym (stops2 f h t (y ∷ e ∷ []) p (q (add binary64 e (mul binary64 (halfOf h) (a .error))))) ∙ done))
-      go Last r2 r3 p q r = absurd (apart (sym (stops1 f h t (y ∷ e ∷ []) p) ∙ done))
+      go Missing r2 r3 p q r = absurd (apart (sym (stops1 f h t (y ∷ e ∷ []) p) ∙ done))
 
 module _ (row : List (List Float)) (m : MeasureFunctor) where
   among-both : (a b : List (List Float)) → fallenAmong row m (a ++ b) ≡ fallenAmong row m a + fallenAmong row m b
@@ -137,15 +137,15 @@ module _ (row : List (List Float)) (m : MeasureFunctor) where
             let both = among-both (askedIn (applyOf row m) tenth (timeAt tenth i) (lengthAt (m .af) i ∷ e ∷ []))
             (askedAll (applyOf row m) tenth d (add binary64 (timeAt tenth i) tenth) (lengthAt (m .af) (suc i) ∷ r .error ∷ [])) in
             rw (step, both) (omega arith)
-        go after Last step = absurd (apart (rw step at done))
+        go after Missing step = absurd (apart (rw step at done))
 
     pub counted : (r : M.Measure) → walkedBy row m ≡ At r → fallenBy row m ≡ fallenBelow row m stages 40
     unfolding fallenBy walkedBy lengthAt timeAt fallenBelow
-    counted r is = go (walk (applyOf row m) tenth 10 nil (nil ∷ nil ∷ [])) refl is
+    counted r is = go (walk (applyOf row m) tenth 10 nought (nought ∷ nought ∷ [])) refl is
       where
-        go : (x : Tried) → walk (applyOf row m) tenth 10 nil (nil ∷ nil ∷ []) ≡ x → errorIn x ≡ At r → fallenBy row m ≡ fallenBelow row m stages 40
+        go : (x : Tried) → walk (applyOf row m) tenth 10 nought (nought ∷ nought ∷ []) ≡ x → errorIn x ≡ At r → fallenBy row m ≡ fallenBelow row m stages 40
         go (at z) ends e =
-            let all = rest 10 0 nil z refl ends in
+            let all = rest 10 0 nought z refl ends in
             rw ends (omega arith)
         go refused ends e = absurd (never e)
 
@@ -200,12 +200,12 @@ module _ (row : List (List Float)) (m : MeasureFunctor) where
   unfolding fallenBy
   walk-most = go (walkedBy row m)
     where
-      most : fallenAmong row m (askedAll (applyOf row m) tenth 10 nil (nil ∷ nil ∷ [])) ≤ 80
-      most = all-most (applyOf row m) tenth 10 nil (nil ∷ nil ∷ [])
+      most : fallenAmong row m (askedAll (applyOf row m) tenth 10 nought (nought ∷ nought ∷ [])) ≤ 80
+      most = all-most (applyOf row m) tenth 10 nought (nought ∷ nought ∷ [])
 
-      go : (x : Measured) → unlessLast x (fallenAmong row m (askedAll (applyOf row m) tenth 10 nil (nil ∷ nil ∷ []))) ≤ 80
+      go : (x : Measured) → unlessLast x (fallenAmong row m (askedAll (applyOf row m) tenth 10 nought (nought ∷ nought ∷ []))) ≤ 80
       go (At r) = most
-      go Last = omega arith
+      go Missing = omega arith
 
 pub fallen-most : (row : List (List Float)) (s0 s1 : Float) (q : Quad) → fallenOf row s0 s1 q ≤ 80
 unfolding fallenOf

@@ -12,13 +12,13 @@ use lib.Ieee.Fits.{down-pos, add-fits}
 use lib.Ieee.Bits.{ofBits-fits}
 use lib.Ieee.Order.{round-mono, le-of-values}
 use lib.Ieee.Positive.{through}
-use Rattle.float.specs.Numbers.{nil}
+use Rattle.float.specs.Numbers.{nought}
 use Rattle.float.proofs.Zeros.{Level, one-sign, zeros, is-zero, plus-zero, plus-nan}
 use Rattle.measure.specs.Terms.{sumsOf}
-use Rattle.measure.proofs.Signs.{Plus, no-number, endless, number, plus-by, round-plus, add-plus, weight-plus, sums-plus}
+use Rattle.measure.proofs.Signs.{NotNegative, no-number, endless, number, plus-by, round-plus, add-plus, weight-plus, sums-plus}
 
 -- what is above zero is not negative
-pub above-plus : (r : Float) → lt nil r ≡ true → Plus r
+pub above-plus : (r : Float) → lt nought r ≡ true → NotNegative r
 unfolding lt ofBits
 above-plus nan h = absurd (false≢true h)
 above-plus (inf true) h = absurd (false≢true h)
@@ -46,7 +46,7 @@ none-above nan h = false≢true h
 none-above (inf t) h = false≢true h
 none-above (fin t n d) h = false≢true h
 
-le-lt : {p q : Float} (z : Float) → Plus p → Plus q → T (le p q) → lt q z ≡ true → lt p z ≡ true
+le-lt : {p q : Float} (z : Float) → NotNegative p → NotNegative q → T (le p q) → lt q z ≡ true → lt p z ≡ true
 unfolding le
 le-lt z no-number b h k = absurd h
 le-lt z endless no-number h k = absurd h
@@ -60,7 +60,7 @@ le-lt (fin true r g) (number m e) (number n d) h k = absurd (false≢true k)
 le-lt (fin false r g) (number m e) (number n d) h k =
     lt-ltb _ _ (strictly (m * up e) (n * up d) (r * up g) (down e) (down d) (down g) (down-pos e) (at-most _ _ h) (ltb-true _ _ k))
 
-rounded : (a c : ℕ) → Plus (round binary64 false a c)
+rounded : (a c : ℕ) → NotNegative (round binary64 false a c)
 rounded a c = plus-by (round binary64 false a c) (rw (round-plus binary64 false a c) tt)
 
 -- of two fractions the larger, rounded, is less than z, and so is the other
@@ -75,7 +75,7 @@ wider k f m e n d h =
     let right : (k * d + n * f) * (f * e) ≡ k * e * (f * d) + n * e * (f * f) = add-mul (k * d) (n * f) (f * e) ∙ simp (mul-assoc, mul-comm, mul-left-comm) in
     rw (left, right) (add-le-add (le-refl _) (mul-le-mul-right (f * f) h))
 
-pub adding : {x p q : Float} (z : Float) → Plus x → Plus p → Plus q → T (le p q) → lt (add binary64 x q) z ≡ true → lt (add binary64 x p) z ≡ true
+pub adding : {x p q : Float} (z : Float) → NotNegative x → NotNegative p → NotNegative q → T (le p q) → lt (add binary64 x q) z ≡ true → lt (add binary64 x p) z ≡ true
 unfolding add sum le
 adding z no-number b c h k = k
 adding z endless no-number c h k = absurd h
@@ -105,7 +105,7 @@ grows a b e d =
     let more : a * d ≤ a * d + b = omega arith in
     rw (same, mul-one, turned) (mul-le-mul-right e more)
 
-level-le : {p q r : Float} → Level p q → Plus q → Plus r → T (le p r) → T (le q r)
+level-le : {p q r : Float} → Level p q → NotNegative q → NotNegative r → T (le p r) → T (le q r)
 unfolding le
 level-le (one-sign false a b e d same) (number _ _) no-number h = absurd h
 level-le (one-sign false a b e d same) (number _ _) endless h = tt
@@ -129,7 +129,7 @@ unfolding lt
 nan-lost x z k = false≢true (rw (plus-nan x) at k)
 
 -- where x + (e + w) is less than z, so is x + e
-climb : {x e w : Float} (z : Float) → Plus x → Plus e → T (fits binary64 e) → Plus w → lt (add binary64 x (add binary64 e w)) z ≡ true →
+climb : {x e w : Float} (z : Float) → NotNegative x → NotNegative e → T (fits binary64 e) → NotNegative w → lt (add binary64 x (add binary64 e w)) z ≡ true →
     lt (add binary64 x e) z ≡ true
 unfolding add le
 climb z a no-number f c k = k
@@ -146,7 +146,7 @@ unfolding sumsOf
 sums-fit g zero = ofBits-fits binary64 _
 sums-fit g (suc i) = add-fits binary64 _ _
 
-once : (g : ℕ → Float) (i : ℕ) {x : Float} (z : Float) → ((k : ℕ) → k < 4 * suc i → Plus (g k)) → Plus x →
+once : (g : ℕ → Float) (i : ℕ) {x : Float} (z : Float) → ((k : ℕ) → k < 4 * suc i → NotNegative (g k)) → NotNegative x →
     lt (add binary64 x (sumsOf g (suc i))) z ≡ true → lt (add binary64 x (sumsOf g i)) z ≡ true
 unfolding sumsOf
 once g i z all p k =
@@ -154,7 +154,7 @@ once g i z all p k =
     (weight-plus (all (4 * i) (omega arith)) (all (4 * i + 1) (omega arith)) (all (4 * i + 2) (omega arith)) (all (4 * i + 3) (omega arith))) k
 
 -- where the score with i + d steps is less than z, so is the one with i steps
-pub sums-climb : (g : ℕ → Float) (i d : ℕ) {x : Float} (z : Float) → ((k : ℕ) → k < 4 * (i + d) → Plus (g k)) → Plus x →
+pub sums-climb : (g : ℕ → Float) (i d : ℕ) {x : Float} (z : Float) → ((k : ℕ) → k < 4 * (i + d) → NotNegative (g k)) → NotNegative x →
     lt (add binary64 x (sumsOf g (i + d))) z ≡ true → lt (add binary64 x (sumsOf g i)) z ≡ true
 sums-climb g i zero z all p k =
     let none : i + 0 ≡ i = omega arith in

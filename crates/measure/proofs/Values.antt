@@ -6,7 +6,7 @@ use Prim.Native.Nat.{ℕ}
 use lib.ListN.{take}
 use lib.Ieee as Ieee
 use lib.Ieee.{Float, binary64, round, ofBits}
-use Rattle.float.specs.Numbers.{nil, one, four}
+use Rattle.float.specs.Numbers.{nought, one, four}
 use Rattle.float.specs.Float.{absOf, tiny, closeTo, wholeBy, rootDown, rootNear, rootUnits, rootOf}
 use Rattle.float.specs.Decimals.{Decimal, decimal, value, nearest}
 use Rattle.geometry.specs.declared.Point.{Point}
@@ -16,7 +16,7 @@ use Rattle.arclen.specs.Arclen.{arclenFunctorOf, derivOf, speedOf, arclenOf}
 use Rattle.lookup.specs.Lookup.{lookedUp}
 use Rattle.measure.specs.Measure.{distFactor, angleFactor, errorOf, applyOf, stretchOf, walkedBy, measureOf}
 use Rattle.measure.specs.Terms.{measured}
-use Rattle.measure.specs.declared.Measured.the-variants.{Last}
+use Rattle.measure.specs.declared.Measured.the-variants.{Missing}
 
 -- n / d, rounded
 abbrev num : ℕ → ℕ → Float
@@ -35,12 +35,12 @@ whole a b = record { x = num a 1; y = num b 1 }
 
 -- six samples along the x axis, and a quad that rises above them and comes back
 abbrev samples : List (List Float)
-samples = map (λ n. num n 1 ∷ nil ∷ one ∷ nil ∷ []) (0 ∷ 1 ∷ 2 ∷ 3 ∷ 4 ∷ 5 ∷ [])
+samples = map (λ n. num n 1 ∷ nought ∷ one ∷ nought ∷ []) (0 ∷ 1 ∷ 2 ∷ 3 ∷ 4 ∷ 5 ∷ [])
 
 abbrev arch : Quad
 arch = record { p0 = whole 0 0; p1 = whole 2 1; p2 = whole 4 0 }
 
 -- against all six 1.5588225325488967; against the first four the work meets the last stored place
-errors : measureOf samples nil four arch ∷ measureOf (take 4 samples) nil four arch ∷ [] ≡ measured (ofBits binary64 0x3ff8_f0ef_e559_0be8) ∷ Last ∷ []
+errors : measureOf samples nought four arch ∷ measureOf (take 4 samples) nought four arch ∷ [] ≡ measured (ofBits binary64 0x3ff8_f0ef_e559_0be8) ∷ Missing ∷ []
 unfolding closeTo tiny absOf wholeBy moved grownAll rk4 walk arclenFunctorOf derivOf speedOf arclenOf lookedUp errorOf applyOf stretchOf walkedBy measureOf rootOf rootUnits rootNear rootDown Ieee.ofBits Ieee.round Ieee.size Ieee.add Ieee.sub Ieee.mul Ieee.div Ieee.lt Ieee.toUnsigned
 errors = refl

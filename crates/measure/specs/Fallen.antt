@@ -6,7 +6,7 @@ use mathlib.Core.Path.{_≡_}
 use mathlib.Core.List.{List, [], _∷_, _++_}
 use lib.ListN.{getD}
 use lib.Ieee.{Float, nan, binary64, add}
-use Rattle.float.specs.Numbers.{nil}
+use Rattle.float.specs.Numbers.{nought}
 use Rattle.geometry.specs.declared.Quad.{Quad}
 use Rattle.arclen.specs.Rk4.{Tried, at, refused, Rates, halfOf, moved, rk4}
 use Rattle.arclen.specs.Arclen.{tenth}
@@ -14,7 +14,7 @@ use Rattle.lookup.specs.Lookup.{fell}
 use Rattle.measure.specs.Measure.{alongSamples, applyOf, walkedBy, measureFunctorOf, measureOf}
 use Rattle.measure.specs.declared.MeasureFunctor.{MeasureFunctor}
 use Rattle.measure.specs.declared.Measured.{Measured}
-use Rattle.measure.specs.declared.Measured.the-variants.{At, Last}
+use Rattle.measure.specs.declared.Measured.the-variants.{At, Missing}
 use Rattle.measure.specs.declared.Counted.{Counted}
 use Rattle.measure.specs.declared.Counted.the-variants as Counting
 
@@ -50,10 +50,10 @@ fallenAmong row m (y ∷ ys) = fallenAt row m (getD y 0 nan) + fallenAmong row m
 -- a refused measure has none
 abbrev pub unlessLast : Measured → ℕ → ℕ
 unlessLast (At m) n = n
-unlessLast Last n = 0
+unlessLast Missing n = 0
 
 unfoldable pub fallenBy : List (List Float) → MeasureFunctor → ℕ
-fallenBy row m = unlessLast (walkedBy row m) (fallenAmong row m (askedAll (applyOf row m) tenth 10 nil (nil ∷ nil ∷ [])))
+fallenBy row m = unlessLast (walkedBy row m) (fallenAmong row m (askedAll (applyOf row m) tenth 10 nought (nought ∷ nought ∷ [])))
 
 unfoldable pub fallenOf : List (List Float) → Float → Float → Quad → ℕ
 fallenOf row s0 s1 q = fallenBy row (measureFunctorOf s0 s1 q)
@@ -67,4 +67,4 @@ fallenBelow row m stages (suc k) = fallenBelow row m stages k + fallenAt row m (
 -- what is told of the measure x and the number n
 abbrev pub Counts : Measured → ℕ → Counted → Type 0
 Counts x n (Counting.At m k) = (x ≡ At m) × (k ≡ n)
-Counts x n Counting.Last = x ≡ Last
+Counts x n Counting.Missing = x ≡ Missing

@@ -4,7 +4,7 @@ use mathlib.Core.Bool.{cond}
 use mathlib.Core.List.{List, [], _∷_}
 use lib.ListN.{getD}
 use lib.Ieee.{Float, nan, binary64, add, sub, mul, div, ofBits}
-use Rattle.float.specs.Numbers.{nil, five}
+use Rattle.float.specs.Numbers.{nought, five}
 use Rattle.float.specs.Float.{closeTo}
 use Rattle.geometry.specs.Geometry.{squareDistanceOf, pointAtT}
 use Rattle.geometry.specs.declared.Point.{Point}
@@ -15,7 +15,7 @@ use Rattle.lookup.specs.Lookup as Lookup
 use Rattle.lookup.specs.Lookup.{Found, found, xyAt, dirAt}
 use Rattle.measure.specs.declared.MeasureFunctor.{MeasureFunctor}
 use Rattle.measure.specs.declared.Measured.{Measured}
-use Rattle.measure.specs.declared.Measured.the-variants.{At, Last}
+use Rattle.measure.specs.declared.Measured.the-variants.{At, Missing}
 
 -- DIST_FACTOR, 0.005
 abbrev pub distFactor : Float
@@ -58,7 +58,7 @@ applyOf row m t y =
 
 -- how far along the samples a unit of the quad's length l leads: nowhere where l is close to 0
 unfoldable pub stretchOf : Float → Float → Float → Float
-stretchOf s0 s1 l = cond (closeTo l nil) nil (div binary64 (sub binary64 s1 s0) l)
+stretchOf s0 s1 l = cond (closeTo l nought) nought (div binary64 (sub binary64 s1 s0) l)
 
 abbrev pub measureFunctorOf : Float → Float → Quad → MeasureFunctor
 measureFunctorOf s0 s1 q = record { s0 = s0; ss = stretchOf s0 s1 (arclenOf q); af = arclenFunctorOf q; q = q }
@@ -66,10 +66,10 @@ measureFunctorOf s0 s1 q = record { s0 = s0; ss = stretchOf s0 s1 (arclenOf q); 
 -- the second value
 abbrev pub errorIn : Tried → Measured
 errorIn (at y) = At (record { error = getD y 1 nan })
-errorIn refused = Last
+errorIn refused = Missing
 
 unfoldable pub walkedBy : List (List Float) → MeasureFunctor → Measured
-walkedBy row m = errorIn (walk (applyOf row m) tenth 10 nil (nil ∷ nil ∷ []))
+walkedBy row m = errorIn (walk (applyOf row m) tenth 10 nought (nought ∷ nought ∷ []))
 
 unfoldable pub measureOf : List (List Float) → Float → Float → Quad → Measured
 measureOf row s0 s1 q = walkedBy row (measureFunctorOf s0 s1 q)

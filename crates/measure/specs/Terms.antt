@@ -6,7 +6,7 @@ use mathlib.Core.Bool.{Bool, true, false}
 use mathlib.Core.List.{List, []}
 use lib.ListN.{getD}
 use lib.Ieee.{Float, nan, lt}
-use Rattle.float.specs.Numbers.{nil}
+use Rattle.float.specs.Numbers.{nought}
 use Rattle.geometry.specs.Geometry.{pointAtT}
 use Rattle.geometry.specs.declared.Point.{Point}
 use Rattle.geometry.specs.declared.Quad.{Quad}
@@ -21,14 +21,14 @@ use Rattle.measure.specs.Measure.{errorOf, alongSamples, walkedBy}
 use Rattle.measure.specs.declared.Node.{Node}
 use Rattle.measure.specs.declared.MeasureFunctor.{MeasureFunctor}
 use Rattle.measure.specs.declared.Measured.{Measured}
-use Rattle.measure.specs.declared.Measured.the-variants.{At, Last}
+use Rattle.measure.specs.declared.Measured.the-variants.{At, Missing}
 
 abbrev pub measured : Float → Measured
 measured e = At (record { error = e })
 
 abbrev pub errorAt : Float → Point → Point → Looked → Measured
 errorAt v d p (Looking.At c) = measured (errorOf v d p (c .xy) (c .dir))
-errorAt v d p Looking.Last = Last
+errorAt v d p Looking.Missing = Missing
 
 -- the term of a stage: at the time t, with the speed v and the length y
 unfoldable pub termOf : List (List Float) → MeasureFunctor → Float → Float → Float → Measured
@@ -52,7 +52,7 @@ termIn af q stages seen k = rateAt (nodeOf af q (getD (getD stages k []) 0 nan))
 
 -- the error at the start of the step i, from the terms, four to a step
 unfoldable pub sumsOf : (ℕ → Float) → ℕ → Float
-sumsOf g zero = nil
+sumsOf g zero = nought
 sumsOf g (suc i) = grownBy tenth (sumsOf g i) (g (4 * i)) (g (4 * i + 1)) (g (4 * i + 2)) (g (4 * i + 3))
 
 -- what is seen at the stages below k is written
@@ -62,7 +62,7 @@ pub record Seen (row : List (List Float)) (m : MeasureFunctor) (stages seen : Li
 -- all of it is written, or the work is refused
 abbrev pub Looks : List (List Float) → MeasureFunctor → List (List Float) → List (List Float) → Bool → Type 0
 Looks row m stages seen true = Seen row m stages seen 40
-Looks row m stages seen false = Last ≡ walkedBy row m
+Looks row m stages seen false = Missing ≡ walkedBy row m
 
 -- the stages below k lie before the length `end` along the samples
 pub record Before (m : MeasureFunctor) (stages : List (List Float)) (end : Float) (k : ℕ) : Type 0 where

@@ -1,27 +1,28 @@
 -- One attempt: the rows stand for the states that it makes. Assumes nothing.
-use Prim.Native.Nat.{ℕ, zero, suc, _+_, _*_, _-_, _/_, _%_, _≤_, _<_}
+use Prim.Native.Nat.{ℕ, zero, suc, _+_, _*_, _-_, _/_, _≤_, _<_}
 use native.Mathlib.Nat.{lt-of-not-le}
 use native.Mathlib.Omega.{arith}
 use mathlib.Core.Bool.{Bool, true, false}
-use mathlib.Core.List.{List, []}
+use mathlib.Core.List.{List}
 use mathlib.Core.Path.{_≡_, refl, sym, ap, subst, _∙_}
 use borrow.Author.Tests.{eq-eqb, ne-eqb, eqb-true, eqb-false}
 use lib.Dec.{eqb}
 use lib.ListN.{length, getD, set, length-set}
-use lib.Seq.{lt-length-set, getD-set-same, getD-set-other}
-use lib.Ieee.{Float, nan, lt}
+use lib.Seq.{getD-set-same, getD-set-other}
+use lib.Ieee.{Float}
 use Rattle.geometry.specs.declared.Quad.{Quad}
 use Rattle.breaks.specs.Breaks.{Row, breakAt}
-use Rattle.optimize.specs.declared.answer.Answer as A
-use Rattle.optimize.specs.Answers.{Piece, Answer, first, on, scoreOf, pieceOf, Best, none, best, smoothAfter, okForHalf, totalOf, isLess, builtOn, mayBuild, combined}
+use Rattle.attempt.specs.declared.answer.Answer as A
+use Rattle.attempt.specs.Answers.{Leg, Statelet, first, on, scoreOf, legOf, Best, none, best, okForHalf, totalOf, isLess, builtOn, mayBuild, combined}
 use Rattle.optimize.specs.Optimize.{bestAt}
-use Rattle.optimize.specs.Stored.{bestIf, bestOf, newAnswer, combineOf, fromBreak, slotAt, scoreIn, quadIn, pieceIn, loaded, standingAt, rowOf, Inside, Holds, Stands, lacks, has, Phase, early, late, Uses, Fresh, Newest, Rep, Room, Into}
+use Rattle.attempt.specs.Value.{bestOf, newAnswer, combineOf}
+use Rattle.optimize.specs.Stored.{fromBreak, slotAt, quadIn, loaded, standingAt, rowOf, Inside, Holds, Stands, lacks, has, Phase, early, late, Uses, Fresh, Newest, Rep, Room, Into}
 use Rattle.optimize.proofs.Held.{from-nothing, slot-early, slot-late, slot-most, slot-break, linked, scored, pieced, names, wider, kept, new-start, new-on, copied}
 
 -- ---- what is known of the answer that stands at a break
 
 -- of an answer only its quad and its score are looked at
-module _ (a : Answer) (q₀ : Quad) (s₀ : Float) (quad : q₀ ≡ pieceOf a .quad) (score : s₀ ≡ scoreOf a) where
+module _ (a : Statelet) (q₀ : Quad) (s₀ : Float) (quad : q₀ ≡ legOf a .quad) (score : s₀ ≡ scoreOf a) where
   total-like : (q : Quad) (m penalty : Float) → totalOf (best (first (record { from = 0; to = 0; quad = q₀ }) s₀)) q m penalty ≡ totalOf (best a) q m penalty
   total-like q m penalty = rw (quad, score) refl
 
@@ -31,9 +32,9 @@ module _ (a : Answer) (q₀ : Quad) (s₀ : Float) (quad : q₀ ≡ pieceOf a .q
   less-like : (s : Float) → isLess s (best (first (record { from = 0; to = 0; quad = q₀ }) s₀)) ≡ isLess s (best a)
   less-like s = rw score refl
 
-module _ {P : ℕ → Type 0} {bs : Row} {rs : List (List Float)} {ls : List ℕ} {k : ℕ} {a : Answer} (h : Holds P bs rs ls k a) where
-  quad-held : quadIn bs rs k (getD ls k 0) ≡ pieceOf a .quad
-  quad-held = ap (λ (p : Piece). p .quad) (pieced h)
+module _ {P : ℕ → Type 0} {bs : Row} {rs : List (List Float)} {ls : List ℕ} {k : ℕ} {a : Statelet} (h : Holds P bs rs ls k a) where
+  quad-held : quadIn bs rs k (getD ls k 0) ≡ legOf a .quad
+  quad-held = ap (λ (p : Leg). p .quad) (pieced h)
 
   some : eqb (getD ls k 0) 0 ≡ false
   some = ne-eqb _ _ (linked h)
@@ -72,7 +73,7 @@ module _ {P : ℕ → Type 0} {bs : Row} {rs : List (List Float)} {ls : List ℕ
 pub data Previous (P : ℕ → Type 0) (bs : Row) (rs : List (List Float)) (ls : List ℕ) (i : ℕ) : Best → Type 0 where
   nothing : standingAt bs rs ls i .name ≡ 0 → mayBuild i none ≡ false → Previous P bs rs ls i none
   start : standingAt bs rs ls i .name ≡ 1 → i ≡ 0 → mayBuild i none ≡ true → Previous P bs rs ls i none
-  answer : {a : Answer} → standingAt bs rs ls i .name ≡ slotAt ls i + 2 → Holds P bs rs ls (slotAt ls i) a → Previous P bs rs ls i (best a)
+  answer : {a : Statelet} → standingAt bs rs ls i .name ≡ slotAt ls i + 2 → Holds P bs rs ls (slotAt ls i) a → Previous P bs rs ls i (best a)
 
 previous : {P : ℕ → Type 0} {bs : Row} {rs : List (List Float)} {ls : List ℕ} (i : ℕ) {t : Best} → Stands P bs rs ls i t → Previous P bs rs ls i t
 unfolding standingAt
@@ -96,7 +97,7 @@ module _ (old prev : A.Answer) (m : Float) (q : Quad) (penalty : Float) where
     unfolding combineOf
     combine-old e = rw (ne-eqb _ _ some, e) refl
 
-module _ (old prev : Best) (p : Piece) (m penalty : Float) where
+module _ (old prev : Best) (p : Leg) (m penalty : Float) where
   combined-nothing : mayBuild (p .from) prev ≡ false → combined old prev p m penalty ≡ old
   unfolding combined
   combined-nothing e = rw e refl
@@ -202,7 +203,7 @@ module _ {f : Phase} {n : ℕ} {ls : List ℕ} {i j k : ℕ} (into : Into f n i 
 
     -- a new answer stands
     module _ (q : Quad) (begins : q .p0 ≡ breakAt bs i .xy) (ends : q .p2 ≡ breakAt bs j .xy) (x : A.Answer) (is : q ≡ x .quad) where
-      abbrev piece : Piece
+      abbrev piece : Leg
       piece = record { from = i; to = j; quad = q }
 
       starts-run : {s : Float} → x .score ≡ s → x .link ≡ 1 → i ≡ 0 → Stands (Uses f n j) bs (set rs k (rowOf x)) (set ls k (x .link)) j (best (first piece s))
@@ -211,7 +212,7 @@ module _ {f : Phase} {n : ℕ} {ls : List ℕ} {i j k : ℕ} (into : Into f n i 
           (rw (slot-this (x .link) in-ls (λ z. omega arith), ← score)
           (new-start (Uses f n j) bs rs ls k x (into .own) in-rs in-ls piece e zero' (sym k-break) begins ends is))
 
-      goes-on : {s : Float} {a : Answer} → x .score ≡ s → x .link ≡ slotAt ls i + 2 → 0 < i → Holds (Uses f n i) bs rs ls (slotAt ls i) a →
+      goes-on : {s : Float} {a : Statelet} → x .score ≡ s → x .link ≡ slotAt ls i + 2 → 0 < i → Holds (Uses f n i) bs rs ls (slotAt ls i) a →
           Stands (Uses f n j) bs (set rs k (rowOf x)) (set ls k (x .link)) j (best (on a piece s))
       goes-on {s} {a} score e some h =
           has {a = on a piece s}
@@ -227,7 +228,7 @@ module _ {f : Phase} {n : ℕ} {ls : List ℕ} {i j k : ℕ} (into : Into f n i 
       abbrev prev : A.Answer
       prev = standingAt bs rs ls i
 
-      abbrev tried : Piece
+      abbrev tried : Leg
       tried = record { from = i; to = j; quad = q }
 
       abbrev Now : A.Answer → Best → Type 0
@@ -255,7 +256,7 @@ module _ {f : Phase} {n : ℕ} {ls : List ℕ} {i j k : ℕ} (into : Into f n i 
           go bare total (start e z may) = decide none (isLess (totalOf none q m penalty) t) refl total (λ w. omega arith) may (starts-run q begins ends fresh refl total e z)
           go bare total (answer {a} e h) = decide (best a) (isLess (totalOf (best a) q m penalty) t) refl total (λ w. omega arith) refl (goes-on q begins ends fresh refl total e (positive a bare) h)
             where
-              positive : (a : Answer) → (i ≡ 0 → best a ≡ none) → 0 < i
+              positive : (a : Statelet) → (i ≡ 0 → best a ≡ none) → 0 < i
               positive a bare = lt-of-not-le (λ g. let z : _≡_ {A = ℕ} 0 1 = cc (bare (omega arith)) in omega arith)
 
 -- the rows after an attempt stand for the states after it

@@ -82,9 +82,9 @@ not-below true true a b h = ltb-false b a h
 
 -- ---- through a third
 
-nought : (a d : ℕ) → 0 < d → a * d ≡ 0 → a ≡ 0
-nought zero d p e = refl
-nought (suc a) d p e = absurd (omega (arith, mul-pos (zero-lt-suc a) p))
+none-left : (a d : ℕ) → 0 < d → a * d ≡ 0 → a ≡ 0
+none-left zero d p e = refl
+none-left (suc a) d p e = absurd (omega (arith, mul-pos (zero-lt-suc a) p))
 
 none : {a : ℕ} (d : ℕ) → a ≡ 0 → a * d ≡ 0
 none d e = rw e (omega arith)
@@ -93,15 +93,15 @@ module _ (x y z p q r : ℕ) (P : 0 < p) (Q : 0 < q) (R : 0 < r) where
   over : (s t u : Bool) → Le s (x * q) t (y * p) → Le t (y * r) u (z * q) → Le s (x * r) u (z * p)
   over false false false h k = through x y z p q r Q h k
   over false false true h k =
-      let y0 = nought y r R (k .0) in
-      let x0 = nought x q Q (omega (arith, none p y0)) in
-      (none r x0, none p (nought z q Q (k .1)))
-  over false true false h k = omega (arith, none r (nought x q Q (h .0)))
+      let y0 = none-left y r R (k .0) in
+      let x0 = none-left x q Q (omega (arith, none p y0)) in
+      (none r x0, none p (none-left z q Q (k .1)))
+  over false true false h k = omega (arith, none r (none-left x q Q (h .0)))
   over false true true h k =
-      let y0 = nought y p P (h .1) in
-      (none r (nought x q Q (h .0)), none p (nought z q Q (omega (arith, none r y0))))
+      let y0 = none-left y p P (h .1) in
+      (none r (none-left x q Q (h .0)), none p (none-left z q Q (omega (arith, none r y0))))
   over true false false h k = tt
-  over true false true h k = omega (arith, none p (nought z q Q (k .1)))
+  over true false true h k = omega (arith, none p (none-left z q Q (k .1)))
   over true true false h k = tt
   over true true true h k = through z y x r q p Q k h
 

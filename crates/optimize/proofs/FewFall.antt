@@ -1,5 +1,5 @@
 -- In a run of at most 2,048 breaks few lookups fall. Assumes nothing.
-use Prim.Native.Nat.{ℕ, _+_, _*_, _-_, _≤_, _<_}
+use Prim.Native.Nat.{ℕ, _+_, _*_, _-_, _≤_}
 use native.Mathlib.Omega.{arith}
 use mathlib.Core.Bool.{Bool, true, false}
 use mathlib.Core.List.{List}
@@ -7,7 +7,7 @@ use lib.Ieee.{Float, binary64, mul, lt}
 use lib.ListN.{length, replicate}
 use Rattle.float.specs.Numbers.{three, four}
 use Rattle.breaks.specs.Breaks.{Row}
-use Rattle.optimize.specs.Answers.{Best, none, best, scoreOf}
+use Rattle.attempt.specs.Answers.{Best, none, best, scoreOf}
 use Rattle.optimize.specs.Optimize.{Measure, measureBy, bestAt, States, refused, states, tryLineQuad, tryAll, splits, search}
 use Rattle.optimize.specs.Laws.{all-few}
 use Rattle.optimize.specs.Fallen.{Fallen, fallenBetween, fellAll, fellNext, fellGoingOn, fellAfterSplits, fellAfterFirst, fellOf, FewFall}

@@ -1,12 +1,12 @@
 -- Rows with no answer yet. Assumes nothing.
-use Prim.Native.Nat.{ℕ, zero, _+_, _*_, _≤_, _<_}
+use Prim.Native.Nat.{ℕ, zero, _+_, _*_, _<_}
 use native.Mathlib.Omega.{arith}
 use mathlib.Core.List.{List, _++_}
-use mathlib.Core.Path.{_≡_, refl, _∙_}
+use mathlib.Core.Path.{_≡_, _∙_}
 use lib.ListN.{length, getD, drop, replicate, length-replicate, getD-replicate, List·getD-append}
 use lib.Ieee.{Float}
 use Rattle.breaks.specs.Breaks.{Row}
-use Rattle.optimize.specs.Answers.{Best, none}
+use Rattle.attempt.specs.Answers.{none}
 use Rattle.optimize.specs.Stored.{slotAt, lacks, early, Rep}
 use Rattle.optimize.proofs.Held.{slot-most}
 

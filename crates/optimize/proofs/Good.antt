@@ -18,7 +18,7 @@ use Rattle.geometry.specs.declared.Crossing.the-variants as Crossing
 use Rattle.measure.specs.declared.Measured.{Measured}
 use Rattle.measure.specs.declared.Measured.the-variants as Measured
 use Rattle.breaks.specs.Breaks.{Row, breakAt}
-use Rattle.optimize.specs.Answers.{Piece, Answer, scoreOf, Best, none, best, okForHalf, mayBuild, totalOf, builtOn, isLess, replacedIf, combinedIf, combined}
+use Rattle.attempt.specs.Answers.{Leg, Statelet, scoreOf, Best, none, best, okForHalf, mayBuild, totalOf, builtOn, isLess, replacedIf, combinedIf, combined}
 use Rattle.optimize.specs.Optimize.{Measure, bestAt, States, refused, states, xy, measured, tryQuad, tryIf, straight, bentQuad, bentAt, bent, thenBent, tryLineQuad, onward, tryAll, splits, search, Optimised, refused8, unchanged, solved, ended, chosenIf, goOn, searched, splitted, tried, lastBreak, optimizeOf}
 use Rattle.optimize.specs.Trace.{Attempt, scoredIf, scored, scoredWhere, straightly, bentlyAt, bently, bentlyAfter, pairTried, pairAfter, allTried, nextIf, goingOn, afterSplits, afterFirst, traceOf, intoIf, scoresInto, lastScores, AtMost, no-more, and-also, Among, now, later, Least, HowGood}
 use Rattle.optimize.proofs.Compare.{le-self, le-through, lt-le, lt-number, not-lt-le}
@@ -27,7 +27,7 @@ use Rattle.optimize.proofs.Compare.{le-self, le-through, lt-le, lt-numb
 
 pub data Good : List Float → Best → Type 0 where
   nothing : Good [] none
-  stands : {s : Float} {ss : List Float} {a : Answer} → (isNan s ≡ false → (isNan (scoreOf a) ≡ false) × AtMost (scoreOf a) (s ∷ ss)) → Among (scoreOf a) (s ∷ ss) → Good (s ∷ ss) (best a)
+  stands : {s : Float} {ss : List Float} {a : Statelet} → (isNan s ≡ false → (isNan (scoreOf a) ≡ false) × AtMost (scoreOf a) (s ∷ ss)) → Among (scoreOf a) (s ∷ ss) → Good (s ∷ ss) (best a)
 
 -- a lower score
 lower : {s t : Float} {ss : List Float} → T (le s t) → AtMost t ss → AtMost s ss
@@ -46,16 +46,16 @@ still : {s : Float} {ss : List Float} (t : Float) → Among s ss → Among s (ss
 still t now = now
 still t (later h) = later (still t h)
 
-built-score : (previous : Best) (p : Piece) (s : Float) → scoreOf (builtOn previous p s) ≡ s
+built-score : (previous : Best) (p : Leg) (s : Float) → scoreOf (builtOn previous p s) ≡ s
 built-score none p s = refl
 built-score (best a) p s = refl
 
 -- one attempt more, with the score t
-module _ (previous : Best) (p : Piece) (t : Float) where
+module _ (previous : Best) (p : Leg) (t : Float) where
   first-good : Good (t ∷ []) (best (builtOn previous p t))
   first-good = stands {s = t} {ss = []} {a = builtOn previous p t} (λ n. rw (built-score previous p t) (n, and-also (λ m. le-self t n) no-more)) (rw (built-score previous p t) now)
 
-  replaced-good : (s : Float) (ss : List Float) (a : Answer) (less : Bool) → (isNan s ≡ false → (isNan (scoreOf a) ≡ false) × AtMost (scoreOf a) (s ∷ ss)) → Among (scoreOf a) (s ∷ ss) → lt t (scoreOf a) ≡ less →
+  replaced-good : (s : Float) (ss : List Float) (a : Statelet) (less : Bool) → (isNan s ≡ false → (isNan (scoreOf a) ≡ false) × AtMost (scoreOf a) (s ∷ ss)) → Among (scoreOf a) (s ∷ ss) → lt t (scoreOf a) ≡ less →
       Good (s ∷ (ss ++ (t ∷ []))) (replacedIf less (best a) (builtOn previous p t))
   replaced-good s ss a true f i e =
       stands {s = s} {ss = ss ++ (t ∷ [])} {a = builtOn previous p t} (λ n. rw (built-score previous p t) (lt-number t (scoreOf a) e, one-more t (lower (lt-le t (scoreOf a) e) (f n .1)) (λ m. le-self t m)))
@@ -100,7 +100,7 @@ module _ (measure : Measure) (breaks : Row) (penalty : Float) (n b : ℕ) (insid
 
   -- ---- one attempt
 
-  here : (may : Bool) {ss : List Float} {old : Best} (previous : Best) (p : Piece) (a : Attempt) → a .to ≡ b → Good ss old →
+  here : (may : Bool) {ss : List Float} {old : Best} (previous : Best) (p : Leg) (a : Attempt) → a .to ≡ b → Good ss old →
       Good (after ss (scoredIf measure breaks penalty may a)) (combinedIf may old previous p (a .score))
   unfolding scoresInto
   here true previous p a e g = rw (eq-eqb (a .to) b e) (next-good previous p (a .score) g)
@@ -114,14 +114,14 @@ module _ (measure : Measure) (breaks : Row) (penalty : Float) (n b : ℕ) (insid
   measured-carries : (r : Measured) (bend : Bool) (i j : ℕ) (q : Quad) (st : List Best) {ss : List Float} → length st ≡ n → Good ss (bestAt st b) →
       Carried n b (after ss (scored measure breaks penalty r bend i j q st)) (measured measure breaks penalty r i j q st)
   unfolding combined
-  measured-carries Measured.Last bend i j q st long g = lost
+  measured-carries Measured.Missing bend i j q st long g = lost
   measured-carries (Measured.At m) bend i j q st {ss} long g =
       kept {st = set st j new} (length-set st j new ∙ long) (by (ℕ-discrete j b))
     where
       a : Attempt
       a = record { from = i; to = j; bent = bend; score = totalOf (bestAt st i) q (m .error) penalty }
 
-      p : Piece
+      p : Leg
       p = record { from = i; to = j; quad = q }
 
       new : Best
@@ -182,7 +182,7 @@ module _ (measure : Measure) (breaks : Row) (penalty : Float) (n b : ℕ) (insid
 data Returns (ss : List Float) : Optimised → Type 0 where
   no-answer : Returns ss refused8
   none-stands : (p : ℕ) → Returns ss (unchanged p)
-  returns : (a : Answer) (p : ℕ) → Good ss (best a) → Returns ss (solved a p)
+  returns : (a : Statelet) (p : ℕ) → Good ss (best a) → Returns ss (solved a p)
 
 module _ (measure : Measure) (breaks : Row) (penalty : Float) (some : 0 < length breaks) where
   abbrev last : ℕ
@@ -238,10 +238,10 @@ module _ (measure : Measure) (breaks : Row) (penalty : Float) (some : 0 < length
       subst (λ (r : List Float). Returns r (tried measure breaks penalty s))
       (after-both measure breaks penalty (length breaks) last inside [] (pairTried measure breaks penalty 0 last nothing-stands) (afterFirst measure breaks penalty s)) (first-returns s first)
 
-returned : {ss : List Float} {a : Answer} {p : ℕ} → Returns ss (solved a p) → Good ss (best a)
+returned : {ss : List Float} {a : Statelet} {p : ℕ} → Returns ss (solved a p) → Good ss (best a)
 returned (returns a p g) = g
 
-good-least : {ss : List Float} {a : Answer} → Good ss (best a) → isNan (getD ss 0 nan) ≡ false → Least (scoreOf a) ss
+good-least : {ss : List Float} {a : Statelet} → Good ss (best a) → isNan (getD ss 0 nan) ≡ false → Least (scoreOf a) ss
 good-least (stands f i) n = record { number = f n .0; at-most = f n .1; among = i }
 
 pub how-good : HowGood

@@ -1,6 +1,5 @@
--- What the proofs share, leaves first: a sum that does not fall; the functions over one stored answer; what a store keeps and makes;
+-- What the proofs share, leaves first: the functions over one stored answer; what a store keeps and makes;
 -- one attempt; one pair; the phases; what stands at the last break; rows with no answer yet; a run with one break, which `pieces` cites.
-mod Order
 mod Leaves
 mod Held
 mod Attempt

@@ -6,10 +6,10 @@ use mathlib.Core.List.{List, [], _∷_}
 use mathlib.Core.Path.{_≡_, refl, sym, ap, _∙_}
 use lib.Dec.{T}
 use lib.ListN.{length, set}
-use lib.Ieee.{Float, nan, inf, fin, binary64, fits, add, mul, lt}
+use lib.Ieee.{Float, nan, inf, fin, binary64, fits, mul, lt}
 use Rattle.float.specs.Numbers.{three}
 use Rattle.float.proofs.Zeros.{plus-nan}
-use Rattle.geometry.specs.Geometry.{isLine, isWhole, lineQuad, roundPointOf, intersectOf}
+use Rattle.geometry.specs.Geometry.{isLine, isWhole, roundPointOf, intersectOf}
 use Rattle.geometry.specs.declared.Break.{Break}
 use Rattle.geometry.specs.declared.Crossing.{Crossing}
 use Rattle.geometry.specs.declared.Crossing.the-variants as Crossing
@@ -24,12 +24,13 @@ use Rattle.measure.specs.declared.Measure as M
 use Rattle.measure.specs.declared.Measured.{Measured}
 use Rattle.measure.specs.declared.Measured.the-variants as Measured
 use Rattle.breaks.specs.Breaks.{Row, breakAt}
-use Rattle.optimize.specs.declared.answer.Answer as A
+use Rattle.attempt.specs.declared.answer.Answer as A
 use Rattle.optimize.specs.declared.Tried.{Tried}
-use Rattle.optimize.specs.Answers.{Piece, Answer, first, scoreOf, Best, none, best, smoothAfter, okForHalf, totalOf, combined}
-use Rattle.optimize.specs.Optimize.{Measure, measureBy, bestAt, States, refused, states, tryQuad, bentQuad, bentAt, bent, thenBent, tryLineQuad, refused8, unchanged, solved, tried, optimizeOf}
+use Rattle.attempt.specs.Answers.{Leg, Statelet, first, scoreOf, Best, none, best, totalOf, combined}
+use Rattle.optimize.specs.Optimize.{Measure, measureBy, States, refused, states, tryQuad, bentQuad, bentAt, bent, thenBent, tryLineQuad, refused8, unchanged, solved, optimizeOf}
 use Rattle.optimize.specs.Fallen.{Fallen, fallenBetween, fellBentAt, fellBent, fellPair, fellOf}
-use Rattle.optimize.specs.Stored.{bestOf, nothingAt, rowOf, Holds, Anywhere, inPlace, Spoilt, measuredOk, bendOk, bendInPlace}
+use Rattle.attempt.specs.Value.{bestOf, nothingAt}
+use Rattle.optimize.specs.Stored.{rowOf, Holds, Anywhere, inPlace, Spoilt, measuredOk, bendOk, bendInPlace}
 use Rattle.optimize.proofs.Held.{new-start}
 use Rattle.optimize.proofs.Solving.{optimized-by, fell-by}
 use Rattle.optimize.proofs.Trying.{quad-refused, quad-made, from-whole, from-half, fell-whole, fell-half}
@@ -48,7 +49,7 @@ and-false true = refl
 and-false false = refl
 
 -- an answer whose score is a NaN stays
-nan-stays : (a : Answer) (p : Piece) (e penalty : Float) → scoreOf a ≡ nan → combined (best a) (best a) p e penalty ≡ best a
+nan-stays : (a : Statelet) (p : Leg) (e penalty : Float) → scoreOf a ≡ nan → combined (best a) (best a) p e penalty ≡ best a
 unfolding combined
 nan-stays a p e penalty z =
     let low : lt (totalOf (best a) (p .quad) e penalty) (scoreOf a) ≡ false = ap (lt (totalOf (best a) (p .quad) e penalty)) z ∙ less-nan (totalOf (best a) (p .quad) e penalty) in
@@ -97,13 +98,13 @@ module _ (samples : List (List Float)) (bs : Row) (penalty : Float) (one : lengt
     abbrev line : Quad
     line = inPlace (breakAt bs 0 .xy)
 
-    pub one-refused : measureOf samples (breakAt bs 0 .s) (breakAt bs 0 .s) line ≡ Measured.Last → optimizeOf measure bs penalty ≡ refused8
+    pub one-refused : measureOf samples (breakAt bs 0 .s) (breakAt bs 0 .s) line ≡ Measured.Missing → optimizeOf measure bs penalty ≡ refused8
     one-refused e =
         optimized-by measure penalty bs 0 refused one
         (from-whole measure bs penalty 0 0 (none ∷ []) whole ∙ ap (thenBent measure bs penalty 0 0) (quad-refused measure bs penalty 0 0 line (none ∷ []) e))
 
     module _ (m : M.Measure) (made : measureOf samples (breakAt bs 0 .s) (breakAt bs 0 .s) line ≡ Measured.At m) (still : m .error ≡ nan) where
-      abbrev answer : Answer
+      abbrev answer : Statelet
       answer = first (record { from = 0; to = 0; quad = line }) (totalOf none line (m .error) penalty)
 
       score-nan : scoreOf answer ≡ nan
@@ -119,12 +120,12 @@ module _ (samples : List (List Float)) (bs : Row) (penalty : Float) (one : lengt
       tried-bent q (Measured.At x) e ok =
           quad-made measure bs penalty 0 0 q (best answer ∷ []) x e
           ∙ ap (λ (t : Best). states (t ∷ [])) (nan-stays answer (record { from = 0; to = 0; quad = q }) (x .error) penalty score-nan)
-      tried-bent q Measured.Last e ok = absurd (false≢true ok)
+      tried-bent q Measured.Missing e ok = absurd (false≢true ok)
 
       refused-bent : (q : Quad) (w : Measured) → measureOf samples (breakAt bs 0 .s) (breakAt bs 0 .s) q ≡ w → measuredOk w (fallen 0 0 q) .ok ≡ false →
           tryQuad measure bs penalty 0 0 q (best answer ∷ []) ≡ refused
       refused-bent q (Measured.At x) e bad = absurd (true≢false bad)
-      refused-bent q Measured.Last e bad = quad-refused measure bs penalty 0 0 q (best answer ∷ []) e
+      refused-bent q Measured.Missing e bad = quad-refused measure bs penalty 0 0 q (best answer ∷ []) e
 
       bends : (c : Crossing) → bendOk samples (breakAt bs 0) c .ok ≡ true → bentAt measure bs penalty c 0 0 (best answer ∷ []) ≡ states (best answer ∷ [])
       bends Crossing.Nowhere ok = refl
@@ -146,7 +147,7 @@ module _ (samples : List (List Float)) (bs : Row) (penalty : Float) (one : lengt
       -- what fell in the two pieces
       ok-fell : (q : Quad) (w : Measured) → measuredOk w (fallen 0 0 q) .ok ≡ true → fallen 0 0 q ≡ measuredOk w (fallen 0 0 q) .fallen
       ok-fell q (Measured.At x) ok = refl
-      ok-fell q Measured.Last ok = absurd (false≢true ok)
+      ok-fell q Measured.Missing ok = absurd (false≢true ok)
 
       bends-fell : (c : Crossing) → bendOk samples (breakAt bs 0) c .ok ≡ true → fellBentAt measure fallen bs penalty c 0 0 (best answer ∷ []) ≡ bendOk samples (breakAt bs 0) c .fallen
       bends-fell Crossing.Nowhere ok = refl
@@ -193,7 +194,7 @@ bend-most samples a = go (intersectOf (a .xy) (a .dir) (a .xy) (a .dir))
   where
     at-most : (w : Measured) (n : ℕ) → n ≤ 80 → measuredOk w n .fallen ≤ 80
     at-most (Measured.At m) n h = h
-    at-most Measured.Last n h = omega arith
+    at-most Measured.Missing n h = omega arith
 
     go : (c : Crossing) → bendOk samples a c .fallen ≤ 80
     go Crossing.Nowhere = omega arith

@@ -1,5 +1,5 @@
 -- The pairs of each phase, and how one phase leads to the next. Assumes nothing.
-use Prim.Native.Nat.{ℕ, zero, suc, _+_, _*_, _-_, _%_, _≤_, _<_}
+use Prim.Native.Nat.{ℕ, suc, _+_, _*_, _-_, _≤_, _<_}
 use native.Mathlib.Omega.{arith}
 use mathlib.Core.Bool.{Bool, true, false}
 use mathlib.Core.List.{List, [], _∷_, _++_}
@@ -13,7 +13,7 @@ use Rattle.geometry.specs.declared.Crossing.the-variants as Crossing
 use Rattle.geometry.specs.declared.Quad.{Quad}
 use Rattle.measure.proofs.Asked.{fallen-most}
 use Rattle.breaks.specs.Breaks.{Row, breakAt}
-use Rattle.optimize.specs.Answers.{Best, okForHalf}
+use Rattle.attempt.specs.Answers.{Best, okForHalf}
 use Rattle.optimize.specs.Fallen.{Fallen, fallenBetween, fellIf, fellBentAt, fellBent, fellThenBent, fellPair, fellOnward, fellAll}
 use Rattle.optimize.specs.Optimize.{Measure, bestAt, States, refused, states, straight, bentQuad, onward, tryLineQuad, tryAll, splitsFrom, falling, searchFrom}
 use Rattle.optimize.specs.declared.Tried.{Tried}

@@ -1,23 +1,22 @@
 -- What stands at the last break, and whether the next phase is gone into. Assumes nothing.
-use Prim.Native.Nat.{ℕ, _+_, _*_, _-_, _≤_, _<_}
+use Prim.Native.Nat.{ℕ, _+_, _-_}
 use native.Mathlib.Omega.{arith}
 use mathlib.Core.Bool.{true, false, false≢true}
 use mathlib.Core.List.{List, []}
-use mathlib.Core.Path.{_≡_, refl, sym, ap, _∙_}
+use mathlib.Core.Path.{_≡_, refl, ap, _∙_}
 use borrow.Author.Tests.{eq-eqb, ne-eqb}
-use lib.Dec.{eqb}
 use lib.ListN.{length, getD, replicate}
 use lib.Ieee.{Float, nan, binary64, mul, lt}
 use Rattle.float.specs.Numbers.{three, four}
 use Rattle.breaks.specs.Breaks.{Row}
 use Rattle.optimize.specs.declared.Solved as S
 use Rattle.optimize.specs.declared.Solved.the-variants as Solved
-use Rattle.optimize.specs.Answers.{Answer, scoreOf, Best, none, best}
+use Rattle.attempt.specs.Answers.{scoreOf, Best, none}
 use Rattle.optimize.specs.Optimize.{Measure, bestAt, States, states, tryLineQuad, tryAll, splits, search, Optimised, ended, goOn, searched, splitted, tried, optimizeOf}
 use Rattle.optimize.specs.declared.Tally.{Tally}
 use Rattle.optimize.specs.Fallen.{Fallen, fellPair, fellAll, fellGoingOn, fellAfterSplits, fellAfterFirst, fellOf}
 use Rattle.optimize.specs.Tally.{tally}
-use Rattle.optimize.specs.Stored.{slotAt, Stands, lacks, has, solvedAt, aboveAt, Anywhere, Solves, stays, found}
+use Rattle.optimize.specs.Stored.{slotAt, Stands, lacks, has, solvedAt, aboveAt, Solves, stays, found}
 use Rattle.optimize.proofs.Held.{linked, scored, wider}
 
 module _ (ls : List ℕ) (n : ℕ) (t : Tally) where

@@ -15,17 +15,18 @@ use Rattle.geometry.specs.declared.Quad.{Quad}
 use Rattle.measure.specs.declared.Measured.the-variants as Measured
 use Rattle.measure.specs.declared.Measure as M
 use Rattle.breaks.specs.Breaks.{Row, breakAt}
-use Rattle.optimize.specs.declared.answer.Answer as A
+use Rattle.attempt.specs.declared.answer.Answer as A
 use Rattle.optimize.specs.declared.Tried.{Tried}
-use Rattle.optimize.specs.Answers.{Best, okForHalf, combined}
+use Rattle.attempt.specs.Answers.{Best, okForHalf, combined}
 use Rattle.optimize.specs.Optimize.{Measure, bestAt, States, refused, states, tryQuad, bentQuad, bent, thenBent, tryLineQuad}
 use Rattle.optimize.specs.Fallen.{Fallen, fellBent, fellThenBent, fellPair}
-use Rattle.optimize.specs.Stored.{bestOf, combineOf, slotAt, loaded, standingAt, rowOf, Inside, Phase, Room, Into, Rep, Ready, Becomes, stops, goes}
+use Rattle.attempt.specs.Value.{bestOf, combineOf}
+use Rattle.optimize.specs.Stored.{slotAt, loaded, standingAt, rowOf, Inside, Phase, Room, Into, Rep, Ready, Becomes, stops, goes}
 use Rattle.optimize.proofs.Attempt.{readable, attempted}
 
 -- ---- one attempt
 module _ (measure : Measure) (breaks : Row) (penalty : Float) (i j : ℕ) (q : Quad) (st : List Best) where
-  pub quad-refused : measure i j q ≡ Measured.Last → tryQuad measure breaks penalty i j q st ≡ refused
+  pub quad-refused : measure i j q ≡ Measured.Missing → tryQuad measure breaks penalty i j q st ≡ refused
   unfolding tryQuad
   quad-refused e = rw e refl
 

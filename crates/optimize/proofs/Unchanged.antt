@@ -7,7 +7,7 @@ use mathlib.Core.Path.{_≡_, refl}
 use lib.ListN.{length, replicate, length-replicate}
 use lib.Ieee.{Float, lt}
 use Rattle.breaks.specs.Breaks.{Row}
-use Rattle.optimize.specs.Answers.{Answer, scoreOf, Best, none, best}
+use Rattle.attempt.specs.Answers.{Statelet, scoreOf, Best, none, best}
 use Rattle.optimize.specs.Optimize.{Measure, bestAt, States, refused, states, tryLineQuad, tryAll, splits, search, Optimised, refused8, solved, ended, chosenIf, goOn, searched, splitted, tried, lastBreak, optimizeOf}
 use Rattle.optimize.specs.Unchanged.{Ends, refuses, leaves, answers, EndsSo, UnchangedBy}
 use Rattle.optimize.proofs.Good.{Good, nothing, stands, Carried, kept, pair-carries, all-carries, none-yet}
@@ -15,7 +15,7 @@ use Rattle.optimize.proofs.Good.{Good, nothing, stands, Carried, kept, 
 -- refused, or an answer
 data Answers : Optimised → Type 0 where
   none-measured : Answers refused8
-  one : (a : Answer) (pairs : ℕ) → Answers (solved a pairs)
+  one : (a : Statelet) (pairs : ℕ) → Answers (solved a pairs)
 
 module _ (measure : Measure) (breaks : Row) (penalty : Float) (some : 0 < length breaks) where
   abbrev last : ℕ

@@ -14,7 +14,7 @@ use Rattle.geometry.specs.declared.Crossing.{Crossing}
 use Rattle.geometry.specs.declared.Crossing.the-variants as Crossing
 use Rattle.measure.specs.Fallen.{fallenOf}
 use Rattle.breaks.specs.Breaks.{Row, breakAt}
-use Rattle.optimize.specs.Answers.{scoreOf, Best, none, best, okForHalf}
+use Rattle.attempt.specs.Answers.{scoreOf, Best, none, best, okForHalf}
 use Rattle.optimize.specs.Laws.{mostPairs}
 use Rattle.optimize.specs.Tally.{untried, plus, Sums}
 use Rattle.optimize.specs.declared.Tally.{Tally}

@@ -2,20 +2,19 @@
 use Prim.Native.Nat.{ℕ, zero, suc, _+_, _*_, _-_, _/_, _≤_, _<_}
 use native.Mathlib.Nat.{mul-add, add-mul, zero-mul, mul-le-mul}
 use native.Mathlib.Omega.{arith}
-use mathlib.Core.List.{List, [], _∷_, _++_}
+use mathlib.Core.List.{_++_}
 use mathlib.Core.Bool.{Bool, true, false}
 use mathlib.Core.Logic.{_⊎_, inl, inr, ⊎-elim}
-use mathlib.Core.Path.{_≡_, refl, sym, ap, subst, _∙_}
+use mathlib.Core.Path.{_≡_, refl, ap, subst, _∙_}
 use lib.ListN.{length, replicate, length-append}
 use lib.Ieee.{Float, lt}
 use Rattle.breaks.specs.Breaks.{Row}
 use Rattle.optimize.specs.declared.Solved as S
 use Rattle.optimize.specs.declared.Solved.the-variants as Solved
-use Rattle.optimize.specs.Answers.{Answer, scoreOf, Best, none, best}
+use Rattle.attempt.specs.Answers.{Statelet, scoreOf, Best, none, best}
 use Rattle.optimize.specs.Optimize.{Measure, bestAt, States, refused, states, tryLineQuad, tryAll, splitsFrom, splits, falling, searchFrom, search}
 use Rattle.optimize.specs.Optimize.{Optimised, refused8, unchanged, solved, pairsAfterSplits, pairsAfterSearch, ended, chosenIf, goOn}
 use Rattle.optimize.specs.Optimize.{searched, splitted, tried, optimizeOf}
-use Rattle.optimize.specs.Stored.{Solves, lost, stays, found}
 
 splits-count : (k i n : ℕ) → length (splitsFrom k i n) ≡ 2 * k
 unfolding splitsFrom
@@ -113,7 +112,7 @@ module _ (measure : Measure) (breaks : Row) (penalty : Float) where
   unfolding optimizeOf
   counted = after-first (tryLineQuad measure breaks penalty 0 last (replicate (length breaks) none))
 
-  pub pairs-are : {a : Answer} {p : ℕ} → optimizeOf measure breaks penalty ≡ solved a p → Tries last p
+  pub pairs-are : {a : Statelet} {p : ℕ} → optimizeOf measure breaks penalty ≡ solved a p → Tries last p
   pairs-are e = subst (Counted last) e counted
 
   pub pairs-are-unchanged : {p : ℕ} → optimizeOf measure breaks penalty ≡ unchanged p → Tries last p
@@ -141,7 +140,7 @@ module _ (measure : Measure) (breaks : Row) (penalty : Float) (few : length brea
   few-last : length breaks - 1 < 2048
   few-last = omega arith
 
-  pub pairs-few : {a : Answer} {p : ℕ} → optimizeOf measure breaks penalty ≡ solved a p → p ≤ mostPairs
+  pub pairs-few : {a : Statelet} {p : ℕ} → optimizeOf measure breaks penalty ≡ solved a p → p ≤ mostPairs
   pairs-few e = tries-few few-last (pairs-are measure breaks penalty e)
 
   pub pairs-few-unchanged : {p : ℕ} → optimizeOf measure breaks penalty ≡ unchanged p → p ≤ mostPairs

@@ -1,5 +1,5 @@
+-- Steps is for contracts inside the product alone: no promise of an entry and no statement for a reader speaks of it.
 pub mod Tally
-pub mod Answers
 pub mod Optimize
 pub mod Fallen
 pub mod Stored

@@ -15,7 +15,7 @@ use Rattle.measure.specs.Measure.{measureOf}
 use Rattle.measure.specs.declared.Measured.{Measured}
 use Rattle.measure.specs.declared.Measured.the-variants as Measured
 use Rattle.breaks.specs.Breaks.{Row, breakAt}
-use Rattle.optimize.specs.Answers.{Piece, Answer, scoreOf, Best, none, best, okForHalf, combined}
+use Rattle.attempt.specs.Answers.{Statelet, scoreOf, Best, none, best, okForHalf, combined}
 
 abbrev pub Measure : Type 0
 Measure = ℕ → ℕ → Quad → Measured
@@ -39,7 +39,7 @@ module _ (measure : Measure) (breaks : Row) (penalty : Float) where
   -- ---- one attempt: the piece is measured even where nothing stands to build it on
 
   abbrev pub measured : Measured → ℕ → ℕ → Quad → List Best → States
-  measured Measured.Last i j q st = refused
+  measured Measured.Missing i j q st = refused
   measured (Measured.At m) i j q st =
       states (set st j (combined (bestAt st j) (bestAt st i) (record { from = i; to = j; quad = q }) (m .error) penalty))
 
@@ -110,7 +110,7 @@ search n = searchFrom n 1
 pub data Optimised : Type 0 where
   refused8 : Optimised
   unchanged : ℕ → Optimised
-  solved : Answer → ℕ → Optimised
+  solved : Statelet → ℕ → Optimised
 
 module _ (measure : Measure) (breaks : Row) (penalty : Float) where
   abbrev pub lastBreak : ℕ

@@ -1,7 +1,7 @@
 -- What the functions of the optimiser promise of the rows that they are lent, for any states that these stand for: for the contracts of the functions
 -- that are not public. Definitions only.
 use Prim.Native.Nat.{ℕ, _+_}
-use mathlib.Core.List.{List, _∷_}
+use mathlib.Core.List.{List}
 use lib.Ieee.{Float}
 use Rattle.rows.specs.Lent.{Lent, before, after}
 use Rattle.geometry.specs.Geometry.{lineQuad}
@@ -9,7 +9,7 @@ use Rattle.geometry.specs.declared.Quad.{Quad}
 use Rattle.breaks.specs.Breaks.{Row, breakAt}
 use Rattle.optimize.specs.declared.Tried.{Tried}
 use Rattle.optimize.specs.declared.Solved.{Solved}
-use Rattle.optimize.specs.Answers.{Best}
+use Rattle.attempt.specs.Answers.{Best}
 use Rattle.optimize.specs.Optimize.{Measure, measureBy, States, states, tryQuad, bent, thenBent, tryLineQuad, tryAll}
 use Rattle.optimize.specs.Optimize.{Optimised, tried, splitted, optimizeOf}
 use Rattle.optimize.specs.Fallen.{Fallen, fallenBetween, fellBent, fellThenBent, fellPair, fellAll, fellAfterSplits, fellAfterFirst, fellOf}

@@ -16,7 +16,7 @@ use Rattle.geometry.specs.declared.Crossing.the-variants as Crossing
 use Rattle.measure.specs.declared.Measured.{Measured}
 use Rattle.measure.specs.declared.Measured.the-variants as Measured
 use Rattle.breaks.specs.Breaks.{Row, breakAt}
-use Rattle.optimize.specs.Answers.{Answer, scoreOf, Best, none, best, okForHalf, mayBuild, totalOf}
+use Rattle.attempt.specs.Answers.{Statelet, scoreOf, Best, none, best, okForHalf, mayBuild, totalOf}
 use Rattle.optimize.specs.Optimize.{Measure, bestAt, States, refused, states, xy, straight, bentQuad, tryLineQuad, onward, tryAll}
 use Rattle.optimize.specs.Optimize.{splits, search, solved, lastBreak, optimizeOf}
 
@@ -34,7 +34,7 @@ module _ (measure : Measure) (breaks : Row) (penalty : Float) where
   scoredIf false a = []
 
   abbrev pub scored : Measured → Bool → ℕ → ℕ → Quad → List Best → List Attempt
-  scored Measured.Last bend i j q st = []
+  scored Measured.Missing bend i j q st = []
   scored (Measured.At m) bend i j q st =
       scoredIf (mayBuild i (bestAt st i)) (record { from = i; to = j; bent = bend; score = totalOf (bestAt st i) q (m .error) penalty })
 
@@ -138,5 +138,5 @@ pub record Least (s : Float) (ss : List Float) : Type 0 where
 -- if the first score stored at the last break is no NaN, the returned score is at most each score of an attempt into that break that is no NaN
 abbrev pub HowGood : Type 0
 HowGood =
-    (measure : Measure) (breaks : Row) (penalty : Float) (a : Answer) (pairs : ℕ) → 0 < length breaks → optimizeOf measure breaks penalty ≡ solved a pairs →
+    (measure : Measure) (breaks : Row) (penalty : Float) (a : Statelet) (pairs : ℕ) → 0 < length breaks → optimizeOf measure breaks penalty ≡ solved a pairs →
     isNan (getD (lastScores measure breaks penalty) 0 nan) ≡ false → Least (scoreOf a) (lastScores measure breaks penalty)

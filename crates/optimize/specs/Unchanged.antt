@@ -6,7 +6,7 @@ use mathlib.Core.Path.{_≡_}
 use lib.Ieee.{Float}
 use lib.ListN.{length, replicate}
 use Rattle.breaks.specs.Breaks.{Row}
-use Rattle.optimize.specs.Answers.{Answer, Best, none}
+use Rattle.attempt.specs.Answers.{Statelet, Best, none}
 use Rattle.optimize.specs.Optimize.{Measure, bestAt, states, tryLineQuad, Optimised, refused8, unchanged, solved, lastBreak, optimizeOf}
 
 -- after the first pair, whose measures are not refused, no answer stands at the last break
@@ -19,7 +19,7 @@ pub record NoAnswer (measure : Measure) (breaks : Row) (penalty : Float) : Type 
 pub data Ends (measure : Measure) (breaks : Row) (penalty : Float) : Optimised → Type 0 where
   refuses : Ends measure breaks penalty refused8
   leaves : NoAnswer measure breaks penalty → Ends measure breaks penalty (unchanged 1)
-  answers : (a : Answer) (pairs : ℕ) → Ends measure breaks penalty (solved a pairs)
+  answers : (a : Statelet) (pairs : ℕ) → Ends measure breaks penalty (solved a pairs)
 
 abbrev pub EndsSo : Type 0
 EndsSo = (measure : Measure) (breaks : Row) (penalty : Float) → 0 < length breaks → Ends measure breaks penalty (optimizeOf measure breaks penalty)

@@ -10,7 +10,7 @@ use Rattle.geometry.specs.Geometry.{lineQuad, Finite}
 use Rattle.geometry.specs.declared.Point.{Point}
 use Rattle.breaks.specs.Breaks as Breaks
 use Rattle.breaks.specs.Breaks.{Row, wholeGrid, breakAt, breaksOf}
-use Rattle.optimize.specs.Answers.{Best, okForHalf}
+use Rattle.attempt.specs.Answers.{Best, okForHalf}
 use Rattle.optimize.specs.Optimize.{Measure, bestAt, tryQuad, straight, bentQuad}
 
 -- from break i to break j, whatever stands at the breaks

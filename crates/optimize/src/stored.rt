@@ -1,5 +1,5 @@
 // Answers in rows.
-use crate::answer::Answer;
+use attempt::answer::Answer;
 use geometry::Point;
 use geometry::Quad;
 ghost use mathlib.Core.Path.{_≡_};

@@ -8,15 +8,15 @@ use mathlib.Core.Path.{_≡_, refl, sym, ap, _∙_}
 use lib.Dec.{T, eqb, ltb, leb, eqb→eq, eqb-refl, leb→le, le→leb, ltb→lt, lt→ltb}
 use lib.Ieee.{Float}
 use lib.Ieee.Fits.{and-i, and-l, and-r, eq→eqb}
-use Rattle.float.specs.Numbers.{nil}
+use Rattle.float.specs.Numbers.{nought}
 use Rattle.breaks.specs.Breaks.{Row, breakAt}
 use Rattle.chain.specs.declared.Piece as C
 use Rattle.chain.specs.declared.Before.{Before}
 use Rattle.chain.specs.declared.Before.the-variants.{Start, After}
 use Rattle.chain.specs.declared.Summed.{Summed}
 use Rattle.chain.specs.declared.Summed.the-variants as Summed
-use Rattle.chain.specs.Valid.{validPiece, leads, quadOf, validFrom, added, measureOfPiece, sumFrom}
-use Rattle.optimize.specs.Answers.{Piece, Answer, first, on, scoreOf, pieceOf}
+use Rattle.chain.specs.Valid.{validPiece, leads, pieceQuad, validFrom, added, measureOfPiece, sumFrom}
+use Rattle.attempt.specs.Answers.{Leg, Statelet, first, on, scoreOf, legOf}
 use Rattle.pieces.specs.Pieces.{asPiece, piecesOf}
 
 -- ---- one piece more, at the end
@@ -65,12 +65,12 @@ module _ (breaks : Row) where
   -- what comes before a piece that is put at the end
   pub lastOf : Before → List C.Piece → Before
   lastOf before [] = before
-  lastOf before (p ∷ ps) = lastOf (After (quadOf breaks p)) ps
+  lastOf before (p ∷ ps) = lastOf (After (pieceQuad breaks p)) ps
 
-  last-on : (before : Before) (ps : List C.Piece) (p : C.Piece) → lastOf before (ps ++ (p ∷ [])) ≡ After (quadOf breaks p)
+  last-on : (before : Before) (ps : List C.Piece) (p : C.Piece) → lastOf before (ps ++ (p ∷ [])) ≡ After (pieceQuad breaks p)
   unfolding lastOf
   last-on before [] p = refl
-  last-on before (q ∷ qs) p = last-on (After (quadOf breaks q)) qs p
+  last-on before (q ∷ qs) p = last-on (After (pieceQuad breaks q)) qs p
 
   abbrev pub validAfter : Before → C.Piece → Bool
   validAfter before p = validPiece before (breakAt breaks (p .from)) (breakAt breaks (p .to)) (p .control)
@@ -79,37 +79,37 @@ module _ (breaks : Row) where
   unfolding validFrom lastOf
   valid-on before [] p t v = and-i (validAfter before p) true v tt
   valid-on before (q ∷ qs) p t v =
-      and-i (validAfter before q) _ (and-l (validAfter before q) (validFrom breaks (After (quadOf breaks q)) qs) t)
-      (valid-on (After (quadOf breaks q)) qs p (and-r (validAfter before q) (validFrom breaks (After (quadOf breaks q)) qs) t) v)
+      and-i (validAfter before q) _ (and-l (validAfter before q) (validFrom breaks (After (pieceQuad breaks q)) qs) t)
+      (valid-on (After (pieceQuad breaks q)) qs p (and-r (validAfter before q) (validFrom breaks (After (pieceQuad breaks q)) qs) t) v)
 
 module _ (samples : List (List Float)) (breaks : Row) (penalty : Float) where
   sum-on : (before : Before) (s : Summed) (ps : List C.Piece) (p : C.Piece) →
       sumFrom samples breaks penalty before s (ps ++ (p ∷ []))
-      ≡ added penalty (lastOf breaks before ps) (quadOf breaks p) (sumFrom samples breaks penalty before s ps) (measureOfPiece samples breaks penalty p)
+      ≡ added penalty (lastOf breaks before ps) (pieceQuad breaks p) (sumFrom samples breaks penalty before s ps) (measureOfPiece samples breaks penalty p)
   unfolding sumFrom lastOf
   sum-on before s [] p = refl
-  sum-on before s (q ∷ qs) p = sum-on (After (quadOf breaks q)) (added penalty before (quadOf breaks q) s (measureOfPiece samples breaks penalty q)) qs p
+  sum-on before s (q ∷ qs) p = sum-on (After (pieceQuad breaks q)) (added penalty before (pieceQuad breaks q) s (measureOfPiece samples breaks penalty q)) qs p
 
   -- ---- what is asked of a piece that comes after `before` where the sum is `past`, and makes it s
-  pub record Fine (before : Before) (past : Float) (p : Piece) (s : Float) : Type 0 where
+  pub record Fine (before : Before) (past : Float) (p : Leg) (s : Float) : Type 0 where
     pub rising : p .from < p .to
-    pub between : quadOf breaks (asPiece p) ≡ p .quad
+    pub between : pieceQuad breaks (asPiece p) ≡ p .quad
     pub valid : T (validAfter breaks before (asPiece p))
-    pub adds : added penalty before (quadOf breaks (asPiece p)) (Summed.At past) (measureOfPiece samples breaks penalty (asPiece p)) ≡ Summed.At s
+    pub adds : added penalty before (pieceQuad breaks (asPiece p)) (Summed.At past) (measureOfPiece samples breaks penalty (asPiece p)) ≡ Summed.At s
 
   -- and of all pieces of an answer
-  pub data Good : Answer → Type 0 where
-    starts : {p : Piece} {s : Float} → p .from ≡ 0 → Fine Start nil p s → Good (first p s)
-    goes : {a : Answer} {p : Piece} {s : Float} → Good a → p .from ≡ pieceOf a .to → Fine (After (pieceOf a .quad)) (scoreOf a) p s → Good (on a p s)
+  pub data Good : Statelet → Type 0 where
+    starts : {p : Leg} {s : Float} → p .from ≡ 0 → Fine Start nought p s → Good (first p s)
+    goes : {a : Statelet} {p : Leg} {s : Float} → Good a → p .from ≡ legOf a .to → Fine (After (legOf a .quad)) (scoreOf a) p s → Good (on a p s)
 
   -- ---- then the pieces are a chain from break 0 to the answer's last, and its score is their sum
-  pub record Chained (a : Answer) (ps : List C.Piece) : Type 0 where
-    pub leading : T (leads (pieceOf a .to) 0 ps)
-    pub lasting : lastOf breaks Start ps ≡ After (pieceOf a .quad)
+  pub record Chained (a : Statelet) (ps : List C.Piece) : Type 0 where
+    pub leading : T (leads (legOf a .to) 0 ps)
+    pub lasting : lastOf breaks Start ps ≡ After (legOf a .quad)
     pub valid : T (validFrom breaks Start ps)
-    pub summing : sumFrom samples breaks penalty Start (Summed.At nil) ps ≡ Summed.At (scoreOf a)
+    pub summing : sumFrom samples breaks penalty Start (Summed.At nought) ps ≡ Summed.At (scoreOf a)
 
-  first-chained : {p : Piece} {s : Float} → p .from ≡ 0 → Fine Start nil p s → Chained (first p s) (asPiece p ∷ [])
+  first-chained : {p : Leg} {s : Float} → p .from ≡ 0 → Fine Start nought p s → Chained (first p s) (asPiece p ∷ [])
   unfolding lastOf validFrom sumFrom
   first-chained {p} at f = record {
     leading = leads-on 0 0 [] (asPiece p) at (f .rising) (leads-there 0);
@@ -118,15 +118,15 @@ module _ (samples : List (List Float)) (breaks : Row) (penalty : Float) where
     summing = f .adds;
   }
 
-  next-chained : {a : Answer} {p : Piece} {s : Float} (ps : List C.Piece) → p .from ≡ pieceOf a .to → Fine (After (pieceOf a .quad)) (scoreOf a) p s → Chained a ps → Chained (on a p s) (ps ++ (asPiece p ∷ []))
+  next-chained : {a : Statelet} {p : Leg} {s : Float} (ps : List C.Piece) → p .from ≡ legOf a .to → Fine (After (legOf a .quad)) (scoreOf a) p s → Chained a ps → Chained (on a p s) (ps ++ (asPiece p ∷ []))
   next-chained {a} {p} ps at f c = record {
-    leading = leads-on (pieceOf a .to) 0 ps (asPiece p) at (f .rising) (c .leading);
+    leading = leads-on (legOf a .to) 0 ps (asPiece p) at (f .rising) (c .leading);
     lasting = last-on breaks Start ps (asPiece p) ∙ ap After (f .between);
     valid = valid-on breaks Start ps (asPiece p) (c .valid) (rw (c .lasting) (f .valid));
-    summing = sum-on Start (Summed.At nil) ps (asPiece p) ∙ rw (c .lasting, c .summing) (f .adds);
+    summing = sum-on Start (Summed.At nought) ps (asPiece p) ∙ rw (c .lasting, c .summing) (f .adds);
   }
 
-  pub chained : {a : Answer} → Good a → Chained a (piecesOf a)
+  pub chained : {a : Statelet} → Good a → Chained a (piecesOf a)
   unfolding piecesOf
   chained (starts at f) = first-chained at f
   chained (goes {a} g at f) = next-chained (piecesOf a) at f (chained g)

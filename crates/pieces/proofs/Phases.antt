@@ -28,14 +28,14 @@ use Rattle.chain.specs.Laws.{equals-same}
 use Rattle.chain.specs.declared.Before.{Before}
 use Rattle.chain.specs.declared.Before.the-variants.{Start, After}
 use Rattle.chain.specs.declared.Summed.the-variants as Summed
-use Rattle.optimize.specs.Answers.{Piece, Answer, first, on, pieceOf, Best, none, best, smoothAfter, okForHalf, oneOrTwo, jointOf, previousScore, totalOf, isLess, replacedIf, mayBuild, combinedIf, combined}
+use Rattle.attempt.specs.Answers.{Leg, Statelet, first, on, legOf, Best, none, best, smoothAfter, okForHalf, oneOrTwo, jointOf, previousScore, totalOf, isLess, replacedIf, mayBuild, combinedIf, combined}
 use Rattle.optimize.specs.Optimize.{Measure, measureBy, bestAt, States, refused, states, measured, tryQuad, tryIf, bentQuad, bentAt, bent, thenBent, tryLineQuad, onward, tryAll, splitsFrom, falling, searchFrom}
 use Rattle.pieces.proofs.Chained.{Fine, Good, starts, goes}
 
 -- ---- what stands at a break, as a chain has it before a piece from there
 abbrev pub beforeOf : Best → Before
 beforeOf none = Start
-beforeOf (best a) = After (pieceOf a .quad)
+beforeOf (best a) = After (legOf a .quad)
 
 follows : (t : Best) (q : Quad) → followsCurve (beforeOf t) q ≡ smoothAfter t q
 follows none q = refl
@@ -98,7 +98,7 @@ module _ (samples : List (List Float)) (breaks : Row) (penalty : Float) where
 
   pub data GoodAt (b : ℕ) : Best → Type 0 where
     nothing : GoodAt b none
-    stands : {a : Answer} → Good samples breaks penalty a → pieceOf a .to ≡ b → GoodAt b (best a)
+    stands : {a : Statelet} → Good samples breaks penalty a → legOf a .to ≡ b → GoodAt b (best a)
 
   abbrev pub All : List Best → Type 0
   All st = (b : ℕ) → GoodAt b (bestAt st b)
@@ -120,8 +120,8 @@ module _ (samples : List (List Float)) (breaks : Row) (penalty : Float) where
       by (no h) = rw (getD-set-other st j b t none h) (all b)
 
   -- it stays, or a piece that fits what stands where it starts is built on that
-  module _ (p : Piece) (s : Float) (old : Best) (was : GoodAt (p .to) old) where
-    replaced : (less : Bool) (a : Answer) → GoodAt (p .to) (best a) → GoodAt (p .to) (replacedIf less old a)
+  module _ (p : Leg) (s : Float) (old : Best) (was : GoodAt (p .to) old) where
+    replaced : (less : Bool) (a : Statelet) → GoodAt (p .to) (best a) → GoodAt (p .to) (replacedIf less old a)
     replaced true a new = new
     replaced false a new = was
 
@@ -150,7 +150,7 @@ module _ (samples : List (List Float)) (breaks : Row) (penalty : Float) where
 
       measured-fair : (w : Measured) → measure i j quad ≡ w → Fair (measured measure breaks penalty w i j quad st)
       unfolding combined
-      measured-fair Measured.Last e = stops
+      measured-fair Measured.Missing e = stops
       measured-fair (Measured.At m) e =
           goes-on (set-keeps st j _ all (combines (record { from = i; to = j; quad = quad }) (totalOf (bestAt st i) quad (m .error) penalty) (bestAt st j) (all j) i refl (all i) (fine m e)))
 

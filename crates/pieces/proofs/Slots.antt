@@ -12,11 +12,11 @@ use lib.Ieee.{Float}
 use lib.ListN.{length, getD, drop, set, length-set, drop-of-length-le}
 use lib.Seq.{drop-cons, getD-set-same, drop-set-lt}
 use Rattle.breaks.specs.Breaks.{Row}
-use Rattle.optimize.specs.Answers.{Piece, Answer, on}
-use Rattle.optimize.specs.Answers as A
+use Rattle.attempt.specs.Answers.{Leg, Statelet, on}
+use Rattle.attempt.specs.Answers as A
 use Rattle.optimize.specs.Stored.{Anywhere, Slot, Holds, starts, follows, pieceIn}
 use Rattle.pieces.specs.Pieces.{asPiece, piecesOf}
-use Rattle.pieces.specs.Slots.{Falls, first, after, slotsIf, slotsOf, pieceOf, quadOf, quadsOf, Within, Legible, Each, none, one}
+use Rattle.pieces.specs.Slots.{Falls, first, after, slotsIf, slotsOf, pieceOf, storedQuad, quadsOf, Within, Legible, Each, none, one}
 
 -- ---- one after the other
 
@@ -64,49 +64,49 @@ each-at (one p e) d zero h = p
 each-at (one p e) d (suc i) h = each-at e d i (omega arith)
 
 -- the piece that stored answer k stands for
-abbrev pieceThere : Row → List (List Float) → List ℕ → ℕ → Piece
+abbrev pieceThere : Row → List (List Float) → List ℕ → ℕ → Leg
 pieceThere breaks answers links k = pieceIn breaks answers k (getD links k 0)
 
 module _ {breaks : Row} {answers : List (List Float)} {links : List ℕ} where
-  pub falls : {k : ℕ} {a : Answer} → Holds Anywhere breaks answers links k a → Falls links k
+  pub falls : {k : ℕ} {a : Statelet} → Holds Anywhere breaks answers links k a → Falls links k
   falls (starts s) = first (s .in-links) (s .link)
   falls (follows s down h) = after (s .in-links) (s .link) down (falls h)
 
-  is-piece : {k l : ℕ} {p : Piece} {s : Float} → Slot Anywhere breaks answers links k l p s → pieceThere breaks answers links k ≡ p
+  is-piece : {k l : ℕ} {p : Leg} {s : Float} → Slot Anywhere breaks answers links k l p s → pieceThere breaks answers links k ≡ p
   is-piece {k} s = ap (pieceIn breaks answers k) (s .link) ∙ s .piece
 
   -- what is made of each piece, first to last, by the stored answers and by the answer
-  module _ {B : Type 0} (f : ℕ → B) (g : Piece → B) (all : Answer → List B)
-      (of-first : (p : Piece) (s : Float) → all (A.first p s) ≡ g p ∷ []) (of-on : (a : Answer) (p : Piece) (s : Float) → all (on a p s) ≡ all a ++ (g p ∷ []))
+  module _ {B : Type 0} (f : ℕ → B) (g : Leg → B) (all : Statelet → List B)
+      (of-first : (p : Leg) (s : Float) → all (A.first p s) ≡ g p ∷ []) (of-on : (a : Statelet) (p : Leg) (s : Float) → all (on a p s) ≡ all a ++ (g p ∷ []))
       (same : (k : ℕ) → f k ≡ g (pieceThere breaks answers links k)) where
-    made : {k : ℕ} {a : Answer} → Holds Anywhere breaks answers links k a → map f (slotsOf links k) ≡ all a
+    made : {k : ℕ} {a : Statelet} → Holds Anywhere breaks answers links k a → map f (slotsOf links k) ≡ all a
     made (starts {k} {p} {s} slot) = ap (map f) (slots-first links (slot .link)) ∙ ap (λ (b : B). b ∷ []) (same k ∙ ap g (is-piece slot)) ∙ sym (of-first p s)
     made (follows {k} {j} {a} {p} {s} slot down h) =
         ap (map f) (slots-after (slot .link) down (falls h)) ∙ map-append f (slotsOf links j) (k ∷ [])
         ∙ rw (made h, same k, is-piece slot) (sym (of-on a p s))
 
-  pub pieces-are : {k : ℕ} {a : Answer} → Holds Anywhere breaks answers links k a → map (pieceOf answers links) (slotsOf links k) ≡ piecesOf a
+  pub pieces-are : {k : ℕ} {a : Statelet} → Holds Anywhere breaks answers links k a → map (pieceOf answers links) (slotsOf links k) ≡ piecesOf a
   unfolding piecesOf
   pieces-are = made (pieceOf answers links) asPiece piecesOf (λ p s. refl) (λ a p s. refl) (λ k. refl)
 
-  pub quads-are : {k : ℕ} {a : Answer} → Holds Anywhere breaks answers links k a → map (quadOf breaks answers links) (slotsOf links k) ≡ quadsOf a
+  pub quads-are : {k : ℕ} {a : Statelet} → Holds Anywhere breaks answers links k a → map (storedQuad breaks answers links) (slotsOf links k) ≡ quadsOf a
   unfolding quadsOf
-  quads-are = made (quadOf breaks answers links) (λ (p : Piece). p .quad) quadsOf (λ p s. refl) (λ a p s. refl) (λ k. refl)
+  quads-are = made (storedQuad breaks answers links) (λ (p : Leg). p .quad) quadsOf (λ p s. refl) (λ a p s. refl) (λ k. refl)
 
-  reads : {n k l : ℕ} {p : Piece} {s : Float} → Slot Anywhere breaks answers links k l p s → p .from < n → p .to < n → Legible n answers links k
+  reads : {n k l : ℕ} {p : Leg} {s : Float} → Slot Anywhere breaks answers links k l p s → p .from < n → p .to < n → Legible n answers links k
   reads {n} slot from to = record {
     in-answers = slot .in-answers;
     in-links = slot .in-links;
-    from = subst (λ (p : Piece). p .from < n) (sym (is-piece slot)) from;
-    to = subst (λ (p : Piece). p .to < n) (sym (is-piece slot)) to;
+    from = subst (λ (p : Leg). p .from < n) (sym (is-piece slot)) from;
+    to = subst (λ (p : Leg). p .to < n) (sym (is-piece slot)) to;
   }
 
-  pub last-legible : (n : ℕ) {k : ℕ} {a : Answer} → Holds Anywhere breaks answers links k a → Within n a → Legible n answers links k
+  pub last-legible : (n : ℕ) {k : ℕ} {a : Statelet} → Holds Anywhere breaks answers links k a → Within n a → Legible n answers links k
   unfolding Within
   last-legible n (starts slot) w = reads slot (w .0) (w .1)
   last-legible n (follows slot down h) w = reads slot (w .1 .0) (w .1 .1)
 
-  pub all-legible : (n : ℕ) {k : ℕ} {a : Answer} → Holds Anywhere breaks answers links k a → Within n a → Each (Legible n answers links) (slotsOf links k)
+  pub all-legible : (n : ℕ) {k : ℕ} {a : Statelet} → Holds Anywhere breaks answers links k a → Within n a → Each (Legible n answers links) (slotsOf links k)
   unfolding Within
   all-legible n (starts slot) w = rw (slots-first links (slot .link)) (one (reads slot (w .0) (w .1)) none)
   all-legible n (follows slot down h) w = rw (slots-after (slot .link) down (falls h)) (each-then (all-legible n h (w .0)) (one (reads slot (w .1 .0) (w .1 .1)) none))

@@ -8,15 +8,15 @@ use borrow.Author.Tests.{lt-ltb, le-ltb}
 use lib.Ieee.{Float}
 use lib.ListN.{length, drop, length-map, length-drop}
 use Rattle.breaks.specs.Breaks.{Row}
-use Rattle.optimize.specs.Answers.{Answer, first, on}
+use Rattle.attempt.specs.Answers.{Statelet, first, on}
 use Rattle.optimize.specs.Stored.{Anywhere, Holds}
 use Rattle.pieces.specs.declared.Put.the-variants as Put
 use Rattle.pieces.specs.Pieces.{piecesOf}
-use Rattle.pieces.specs.Slots.{Falls, slotsOf, pieceOf, quadOf, quadsOf, Chain, chain, chained, left, roomOf, putIf, putOf, Within, Legible, Each, Stored, Held}
+use Rattle.pieces.specs.Slots.{Falls, slotsOf, pieceOf, storedQuad, quadsOf, Chain, chain, chained, left, roomOf, putIf, putOf, Within, Legible, Each, Stored, Held}
 use Rattle.pieces.proofs.Slots.{falls, pieces-are, quads-are, last-legible, all-legible}
 
 -- more breaks
-within-more : (n m : ℕ) (a : Answer) → n ≤ m → Within n a → Within m a
+within-more : (n m : ℕ) (a : Statelet) → n ≤ m → Within n a → Within m a
 unfolding Within
 within-more n m (first p s) h w = (omega (arith, w .0), omega (arith, w .1))
 within-more n m (on a p s) h w = (within-more n m a h (w .0), (omega (arith, w .1 .0), omega (arith, w .1 .1)))
@@ -42,9 +42,9 @@ module _ (slots : List ℕ) (r : ℕ) {answers : List (List Float)} {links : Lis
       let s = h .stored in
       rw is (all-legible 2048 (s .holds) (within-more (length (h .breaks)) 2048 (s .answer) (s .few) (s .within)))
 
-  module _ (is : drop r slots ≡ slotsOf links k) {breaks : Row} {a : Answer} (h : Holds Anywhere breaks answers links k a) where
-    pub quads-there : map (quadOf breaks answers links) (drop r slots) ≡ quadsOf a
-    quads-there = ap (map (quadOf breaks answers links)) is ∙ quads-are h
+  module _ (is : drop r slots ≡ slotsOf links k) {breaks : Row} {a : Statelet} (h : Holds Anywhere breaks answers links k a) where
+    pub quads-there : map (storedQuad breaks answers links) (drop r slots) ≡ quadsOf a
+    quads-there = ap (map (storedQuad breaks answers links)) is ∙ quads-are h
 
     pieces-there : map (pieceOf answers links) (drop r slots) ≡ piecesOf a
     pieces-there = ap (map (pieceOf answers links)) is ∙ pieces-are h

@@ -12,8 +12,8 @@ use Rattle.breaks.specs.Breaks.{Row, breakAt}
 use Rattle.chain.specs.declared.Piece as C
 use Rattle.chain.specs.declared.Before.the-variants.{Start}
 use Rattle.chain.specs.declared.Checked.the-variants as Checked
-use Rattle.chain.specs.Valid.{leads, stays, joined, validFrom, goodShape, verdict, checkOf}
-use Rattle.optimize.specs.Answers.{Answer, first, on, scoreOf}
+use Rattle.chain.specs.Valid.{leads, stays, joined, validFrom, goodShape, verdict, checkedChain}
+use Rattle.attempt.specs.Answers.{Statelet, first, on, scoreOf}
 use Rattle.optimize.specs.Optimize.{measureBy, solved, optimizeOf}
 use Rattle.pieces.specs.Pieces.{asPiece, piecesOf}
 use Rattle.pieces.specs.Slots.{Within, Each, none, one}
@@ -54,7 +54,7 @@ each-last : {A : Type 0} {P : A → Type 0} (s : List A) (a : A) → Each P (s +
 each-last [] a (one h e) = h
 each-last (b ∷ s) a (one h e) = each-last s a e
 
-inner-within : (n m : ℕ) (a : Answer) → n < m → Each (Inner n) (piecesOf a) → Within m a
+inner-within : (n m : ℕ) (a : Statelet) → n < m → Each (Inner n) (piecesOf a) → Within m a
 unfolding Within piecesOf
 inner-within n m (first p s) h e =
     let (from, to) = each-last [] (asPiece p) e in
@@ -65,21 +65,21 @@ inner-within n m (on a p s) h e =
 
 module _ (samples : List (List Float)) (breaks : Row) (penalty : Float) where
   -- a chain that the checker says yes to has a good shape
-  shape-good : (ps : List C.Piece) (score : Float) → checkOf samples breaks penalty ps score ≡ Checked.Yes → T (goodShape breaks ps)
-  unfolding checkOf
+  shape-good : (ps : List C.Piece) (score : Float) → checkedChain samples breaks penalty ps score ≡ Checked.Yes → T (goodShape breaks ps)
+  unfolding checkedChain
   shape-good ps score e = by (goodShape breaks ps) e
     where
       by : (t : Bool) → verdict samples breaks penalty t ps score ≡ Checked.Yes → T t
       by true e = tt
       by false e = let z : _≡_ {A = ℕ} 0 1 = cc in absurd (omega arith)
 
-  yes-within : 0 < length breaks → (a : Answer) (score : Float) → checkOf samples breaks penalty (piecesOf a) score ≡ Checked.Yes → Within (length breaks) a
+  yes-within : 0 < length breaks → (a : Statelet) (score : Float) → checkedChain samples breaks penalty (piecesOf a) score ≡ Checked.Yes → Within (length breaks) a
   unfolding goodShape
   yes-within some a score e =
       inner-within (length breaks - 1) (length breaks) a (omega arith)
       (joined-inner (length breaks - 1) (piecesOf a)
       (and-l (joined (length breaks - 1) (piecesOf a)) (validFrom breaks Start (piecesOf a)) (shape-good (piecesOf a) score e)))
 
-  pub solved-within : 0 < length breaks → T (fits binary64 (breakAt breaks 0 .xy .x)) → T (fits binary64 (breakAt breaks 0 .xy .y)) → (a : Answer) (pairs : ℕ) →
+  pub solved-within : 0 < length breaks → T (fits binary64 (breakAt breaks 0 .xy .x)) → T (fits binary64 (breakAt breaks 0 .xy .y)) → (a : Statelet) (pairs : ℕ) →
       optimizeOf (measureBy samples breaks) breaks penalty ≡ solved a pairs → Within (length breaks) a
   solved-within some fits-x fits-y a pairs e = yes-within some a (scoreOf a) (accepted-any samples breaks penalty some fits-x fits-y a pairs e)

@@ -1,2 +1,3 @@
 pub mod Pieces
 pub mod Slots
+pub mod Statements

@@ -10,8 +10,8 @@ use Rattle.breaks.specs.Breaks.{Row}
 use Rattle.geometry.specs.declared.Quad.{Quad}
 use Rattle.contour.specs.Output.{front}
 use Rattle.chain.specs.declared.Piece.{Piece}
-use Rattle.optimize.specs.Answers.{Answer}
-use Rattle.optimize.specs.Answers as A
+use Rattle.attempt.specs.Answers.{Statelet}
+use Rattle.attempt.specs.Answers as A
 use Rattle.pieces.specs.declared.Put as P
 use Rattle.pieces.specs.declared.Put.the-variants as Put
 use Rattle.optimize.specs.Stored.{Anywhere, Holds, fromBreak, quadIn}
@@ -39,11 +39,11 @@ pieceOf answers links k = record {
 }
 
 -- and as a quad
-abbrev pub quadOf : Row → List (List Float) → List ℕ → ℕ → Quad
-quadOf breaks answers links k = quadIn breaks answers k (getD links k 0)
+abbrev pub storedQuad : Row → List (List Float) → List ℕ → ℕ → Quad
+storedQuad breaks answers links k = quadIn breaks answers k (getD links k 0)
 
 -- the quads of an answer, first to last
-unfoldable pub quadsOf : Answer → List Quad
+unfoldable pub quadsOf : Statelet → List Quad
 quadsOf (A.first p s) = p .quad ∷ []
 quadsOf (A.on a p s) = quadsOf a ++ (p .quad ∷ [])
 
@@ -77,7 +77,7 @@ putOf most ps c = putIf (ltb (min most (roomOf c)) (length ps)) ps c
 -- ---- what stands in the rows
 
 -- every piece of an answer starts and ends at one of n breaks
-unfoldable pub Within : ℕ → Answer → Type 0
+unfoldable pub Within : ℕ → Statelet → Type 0
 Within n (A.first p s) = (p .from < n) × (p .to < n)
 Within n (A.on a p s) = Within n a × ((p .from < n) × (p .to < n))
 
@@ -95,7 +95,7 @@ pub data Each {A : Type 0} (P : A → Type 0) : List A → Type 0 where
 
 -- the rows stand for an answer at stored answer k
 pub record Stored (breaks : Row) (answers : List (List Float)) (links : List ℕ) (k : ℕ) : Type 0 where
-  pub answer : Answer
+  pub answer : Statelet
   pub holds : Holds Anywhere breaks answers links k answer
   pub within : Within (length breaks) answer
   pub few : length breaks ≤ 2048

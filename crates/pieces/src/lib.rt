@@ -11,10 +11,10 @@ ghost use lib.ListN.{length, drop};
 ghost use Rattle.breaks.specs.Breaks.{Row};
 ghost use Rattle.contour.specs.Points.{piecesPoints};
 ghost use Rattle.contour.specs.Writing.{Appended};
-ghost use Rattle.optimize.specs.Answers.{Answer};
+ghost use Rattle.attempt.specs.Answers.{Statelet};
 ghost use Rattle.optimize.specs.Stored.{Anywhere, Holds};
 ghost use Rattle.pieces.specs.Pieces.{piecesOf};
-ghost use Rattle.pieces.specs.Slots.{Falls, slotsOf, pieceOf, quadOf, quadsOf, chain, chained, left, putOf, Legible, Each, Stored, Held};
+ghost use Rattle.pieces.specs.Slots.{Falls, slotsOf, pieceOf, storedQuad, quadsOf, chain, chained, left, putOf, Legible, Each, Stored, Held};
 
 // The stored answers from the start of the run to k stand at the end of the row, from the place given back.
 fn slots_to(links: &[u32], k: usize, slots: &mut [u32]) -> usize
@@ -96,7 +96,7 @@ pub fn put_chain(
     ys: &mut [f64],
 ) -> Put
     requires { ⌜ Held (now answers) (now links) k ⌝ }
-    ensures { λ r. ⌜ ((breaks : Row) (a : Answer) → Holds Anywhere breaks (now (answers .entry)) (now (links .entry)) k a →
+    ensures { λ r. ⌜ ((breaks : Row) (a : Statelet) → Holds Anywhere breaks (now (answers .entry)) (now (links .entry)) k a →
         putOf most (piecesOf a) (chain (now (starts .entry)) (now (ends .entry)) (now (xs .entry)) (now (ys .entry)))
         ≡ left r (chain (now (starts .exit)) (now (ends .exit)) (now (xs .exit)) (now (ys .exit)))) ⌝ }
 {
@@ -128,7 +128,7 @@ fn push_pieces(
 ) -> Written
     requires { ⌜ (first < length (now slots)) × Each (Legible (length (now breaks)) (now answers) (now links)) (drop first (now slots)) ⌝ }
     ensures { λ r. ⌜ Appended (now (points .entry)) w (now (points .exit)) r
-        (piecesPoints (map (quadOf (now (breaks .entry)) (now (answers .entry)) (now (links .entry))) (drop first (now (slots .entry))))) ⌝ }
+        (piecesPoints (map (storedQuad (now (breaks .entry)) (now (answers .entry)) (now (links .entry))) (drop first (now (slots .entry))))) ⌝ }
 {
     let mut v = w;
     let mut i = first;
@@ -154,7 +154,7 @@ pub fn push_chain(
     w: Written,
 ) -> Written
     requires { ⌜ Stored (now breaks) (now answers) (now links) k ⌝ }
-    ensures { λ r. ⌜ ((a : Answer) → Holds Anywhere (now (breaks .entry)) (now (answers .entry)) (now (links .entry)) k a →
+    ensures { λ r. ⌜ ((a : Statelet) → Holds Anywhere (now (breaks .entry)) (now (answers .entry)) (now (links .entry)) k a →
         Appended (now (points .entry)) w (now (points .exit)) r (piecesPoints (quadsOf a))) ⌝ }
 {
     let mut slots = [0; 4096];

@@ -1,5 +1,5 @@
 // What a line says.
-ghost use Prim.Native.Nat.{_^_, _<_, _≤_};
+ghost use Prim.Native.Nat.{_<_, _≤_};
 
 pub enum Given {
     Number(f64),

@@ -11,10 +11,10 @@ use borrow.Author.Tests.{eq-eqb, ne-eqb, ltb-true, ltb-false}
 use lib.Dec.{eqb, ltb}
 use lib.IntN.{ℤ}
 use lib.ListN.{getD}
-use Rattle.corners.specs.Segments.{oneMore, countOf}
+use Rattle.outline.specs.Segments.{oneMore, countOf}
 use Rattle.corners.specs.Corners.{cornersOf}
 use Rattle.corners.proofs.Reasons.{no-corner-past}
-use Rattle.runs.specs.Runs.{Span, marksFrom, cornerList, between, goingRound, stopsOf, runsOf}
+use Rattle.runs.specs.Runs.{marksFrom, cornerList, between, goingRound, stopsOf, runsOf}
 use Rattle.runs.specs.Covered.{upward, segmentsIn, howOften, lastFrom, RunsGoRound, EachSegmentOnce, RunsFromFirstToLast}
 
 -- ---- corners rise, and lie below the number of segments

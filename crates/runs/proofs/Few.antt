@@ -6,9 +6,9 @@ use mathlib.Core.List.{List, [], _∷_, _++_}
 use mathlib.Core.Path.{_≡_, sym, ap, _∙_}
 use lib.IntN.{ℤ}
 use lib.ListN.{length, getD}
-use Rattle.corners.specs.Segments.{countOf}
+use Rattle.outline.specs.Segments.{countOf}
 use Rattle.corners.specs.Corners.{cornersOf}
-use Rattle.corners.specs.Laws.{count-few}
+use Rattle.outline.specs.Laws.{count-few}
 use Rattle.corners.proofs.Reasons.{no-corner-past}
 use Rattle.runs.specs.Runs.{marksFrom, cornerList, between, stopsIn, stopsOf, runsOf, runAt, isCopied, unlessCopied, numberedRun}
 use Rattle.runs.specs.declared.Run.{Run}

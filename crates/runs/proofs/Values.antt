@@ -2,7 +2,7 @@
 use mathlib.Core.Path.{_≡_, refl}
 use mathlib.Core.List.{[], _∷_, map}
 use mathlib.Core.Bool.{true, false}
-use Rattle.corners.specs.Segments.{endOf, placeAfter, segFrom}
+use Rattle.outline.specs.Segments.{endOf, placeAfter, segFrom}
 use Rattle.runs.specs.Runs.{marksFrom, between, runAt, isCopied}
 use Rattle.runs.specs.declared.Run.the-variants.{Between, Nothing}
 

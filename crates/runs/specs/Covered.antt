@@ -5,7 +5,7 @@ use mathlib.Core.List.{List, [], _∷_, _++_, map}
 use mathlib.Core.Path.{_≡_}
 use lib.Dec.{eqb}
 use lib.IntN.{ℤ}
-use Rattle.corners.specs.Segments.{oneMore, countOf}
+use Rattle.outline.specs.Segments.{oneMore, countOf}
 use Rattle.runs.specs.Runs.{Span, cornerList, runsOf}
 
 -- so many numbers, from a on

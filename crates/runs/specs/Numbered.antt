@@ -5,7 +5,7 @@ use mathlib.Core.List.{List, [], _∷_}
 use mathlib.Core.Path.{_≡_}
 use lib.IntN.{ℤ}
 use lib.ListN.{length, getD}
-use Rattle.corners.specs.Segments.{oneMore}
+use Rattle.outline.specs.Segments.{oneMore}
 use Rattle.corners.specs.Corners.{cornersOf}
 use Rattle.runs.specs.Runs.{cornerList, stopsOf, runsOf, runAt}
 use Rattle.runs.specs.declared.Run.the-variants.{Between, Nothing}

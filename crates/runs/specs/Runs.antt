@@ -7,7 +7,7 @@ use mathlib.Core.Path.{_≡_}
 use lib.Dec.{eqb}
 use lib.IntN.{ℤ}
 use lib.ListN.{length, take}
-use Rattle.corners.specs.Segments.{countOf, startOf, segFrom, isQuadOf}
+use Rattle.outline.specs.Segments.{countOf, startOf, segFrom, isQuadOf}
 use Rattle.corners.specs.Corners.{cornersOf}
 use Rattle.runs.specs.declared.Run.{Run}
 use Rattle.runs.specs.declared.Run.the-variants.{Between, Nothing}

@@ -51,7 +51,7 @@ pub fn list_stops(xs: &[i16], ys: &[i16], flags: &[u8], closed: bool, list: &mut
         if n == 0 {
             return n;
         }
-        list[n] = list[0] + corners::count(flags);
+        list[n] = list[0] + outline::count(flags);
         return n + 1;
     }
     n
@@ -81,7 +81,7 @@ pub fn run_at(corners: &[usize], k: usize) -> Run
 pub fn is_copied_from(xs: &[i16], ys: &[i16], flags: &[u8], a: usize, count: usize) -> bool
     ensures { λ r. ⌜ r ≡ copiedFrom (now (xs .entry)) (now (ys .entry)) (now (flags .entry)) a count ⌝ }
 {
-    count == 1 && !corners::read_from(xs, ys, flags, a).is_quad()
+    count == 1 && !outline::read_from(xs, ys, flags, a).is_quad()
 }
 
 pub fn is_copied(xs: &[i16], ys: &[i16], flags: &[u8], r: Run) -> bool
@@ -89,7 +89,7 @@ pub fn is_copied(xs: &[i16], ys: &[i16], flags: &[u8], r: Run) -> bool
 {
     match r {
         Run::Between(first, count) => {
-            is_copied_from(xs, ys, flags, corners::start_of(flags, first), count)
+            is_copied_from(xs, ys, flags, outline::start_of(flags, first), count)
         }
         Run::Nothing => false,
     }

@@ -9,14 +9,14 @@ use lib.IntN.{ℤ}
 use lib.ListN.{length, take, set, length-set}
 use lib.Seq.{length-take-le, take-suc-set}
 use lib.Ieee.{Float, binary64, add, le}
-use Rattle.float.specs.Numbers.{nil, one}
+use Rattle.float.specs.Numbers.{nought, one}
 use Rattle.geometry.specs.declared.Quad.{Quad}
 use Rattle.arclen.specs.Arclen.{hundredth, arclenFunctorOf, rk4One}
 use Rattle.arclen.specs.Stages.{paceOf, reachedBy}
 use Rattle.arclen.specs.declared.ArclenFunctor.{ArclenFunctor}
 use Rattle.arclen.specs.declared.Reached.{Reached}
-use Rattle.corners.specs.Segments.{endOf, segFrom}
-use Rattle.samples.specs.Samples.{Sample, Walked, full, at, sampleAt, fillFrom, fillTo, filled, movedTo, stepTo, stepAt, sweepFrom, lengthFrom, lengthAfter, sweepAll, lengthAll, lastOf, nowhere, begun, start, walkedIn, quadOf, quadsFrom, refused, finished, thetasOf}
+use Rattle.outline.specs.Segments.{endOf, segFrom}
+use Rattle.samples.specs.Samples.{Sample, Walked, full, at, sampleAt, fillFrom, fillTo, filled, movedTo, stepAt, sweepFrom, lengthFrom, lengthAfter, sweepAll, lengthAll, lastOf, nowhere, begun, start, walkedIn, quadOf, quadsFrom, refused, finished, thetasOf}
 use Rattle.samples.specs.declared.Step.{Step}
 use Rattle.samples.specs.declared.Walk.{Walk}
 
@@ -59,10 +59,10 @@ sweep-full (suc k) room q t y = sweep-full k room q (add binary64 t hundredth) (
 pub all-full : (room : ℕ) (qs : List Quad) (y : Float) → sweepAll room qs y full ≡ full
 unfolding sweepAll
 all-full room [] y = refl
-all-full room (q ∷ qs) y = rw (sweep-full 100 room q nil y) (all-full room qs (lengthAfter q y))
+all-full room (q ∷ qs) y = rw (sweep-full 100 room q nought y) (all-full room qs (lengthAfter q y))
 
 -- one quad more
-all-more : (room : ℕ) (q : Quad) (qs : List Quad) (y : Float) (w : Walked) → sweepAll room (q ∷ qs) y w ≡ sweepAll room qs (lengthAfter q y) (sweepFrom 100 room q nil y w)
+all-more : (room : ℕ) (q : Quad) (qs : List Quad) (y : Float) (w : Walked) → sweepAll room (q ∷ qs) y w ≡ sweepAll room qs (lengthAfter q y) (sweepFrom 100 room q nought y w)
 unfolding sweepAll
 all-more room q qs y w = refl
 
@@ -72,8 +72,8 @@ pub record Sweeping (q : Quad) (f : ArclenFunctor) (row₀ : List Sample) (n₀ 
   pub pace : to .pace ≡ paceOf f t
   pub long : length row ≡ length row₀
   pub inside : n ≤ length row₀
-  pub rows : sweepFrom 100 (length row₀) q nil y₀ (at (take n₀ row₀) ix₀ last₀) ≡ sweepFrom (100 - k) (length row₀) q t (to .length) (at (take n row) ix last)
-  pub len : lengthFrom 100 (arclenFunctorOf q) nil y₀ ≡ lengthFrom (100 - k) (arclenFunctorOf q) t (to .length)
+  pub rows : sweepFrom 100 (length row₀) q nought y₀ (at (take n₀ row₀) ix₀ last₀) ≡ sweepFrom (100 - k) (length row₀) q t (to .length) (at (take n row) ix last)
+  pub len : lengthFrom 100 (arclenFunctorOf q) nought y₀ ≡ lengthFrom (100 - k) (arclenFunctorOf q) t (to .length)
 
 module _ {q : Quad} {f : ArclenFunctor} {row₀ : List Sample} {n₀ : ℕ} {ix₀ : Float} {last₀ : Step} {y₀ : Float} {row : List Sample} {n : ℕ} {ix : Float} {last : Step} {t : Float} {to : Reached} {k : ℕ}
     (s : Sweeping q f row₀ n₀ ix₀ last₀ y₀ row n ix last t to k) where
@@ -105,11 +105,11 @@ module _ {q : Quad} {f : ArclenFunctor} {row₀ : List Sample} {n₀ : ℕ} {ix�
       }
 
   pub sweeps-over : {this : Step} → k < 100 → this ≡ stepAt q t y → fillTo (length row) this y (take n row) ix last ≡ full →
-      sweepFrom 100 (length row₀) q nil y₀ (at (take n₀ row₀) ix₀ last₀) ≡ full
+      sweepFrom 100 (length row₀) q nought y₀ (at (take n₀ row₀) ix₀ last₀) ≡ full
   unfolding movedTo
   sweeps-over h is fills = s .rows ∙ turn h ∙ rw (← is, ← s .long, fills) (sweep-full (100 - (k + 1)) _ q _ _)
 
-  pub swept-all : 100 ≤ k → sweepFrom 100 (length row₀) q nil y₀ (at (take n₀ row₀) ix₀ last₀) ≡ at (take n row) ix last
+  pub swept-all : 100 ≤ k → sweepFrom 100 (length row₀) q nought y₀ (at (take n₀ row₀) ix₀ last₀) ≡ at (take n row) ix last
   unfolding sweepFrom
   swept-all h =
       let none : 100 - k ≡ 0 = omega arith in
@@ -142,8 +142,8 @@ module _ (xs ys : List ℤ) (fs : List ℕ) (all : List Quad) (count : ℕ) wher
   pub record Running (row₀ row : List Sample) (q : Quad) (w : Walk) (a k : ℕ) : Type 0 where
     pub long : length row ≡ length row₀
     pub inside : w .n ≤ length row₀
-    pub rows : sweepAll (length row₀) all nil begun ≡ sweepAll (length row₀) (rest a k) (w .len) (walkedIn row w)
-    pub len : lengthAll all nil ≡ lengthAll (rest a k) (w .len)
+    pub rows : sweepAll (length row₀) all nought begun ≡ sweepAll (length row₀) (rest a k) (w .len) (walkedIn row w)
+    pub len : lengthAll all nought ≡ lengthAll (rest a k) (w .len)
     pub last : lastOf nowhere all ≡ lastOf q (rest a k)
 
   pub begins : (row : List Sample) {w : Walk} (a : ℕ) → w ≡ start → all ≡ quadsFrom xs ys fs a count → Running row row nowhere w a 0
@@ -153,7 +153,7 @@ module _ (xs ys : List ℤ) (fs : List ℕ) (all : List Quad) (count : ℕ) wher
 
   module _ {row₀ row : List Sample} {q : Quad} {w : Walk} {a k : ℕ} (r : Running row₀ row q w a k) where
     pub runs : {row' : List Sample} {p : Quad} {v : Walk} {b : ℕ} → k < count → p ≡ quadOf (segFrom xs ys fs a) → b ≡ endOf fs a →
-        sweepFrom 100 (length row) p nil (w .len) (walkedIn row w) ≡ walkedIn row' v →
+        sweepFrom 100 (length row) p nought (w .len) (walkedIn row w) ≡ walkedIn row' v →
         v .len ≡ lengthAfter p (w .len) → length row' ≡ length row → v .n ≤ length row → Running row₀ row' p v b (k + 1)
     unfolding lengthAll lastOf
     runs h is next sweeps longer same few = record {
@@ -165,10 +165,10 @@ module _ (xs ys : List ℤ) (fs : List ℕ) (all : List Quad) (count : ℕ) wher
     }
 
     pub runs-over : {p : Quad} → k < count → p ≡ quadOf (segFrom xs ys fs a) →
-        sweepFrom 100 (length row) p nil (w .len) (walkedIn row w) ≡ full → thetasOf (length row₀) all ≡ refused
+        sweepFrom 100 (length row) p nought (w .len) (walkedIn row w) ≡ full → thetasOf (length row₀) all ≡ refused
     unfolding thetasOf finished filled
     runs-over {p} h is sweeps =
-        let over : sweepAll (length row₀) all nil begun ≡ full = r .rows ∙ rw (rest-more a k h, ← is, ← r .long, all-more, sweeps) (all-full (length row) (rest (endOf fs a) (k + 1)) (lengthAfter p (w .len))) in
+        let over : sweepAll (length row₀) all nought begun ≡ full = r .rows ∙ rw (rest-more a k h, ← is, ← r .long, all-more, sweeps) (all-full (length row) (rest (endOf fs a) (k + 1)) (lengthAfter p (w .len))) in
         rw over
 
     pub run-all : count ≤ k → thetasOf (length row₀) all ≡ finished (length row) q (w .len) (walkedIn row w)

@@ -6,7 +6,7 @@ use mathlib.Core.List.{List, [], _∷_, _++_}
 use mathlib.Core.Path.{_≡_}
 use lib.ListN.{length}
 use lib.Ieee.{Float, binary64, add, le}
-use Rattle.float.specs.Numbers.{nil, one, two}
+use Rattle.float.specs.Numbers.{nought, one, two}
 use Rattle.geometry.specs.declared.Quad.{Quad}
 use Rattle.arclen.specs.Arclen.{hundredth, arclenFunctorOf, rk4One}
 use Rattle.samples.specs.declared.Step.{Step}
@@ -51,7 +51,7 @@ module _ (room more : ℕ) (h : room ≤ more) where
   all-alike : (qs : List Quad) (y : Float) {w v : Walked} → Alike w v → Alike (sweepAll room qs y w) (sweepAll more qs y v)
   unfolding sweepAll
   all-alike [] y a = a
-  all-alike (q ∷ qs) y a = all-alike qs (lengthAfter q y) (sweep-alike 100 q nil y a)
+  all-alike (q ∷ qs) y a = all-alike qs (lengthAfter q y) (sweep-alike 100 q nought y a)
 
   run-same : (y : Float) {w v : Walked} {row : List Sample} {len : Float} → Alike w v → runOf y w ≡ sampled row len → runOf y v ≡ sampled row len
   run-same y was-full e = let z : _≡_ {A = ℕ} 0 1 = cc in absurd (omega arith)
@@ -61,5 +61,5 @@ module _ (room more : ℕ) (h : room ≤ more) where
   pub samples-same : (qs : List Quad) (row : List Sample) (len : Float) → thetasOf room qs ≡ sampled row len → thetasOf more qs ≡ sampled row len
   unfolding thetasOf finished
   samples-same qs row len e =
-      let y = lengthAll qs nil in
-      run-same y (filled-alike (lastStep (lastOf nowhere qs) y) (add binary64 y two) (all-alike qs nil {w = begun} same)) e
+      let y = lengthAll qs nought in
+      run-same y (filled-alike (lastStep (lastOf nowhere qs) y) (add binary64 y two) (all-alike qs nought {w = begun} same)) e

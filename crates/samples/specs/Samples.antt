@@ -5,16 +5,15 @@ use mathlib.Core.List.{List, [], _∷_, _++_}
 use lib.IntN.{ℤ}
 use lib.ListN.{length, take}
 use lib.Ieee.{Float, binary64, add, sub, div, neg, le}
-use Rattle.float.specs.Numbers.{nil, one, two}
+use Rattle.float.specs.Numbers.{nought, one, two}
 use Rattle.geometry.specs.Geometry.{lerpOf, unitizeOf, lineQuad, pointAtT}
 use Rattle.geometry.specs.declared.Point.{Point}
 use Rattle.geometry.specs.declared.Quad.{Quad}
 use Rattle.arclen.specs.Arclen.{hundredth, arclenFunctorOf, derivOf, rk4One}
 use Rattle.arclen.specs.declared.ArclenFunctor.{ArclenFunctor}
-use Rattle.corners.specs.declared.Seg as S
-use Rattle.corners.specs.declared.Seg.the-variants as Seg
-use Rattle.corners.specs.Segments.{point, startOf, endOf, segFrom}
-use Rattle.corners.specs.Corners.{origin}
+use Rattle.outline.specs.declared.Seg as S
+use Rattle.outline.specs.declared.Seg.the-variants as Seg
+use Rattle.outline.specs.Segments.{point, startOf, endOf, segFrom, origin}
 use Rattle.samples.specs.declared.Step.{Step}
 use Rattle.samples.specs.declared.Walk.{Walk}
 use Rattle.samples.specs.declared.Filled as F
@@ -105,12 +104,12 @@ lengthFrom zero f t y = y
 lengthFrom (suc k) f t y = lengthFrom k f (add binary64 t hundredth) (rk4One f hundredth t y)
 
 abbrev pub lengthAfter : Quad → Float → Float
-lengthAfter q y = lengthFrom 100 (arclenFunctorOf q) nil y
+lengthAfter q y = lengthFrom 100 (arclenFunctorOf q) nought y
 
 -- quad after quad
 unfoldable pub sweepAll : ℕ → List Quad → Float → Walked → Walked
 sweepAll room [] y w = w
-sweepAll room (q ∷ qs) y w = sweepAll room qs (lengthAfter q y) (sweepFrom 100 room q nil y w)
+sweepAll room (q ∷ qs) y w = sweepAll room qs (lengthAfter q y) (sweepFrom 100 room q nought y w)
 
 unfoldable pub lengthAll : List Quad → Float → Float
 lengthAll [] y = y
@@ -122,7 +121,7 @@ abbrev pub beforeAll : Step
 beforeAll = record { xy = origin; d = origin; s = neg one }
 
 abbrev pub begun : Walked
-begun = at [] nil beforeAll
+begun = at [] nought beforeAll
 
 -- the last quad, after r
 unfoldable pub lastOf : Quad → List Quad → Quad
@@ -150,12 +149,12 @@ unfoldable pub finished : ℕ → Quad → Float → Walked → Run
 finished room q y w = runOf y (filled room (lastStep q y) (add binary64 y two) w)
 
 unfoldable pub thetasOf : ℕ → List Quad → Run
-thetasOf room qs = finished room (lastOf nowhere qs) (lengthAll qs nil) (sweepAll room qs nil begun)
+thetasOf room qs = finished room (lastOf nowhere qs) (lengthAll qs nought) (sweepAll room qs nought begun)
 
 -- ---- what the functions leave in a row
 
 abbrev pub start : Walk
-start = record { n = 0; ix = nil; last = beforeAll; len = nil }
+start = record { n = 0; ix = nought; last = beforeAll; len = nought }
 
 abbrev pub walkedIn : List Sample → Walk → Walked
 walkedIn row w = at (take (w .n) row) (w .ix) (w .last)

@@ -3,13 +3,13 @@
 use arclen::ArclenFunctor;
 use arclen::Pace;
 use arclen::Reached;
-use corners::Seg;
 use geometry::Point;
 use geometry::Quad;
+use outline::Seg;
 ghost use mathlib.Core.Path.{_≡_};
 ghost use Prim.Native.Nat.{_≤_};
 ghost use lib.ListN.{length, take};
-ghost use Rattle.float.specs.Numbers.{nil};
+ghost use Rattle.float.specs.Numbers.{nought};
 ghost use Rattle.arclen.specs.Arclen.{arclenFunctorOf};
 ghost use Rattle.samples.specs.Samples.{quadOf, quadsOf, sampleFrom, sampleAt, stepAt, fillTo, sweepFrom, lengthAfter};
 ghost use Rattle.samples.specs.Samples.{finished, thetasOf, start, walkedIn, filledIn, placesFilled};
@@ -110,7 +110,7 @@ fn step_at(q: Quad, f: ArclenFunctor, t: f64, y: f64) -> Step
 // 100 steps over one quad.
 fn sweep(row: &mut [[f64; 4]], from: Walk, q: Quad) -> Swept
     requires { ⌜ from .n ≤ length (now row) ⌝ }
-    ensures row { λ r. ⌜ sweepFrom 100 (length (now (row .entry))) q nil (from .len) (walkedIn (now (row .entry)) from) ≡ sweptIn (now (row .exit)) r ⌝ }
+    ensures row { λ r. ⌜ sweepFrom 100 (length (now (row .entry))) q nought (from .len) (walkedIn (now (row .entry)) from) ≡ sweptIn (now (row .exit)) r ⌝ }
     ensures places { λ r. ⌜ placesSwept r ≤ length (now (row .entry)) ⌝ }
     ensures length { λ r. ⌜ lengthSwept (lengthAfter q (from .len)) r ≡ lengthAfter q (from .len) ⌝ }
 {
@@ -198,15 +198,15 @@ pub fn sample_run(
         p2: here,
     };
     let mut w = begin();
-    let mut a = corners::start_of(flags, first);
+    let mut a = outline::start_of(flags, first);
     let mut k = 0;
     while k < count {
-        q = as_quad(corners::read_from(xs, ys, flags, a));
+        q = as_quad(outline::read_from(xs, ys, flags, a));
         let Swept::At(v) = sweep(row, w, q) else {
             return Thetas::Full;
         };
         w = v;
-        a = corners::end_of(flags, a);
+        a = outline::end_of(flags, a);
         k += 1;
     }
     finish(row, w, q)

@@ -3,21 +3,21 @@ use Prim.Native.Nat.{ℕ, zero, suc, _+_, _-_, _≤_, _<_}
 use native.Mathlib.Nat.{le-refl}
 use native.Mathlib.Numerals.{add-one}
 use native.Mathlib.Omega.{arith}
-use mathlib.Core.Bool.{Bool, true, false}
+use mathlib.Core.Bool.{true, false}
 use mathlib.Core.List.{List, [], _∷_, _++_, map, append-assoc, append-nil}
 use mathlib.Core.Path.{_≡_, refl, sym, ap, _∙_}
 use lib.IntN.{ℤ}
 use lib.ListN.{length, getD, take, drop, set, length-set, length-map, drop-of-length-le}
 use lib.Seq.{drop-cons, take-suc-set, take-all, drop-length}
 use lib.Ieee.{Float, nan, binary64, add, le}
-use Rattle.float.specs.Numbers.{nil}
+use Rattle.float.specs.Numbers.{nought}
 use Rattle.geometry.specs.declared.Quad.{Quad}
-use Rattle.rows.proofs.Filled.{Filled, start, more, filled}
+use Rattle.rows.proofs.Filled.{Filled, more, filled}
 use Rattle.arclen.specs.Arclen.{hundredth, arclenFunctorOf}
 use Rattle.arclen.specs.Stages.{paceOf, reachedBy}
 use Rattle.arclen.specs.declared.ArclenFunctor.{ArclenFunctor}
 use Rattle.arclen.specs.declared.Reached.{Reached}
-use Rattle.corners.specs.Segments.{endOf, segFrom}
+use Rattle.outline.specs.Segments.{endOf, segFrom}
 use Rattle.samples.specs.Samples.{quadOf, quadsFrom, lengthFrom, lengthAfter}
 use Rattle.segments.specs.Segments.{endsFrom, firstHolding}
 use Rattle.segments.specs.Laws.{getD-mapped}
@@ -26,7 +26,7 @@ use Rattle.segments.specs.Laws.{getD-mapped}
 
 pub record Stepping (f : ArclenFunctor) (y : Float) (t : Float) (to : Reached) (k : ℕ) : Type 0 where
   pub pace : to .pace ≡ paceOf f t
-  pub len : lengthFrom 100 f nil y ≡ lengthFrom (100 - k) f t (to .length)
+  pub len : lengthFrom 100 f nought y ≡ lengthFrom (100 - k) f t (to .length)
 
 module _ {f : ArclenFunctor} {y : Float} {t : Float} {to : Reached} {k : ℕ} (s : Stepping f y t to k) where
   pub steps : {to' : Reached} → k < 100 → to' ≡ reachedBy f hundredth t (to .length) → Stepping f y (add binary64 t hundredth) to' (k + 1)
@@ -39,7 +39,7 @@ module _ {f : ArclenFunctor} {y : Float} {t : Float} {to : Reached} {k : ℕ} (s
   unfolding lengthFrom
   stepped q h is =
       let none : 100 - k ≡ 0 = omega arith in
-      sym (s .len ∙ rw none) ∙ ap (λ (g : ArclenFunctor). lengthFrom 100 g nil y) is
+      sym (s .len ∙ rw none) ∙ ap (λ (g : ArclenFunctor). lengthFrom 100 g nought y) is
 
 -- ---- the ends of n segments, of which k are written
 
@@ -48,9 +48,9 @@ module _ (xs ys : List ℤ) (fs : List ℕ) (all : List Quad) (n : ℕ) where
     pub same : length ends ≡ long
     pub fits : n ≤ long
     pub few : k ≤ n
-    pub is : endsFrom all nil ≡ take k ends ++ endsFrom (quadsFrom xs ys fs a (n - k)) y
+    pub is : endsFrom all nought ≡ take k ends ++ endsFrom (quadsFrom xs ys fs a (n - k)) y
 
-  pub ends-start : (ends : List Float) {a : ℕ} → n ≤ length ends → all ≡ quadsFrom xs ys fs a n → Ending (length ends) ends a nil 0
+  pub ends-start : (ends : List Float) {a : ℕ} → n ≤ length ends → all ≡ quadsFrom xs ys fs a n → Ending (length ends) ends a nought 0
   ends-start ends fits e =
       let none : n - 0 ≡ n = omega arith in
       record { same = refl; fits = fits; few = omega arith; is = rw (e, none) refl }
@@ -69,7 +69,7 @@ module _ (xs ys : List ℤ) (fs : List ℕ) (all : List Quad) (n : ℕ) where
           is = s .is ∙ rw (one-less, ← is, ← next, ← after, add-one k, take-suc-set ends k z low, append-assoc) refl;
         }
 
-    pub ends-all : n ≤ k → take n ends ≡ endsFrom all nil
+    pub ends-all : n ≤ k → take n ends ≡ endsFrom all nought
     unfolding endsFrom quadsFrom
     ends-all h =
         let none : n - k ≡ 0 = omega arith in

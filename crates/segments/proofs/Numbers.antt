@@ -3,14 +3,14 @@ use Prim.Native.Nat.{ℕ, zero, suc, _-_, _≤_}
 use native.Mathlib.Omega.{arith}
 use mathlib.Core.Bool.{Bool, true, false, not}
 use mathlib.Core.List.{List, [], _∷_}
-use mathlib.Core.Path.{_≡_, refl, sym, ap, subst, _∙_}
+use mathlib.Core.Path.{_≡_, refl, sym, subst, _∙_}
 use lib.Dec.{T}
-use lib.Ieee.{Float, nan, binary64, ne, isNan, toUnsigned, ofBits}
+use lib.Ieee.{Float, binary64, ne, isNan, toUnsigned, ofBits}
 use lib.Ieee.Compare.{differs-from-itself}
-use lib.ListN.{length, getD, replicate, length-replicate, take, length-take}
+use lib.ListN.{length, replicate, length-replicate, take, length-take}
 use Rattle.breaks.specs.Breaks.{Row}
 use Rattle.float.proofs.Number.{itself}
-use Rattle.segments.specs.Segments.{hereIf, firstHolding, placeIn, segmentAt}
+use Rattle.segments.specs.Segments.{firstHolding, placeIn, segmentAt}
 
 -- only a NaN differs from itself
 pub nan-first : (ends : List Float) (s : Float) → ne s s ≡ true → 0 ≡ placeIn ends s

@@ -6,13 +6,12 @@ use native.Mathlib.Omega.{arith}
 use mathlib.Core.Bool.{Bool, true, false, true≢false}
 use mathlib.Core.List.{List, [], _∷_, map}
 use mathlib.Core.Path.{_≡_, refl, sym, ap, _∙_}
-use borrow.Author.Tests.{lt-ltb, le-ltb}
 use lib.Dec.{T, ltb, le→leb}
 use lib.IntN.{ℤ, pos}
 use lib.ListN.{length, getD, length-map}
-use lib.Ieee.{Float, nan, binary64, isNan, le, ofInt, toUnsigned, inFloat}
+use lib.Ieee.{Float, nan, binary64, isNan, le, inFloat}
 use lib.Ieee.Back.{unsigned-back}
-use Rattle.corners.specs.Segments.{countOf}
+use Rattle.outline.specs.Segments.{countOf}
 use Rattle.geometry.specs.declared.Quad.{Quad}
 use Rattle.samples.specs.Samples.{lengthAfter, quadsFrom, quadsOf}
 use Rattle.breaks.specs.Breaks.{Row, breakAt}

@@ -5,7 +5,7 @@ use mathlib.Core.List.{List, [], _∷_, map}
 use mathlib.Core.Path.{_≡_, refl}
 use lib.Ieee as Ieee
 use lib.Ieee.{Float, nan}
-use Rattle.float.specs.Numbers.{nil, half, one, two, three, ten}
+use Rattle.float.specs.Numbers.{nought, half, one, two, three, ten}
 use Rattle.segments.specs.Segments.{firstHolding, placeIn, numberOf}
 
 -- a length, and the place in the run of the segment that holds it
@@ -22,7 +22,7 @@ ends = one ∷ two ∷ []
 
 -- the start; inside the first; the two ties, each to the earlier one; the run's end; past the end the last; a NaN the first
 abbrev pub rows : List Row
-rows = row nil 0 ∷ row half 0 ∷ row one 0 ∷ row two 1 ∷ row three 2 ∷ row ten 2 ∷ row nan 0 ∷ []
+rows = row nought 0 ∷ row half 0 ∷ row one 0 ∷ row two 1 ∷ row three 2 ∷ row ten 2 ∷ row nan 0 ∷ []
 
 pub rows-hold : map (λ (r : Row). placeIn ends (r .length)) rows ≡ map (λ (r : Row). r .place) rows
 unfolding firstHolding Ieee.isNan Ieee.le Ieee.lt Ieee.eq Ieee.ofBits

@@ -1,14 +1,14 @@
 -- Document 02's W8: which segment of its contour holds each break of a run. Definitions only.
-use Prim.Native.Nat.{ℕ, zero, suc, _+_, _-_}
+use Prim.Native.Nat.{ℕ, suc, _+_, _-_}
 use mathlib.Core.Bool.{Bool, true, false}
 use mathlib.Core.List.{List, [], _∷_, map}
 use lib.Dec.{ltb}
 use lib.IntN.{ℤ, pos}
 use lib.ListN.{getD}
 use lib.Ieee.{Float, nan, binary64, isNan, le, ofInt, toUnsigned}
-use Rattle.float.specs.Numbers.{nil}
+use Rattle.float.specs.Numbers.{nought}
 use Rattle.geometry.specs.declared.Quad.{Quad}
-use Rattle.corners.specs.Segments.{countOf}
+use Rattle.outline.specs.Segments.{countOf}
 use Rattle.samples.specs.Samples.{lengthAfter, quadsOf}
 use Rattle.breaks.specs.Breaks.{Row}
 
@@ -21,7 +21,7 @@ endsFrom (q ∷ qs) y = lengthAfter q y ∷ endsFrom qs (lengthAfter q y)
 
 -- those of a run, of which the last is not asked: what no segment before it holds, the last one holds
 abbrev pub endsOf : List ℤ → List ℤ → List ℕ → ℕ → ℕ → List Float
-endsOf xs ys fs first count = endsFrom (quadsOf xs ys fs first (count - 1)) nil
+endsOf xs ys fs first count = endsFrom (quadsOf xs ys fs first (count - 1)) nought
 
 -- ---- the segment that holds a length
 

@@ -9,7 +9,7 @@ ghost use mathlib.Core.Path.{_≡_};
 ghost use mathlib.Core.List.{map};
 ghost use Prim.Native.Nat.{_-_, _≤_};
 ghost use lib.ListN.{length, take};
-ghost use Rattle.float.specs.Numbers.{nil};
+ghost use Rattle.float.specs.Numbers.{nought};
 ghost use Rattle.samples.specs.Samples.{lengthAfter, quadsOf};
 ghost use Rattle.segments.specs.Segments.{endsFrom, placeIn, numberOf, namedOf, carried, segmentAt};
 
@@ -34,15 +34,15 @@ fn length_after(q: Quad, y: f64) -> f64
 // Where n segments end, from segment `first` on, in the first places of the row.
 fn fill_ends(xs: &[i16], ys: &[i16], flags: &[u8], first: usize, n: usize, ends: &mut [f64])
     requires { ⌜ n ≤ length (now ends) ⌝ }
-    ensures { λ _. ⌜ take n (now (ends .exit)) ≡ endsFrom (quadsOf (now (xs .entry)) (now (ys .entry)) (now (flags .entry)) first n) nil ⌝ }
+    ensures { λ _. ⌜ take n (now (ends .exit)) ≡ endsFrom (quadsOf (now (xs .entry)) (now (ys .entry)) (now (flags .entry)) first n) nought ⌝ }
 {
-    let mut a = corners::start_of(flags, first);
+    let mut a = outline::start_of(flags, first);
     let mut y = 0.0;
     let mut k = 0;
     while k < n {
-        y = length_after(samples::as_quad(corners::read_from(xs, ys, flags, a)), y);
+        y = length_after(samples::as_quad(outline::read_from(xs, ys, flags, a)), y);
         ends[k] = y;
-        a = corners::end_of(flags, a);
+        a = outline::end_of(flags, a);
         k += 1;
     }
 }
@@ -109,7 +109,7 @@ pub fn name(xs: &[i16], ys: &[i16], flags: &[u8], first: usize, count: usize, ro
     let mut ends = [0.0; 2048];
     let n = inner(count);
     fill_ends(xs, ys, flags, first, n, &mut ends);
-    name_each(&ends[..n], first, corners::count(flags), row);
+    name_each(&ends[..n], first, outline::count(flags), row);
 }
 
 // The segment that break i of a row carries; 0 past its end.

@@ -1,8 +1,8 @@
 -- What refusals 1 to 5 and then 16 come to. Assumes nothing.
 use Prim.Native.Nat.{ℕ}
-use mathlib.Core.Bool.{Bool, true, false, not}
+use mathlib.Core.Bool.{Bool, not}
 use mathlib.Core.List.{List}
-use mathlib.Core.Path.{_≡_, refl, sym, ap, _∙_}
+use mathlib.Core.Path.{_≡_, sym, ap, _∙_}
 use lib.IntN.{ℤ}
 use Rattle.refusals.specs.Refusals.{judged, refuse}
 use Rattle.refusals.specs.declared.Judged.{Judged}

@@ -15,13 +15,13 @@ use lib.Ieee.Exact.{HasValue}
 use lib.Ieee.Back.{round-whole}
 use lib.Ieee.Casts.{toUnsigned-lt}
 use Rattle.float.specs.Float.{fractOf}
-use Rattle.float.specs.Numbers.{nil}
+use Rattle.float.specs.Numbers.{nought}
 use Rattle.geometry.specs.declared.Break.{Break}
 use Rattle.lookup.specs.Lookup.{found, lookedUp, pointBetween}
 use Rattle.breaks.specs.declared.Grid.{Grid}
 use Rattle.breaks.specs.declared.Placed as P
 use Rattle.breaks.specs.declared.Placed.the-variants as Placed
-use Rattle.breaks.specs.Breaks.{Row, placeAt, placeOf, placesOf, lengthAt, Finding, so, full, pushedIf, opened, replacedIf, joinedIf, opens, joinOf, stepped, walk, Result, breaks, refused, resultOf, breaksOf}
+use Rattle.breaks.specs.Breaks.{Row, placeAt, placeOf, placesOf, lengthAt, Finding, so, full, pushedIf, opened, replacedIf, joinedIf, opens, joinOf, stepped, walk, RunBreaks, breaks, refused, runBreaksOf, breaksOf}
 use Rattle.survey.proofs.Bounded.{Within, round-within, mul-within, div-within, none-over-none, place-within}
 
 -- ---- one place: a length of at most k is looked up at a place of at most k
@@ -106,11 +106,11 @@ walk-sound zero room n place i all h s = s
 walk-sound (suc k) room n place i all h s = walk-sound k room n place (i + 1) all (omega arith) (step-sound room s (all i (omega arith)))
 
 -- breaks, or refusal 7
-pub data Only : Result → Type 0 where
+pub data Only : RunBreaks → Type 0 where
   all : (row : Row) → Only (breaks row)
   short : Only (refused 7)
 
-result-only : {f : Finding} → Sound f → Only (resultOf f)
+result-only : {f : Finding} → Sound f → Only (runBreaksOf f)
 result-only (is-so row d) = all row
 result-only is-full = short
 
@@ -121,4 +121,4 @@ module _ (samples : List (List Float)) (g : Grid) (len : Float) (k : ℕ) (small
 
   pub breaks-only : (room : ℕ) → Only (breaksOf room samples g len)
   unfolding breaksOf
-  breaks-only room = result-only (walk-sound (suc (placesOf len)) room (placesOf len) (placeOf samples g len) 0 all-places (omega arith) (is-so [] nil))
+  breaks-only room = result-only (walk-sound (suc (placesOf len)) room (placesOf len) (placeOf samples g len) 0 all-places (omega arith) (is-so [] nought))

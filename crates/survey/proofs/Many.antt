@@ -9,7 +9,7 @@ use borrow.Author.Tests.{leb-true, leb-false, lt-leb}
 use lib.Dec.{leb}
 use lib.ListN.{length, set, length-append, length-set}
 use lib.Ieee.{Float, lt}
-use Rattle.float.specs.Numbers.{nil}
+use Rattle.float.specs.Numbers.{nought}
 use Rattle.geometry.specs.declared.Break.{Break}
 use Rattle.breaks.specs.declared.Grid.{Grid}
 use Rattle.breaks.specs.declared.Placed as P
@@ -82,7 +82,7 @@ module _ (room : ℕ) (samples : List (List Float)) (g : Grid) (len : Float) whe
   most = suc (placesOf len)
 
   abbrev found : ℕ → Finding
-  found n = walk most n (placeOf samples g len) 0 (so [] nil)
+  found n = walk most n (placeOf samples g len) 0 (so [] nought)
 
   finds-by : (f f' : Finding) → found room ≡ f → found most ≡ f' → {i : ℕ} → Ahead room most i f f' → Finds room samples g len
   unfolding breaksOf
@@ -94,4 +94,4 @@ module _ (room : ℕ) (samples : List (List Float)) (g : Grid) (len : Float) whe
   pub finds : ((i : ℕ) → i ≤ placesOf len → IsAt (placeOf samples g len i)) → Finds room samples g len
   finds all =
       finds-by _ _ refl refl
-      (walk-ahead room most most (placeOf samples g len) 0 (λ i h. all i (omega arith)) (omega arith) (same {row = []} {d = nil} (omega arith) (omega arith)))
+      (walk-ahead room most most (placeOf samples g len) 0 (λ i h. all i (omega arith)) (omega arith) (same {row = []} {d = nought} (omega arith) (omega arith)))

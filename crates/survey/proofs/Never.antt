@@ -7,8 +7,8 @@ use lib.Dec.{lit≤}
 use lib.Ieee.{Float}
 use lib.IntN.{ℤ}
 use lib.ListN.{length}
-use Rattle.corners.specs.Segments.{startOf}
-use Rattle.breaks.specs.Breaks.{Result, breaksOf}
+use Rattle.outline.specs.Segments.{startOf}
+use Rattle.breaks.specs.Breaks.{RunBreaks, breaksOf}
 use Rattle.breaks.specs.Breaks as Breaks
 use Rattle.breaks.specs.declared.Grid.{Grid}
 use Rattle.samples.specs.Samples.{Sample, Run, thetasOf, quadsOf}
@@ -39,7 +39,7 @@ module _ (sampleRow : ℕ) (xs ys : List ℤ) (fs : List ℕ) (first count : ℕ
   finds-all room = finds room samples g len (all-places samples g len (reached .1 .size) small (reached .1 .is) (reached .1 .more))
 
 module _ (sampleRow breakRow : ℕ) (xs ys : List ℤ) (fs : List ℕ) (first count : ℕ) (g : Grid) (sx : Sixteen xs) (sy : Sixteen ys) where
-  searched-answered : (samples : List Sample) {r : Result} → Only r → Answered (searched samples r)
+  searched-answered : (samples : List Sample) {r : RunBreaks} → Only r → Answered (searched samples r)
   searched-answered samples (all row) = found samples row
   searched-answered samples short = seven
 
@@ -48,16 +48,16 @@ module _ (sampleRow breakRow : ℕ) (xs ys : List ℤ) (fs : List ℕ) (first co
   sampled-answered (Samples.sampled samples len) e = searched-answered samples (only sampleRow xs ys fs first count g sx sy samples len e (breakRoom breakRow))
 
 -- no two kinds of answer are one: 8 for those that are ruled out
-abbrev kind : Result → ℕ
+abbrev kind : RunBreaks → ℕ
 kind (Breaks.breaks row) = 0
 kind (Breaks.refused k) = k
 kind Breaks.unchanged = 8
 
-kind-below : {r : Result} → Only r → kind r < 8
+kind-below : {r : RunBreaks} → Only r → kind r < 8
 kind-below (all row) = lit≤ tt
 kind-below short = lit≤ tt
 
-ruled-out : {r : Result} → Only r → kind r ≡ 8 → ⊥
+ruled-out : {r : RunBreaks} → Only r → kind r ≡ 8 → ⊥
 ruled-out o e = omega (arith, kind-below o)
 
 pub finds-breaks : FindsBreaks

@@ -15,7 +15,7 @@ use lib.Ieee.Exact.{HasValue}
 use lib.Ieee.Back.{round-whole}
 use lib.Ieee.Order.{round-mono}
 use lib.Ieee.Scale.{round-same}
-use Rattle.float.specs.Numbers.{nil, one, two}
+use Rattle.float.specs.Numbers.{nought, one, two}
 use Rattle.geometry.specs.declared.Quad.{Quad}
 use Rattle.arclen.specs.Arclen.{hundredth, arclenFunctorOf, rk4One}
 use Rattle.samples.specs.declared.Step.{Step}
@@ -86,7 +86,7 @@ module _ (room : ℕ) (few : room ≤ 2 ^ 52) where
   all-counted : (qs : List Quad) (y : Float) {w : Walked} → Counted w → Counted (sweepAll room qs y w)
   unfolding sweepAll
   all-counted [] y c = c
-  all-counted (q ∷ qs) y c = all-counted qs (lengthAfter q y) (sweep-counted 100 q nil y c)
+  all-counted (q ∷ qs) y c = all-counted qs (lengthAfter q y) (sweep-counted 100 q nought y c)
 
   begins : Counted begun
   unfolding round ofBits
@@ -145,8 +145,8 @@ module _ (room : ℕ) (few : room ≤ 2 ^ 52) where
       )
 
   -- the samples of a run whose length is no NaN and not negative
-  pub run-reaches : (qs : List Quad) (row : List Sample) (len : Float) → Size (lengthAll qs nil) → thetasOf room qs ≡ sampled row len → (length row ≤ room) × Reached (length row) len
+  pub run-reaches : (qs : List Quad) (row : List Sample) (len : Float) → Size (lengthAll qs nought) → thetasOf room qs ≡ sampled row len → (length row ≤ room) × Reached (length row) len
   unfolding thetasOf finished
   run-reaches qs row len z e =
-      let y = lengthAll qs nil in
-      ended z (filled-stops room few (lastStep (lastOf nowhere qs) y) (add binary64 y two) (all-counted room few qs nil (begins room few))) e
+      let y = lengthAll qs nought in
+      ended z (filled-stops room few (lastStep (lastOf nowhere qs) y) (add binary64 y two) (all-counted room few qs nought (begins room few))) e

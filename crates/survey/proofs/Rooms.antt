@@ -7,7 +7,7 @@ use lib.IntN.{ℤ}
 use lib.Ieee.{Float}
 use lib.ListN.{length, take, length-append, length-take}
 use lib.Seq.{length-take-le, take-length, take-append-le, take-take}
-use Rattle.breaks.specs.Breaks.{Row, Result, breaksOf, breaksIn, countFound}
+use Rattle.breaks.specs.Breaks.{Row, breaksOf, breaksIn, countFound}
 use Rattle.breaks.specs.declared.Breaks as B
 use Rattle.breaks.specs.declared.Breaks.the-variants as Breaks
 use Rattle.breaks.specs.declared.Grid.{Grid}

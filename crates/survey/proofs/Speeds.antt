@@ -14,13 +14,13 @@ use lib.ListN.{length, getD, List·getD-eq-default}
 use lib.Ieee.{Float, inf, fin, binary64, up, down, odd, units, round, sum, add, mul, div, ofInt, ofBits}
 use lib.Ieee.Fits.{round-is}
 use Rattle.float.specs.Float.{rootOf, rootUnits}
-use Rattle.float.specs.Numbers.{nil, half, two, six}
+use Rattle.float.specs.Numbers.{nought, half, two, six}
 use Rattle.geometry.specs.Geometry.{alongOf, squares}
 use Rattle.geometry.specs.declared.Quad.{Quad}
 use Rattle.arclen.specs.Rk4.{halfOf, moved, grownBy, grownAll, rk4}
 use Rattle.arclen.specs.Arclen.{hundredth, doubled, arclenFunctorOf, derivOf, speedOf, rk4One}
 use Rattle.arclen.specs.declared.ArclenFunctor.{ArclenFunctor}
-use Rattle.corners.specs.Segments.{coordinate, onAt, nextOf, segIf, segFrom, endOf}
+use Rattle.outline.specs.Segments.{coordinate, onAt, nextOf, segIf, segFrom, endOf}
 use Rattle.samples.specs.Samples.{quadOf, quadsFrom, lengthFrom, lengthAll}
 use Rattle.survey.specs.Never.{Sixteen}
 use Rattle.survey.proofs.Bounded.{Within, within, wider, round-within, add-within, sub-within, mul-within}
@@ -94,9 +94,9 @@ two-within : Within 2 two
 unfolding ofBits
 two-within = within _ _ _ (lit≤ tt)
 
-nil-within : Within 0 nil
+nought-within : Within 0 nought
 unfolding ofBits
-nil-within = within _ _ _ (lit≤ tt)
+nought-within = within _ _ _ (lit≤ tt)
 
 half-step-within : Within 1 (halfOf hundredth)
 half-step-within = mul-within step-within half-within (lit≤ tt)
@@ -209,8 +209,8 @@ module _ (xs ys : List ℤ) (sx : Sixteen xs) (sy : Sixteen ys) where
   all-size fs a zero y z = z
   all-size fs a (suc n) y z =
       let q = quadOf (segFrom xs ys fs a) in
-      all-size fs (endOf fs a) n _ (from-size 100 0 (arclenFunctorOf q) nil y (steady q (quad-held fs a)) (lit≤ tt) nil-within z)
+      all-size fs (endOf fs a) n _ (from-size 100 0 (arclenFunctorOf q) nought y (steady q (quad-held fs a)) (lit≤ tt) nought-within z)
 
   -- the length of n segments from place a on
-  pub length-size : (fs : List ℕ) (a n : ℕ) → Size (lengthAll (quadsFrom xs ys fs a n) nil)
-  length-size fs a n = all-size fs a n nil (unfold ofBits in number _ _)
+  pub length-size : (fs : List ℕ) (a n : ℕ) → Size (lengthAll (quadsFrom xs ys fs a n) nought)
+  length-size fs a n = all-size fs a n nought (unfold ofBits in number _ _)

@@ -1,21 +1,21 @@
 -- Laws for callers: a surveyed run has a break, at most 2,048 of them, and their coordinates are doubles; longer rows change no survey but one refused 6
 -- or 7. Assumes nothing.
-use Prim.Native.Nat.{ℕ, min, _<_, _≤_}
+use Prim.Native.Nat.{ℕ, _<_, _≤_}
 use native.Mathlib.Omega.{arith}
 use mathlib.Core.List.{List}
-use mathlib.Core.Path.{_≡_, refl, sym, ap, subst, _∙_}
+use mathlib.Core.Path.{_≡_, refl, ap, _∙_}
 use lib.Dec.{T}
 use lib.Ieee.{Float, binary64, fits}
 use lib.IntN.{ℤ}
 use lib.ListN.{length}
-use Rattle.breaks.specs.Breaks.{Row, Result, breakAt, breaksOf}
+use Rattle.breaks.specs.Breaks.{Row, RunBreaks, breakAt, breaksOf}
 use Rattle.breaks.specs.Breaks as Breaks
 use Rattle.breaks.specs.Laws.{found-some, found-few, found-fit, breaks-same}
 use Rattle.breaks.specs.declared.Grid.{Grid}
 use Rattle.samples.specs.Samples.{Sample, Run, thetasOf, quadsOf}
 use Rattle.samples.specs.Samples as Samples
 use Rattle.samples.specs.Laws.{samples-same}
-use Rattle.survey.specs.Survey.{Survey, refused, past, surveyed, sampleRoom, breakRoom, searched, afterSampling, surveyOf}
+use Rattle.survey.specs.Survey.{refused, surveyed, sampleRoom, breakRoom, searched, afterSampling, surveyOf}
 
 -- the breaks of a surveyed run are some that were found
 record Found (room : ℕ) (g : Grid) (row : Row) : Type 0 where
@@ -23,7 +23,7 @@ record Found (room : ℕ) (g : Grid) (row : Row) : Type 0 where
   len : Float
   found : breaksOf room samples g len ≡ Breaks.breaks row
 
-searched-found : (room : ℕ) (g : Grid) (samples s : List Sample) (len : Float) (row : Row) (x : Result) → breaksOf room samples g len ≡ x →
+searched-found : (room : ℕ) (g : Grid) (samples s : List Sample) (len : Float) (row : Row) (x : RunBreaks) → breaksOf room samples g len ≡ x →
     searched samples x ≡ surveyed s row → Found room g row
 searched-found room g samples s len row (Breaks.breaks b) e h =
     let same : b ≡ row = cc in

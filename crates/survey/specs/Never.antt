@@ -28,7 +28,7 @@ FindsBreaks =
 -- ---- how many breaks
 
 -- all breaks of a sampled run: they are no more than the places 0 to n
-abbrev pub allBreaks : List Sample → Grid → Float → Breaks.Result
+abbrev pub allBreaks : List Sample → Grid → Float → Breaks.RunBreaks
 allBreaks samples g len = breaksOf (suc (placesOf len)) samples g len
 
 -- with another room there are these, or they are more than it takes: 7

@@ -1,10 +1,9 @@
 -- One run surveyed: its samples, then its breaks, each with its room. Definitions only.
 use Prim.Native.Nat.{ℕ, min}
 use mathlib.Core.List.{List}
-use lib.Ieee.{Float}
 use lib.IntN.{ℤ}
 use lib.ListN.{take}
-use Rattle.breaks.specs.Breaks.{Row, Result, breaksOf}
+use Rattle.breaks.specs.Breaks.{Row, RunBreaks, breaksOf}
 use Rattle.breaks.specs.Breaks as Breaks
 use Rattle.breaks.specs.declared.Grid.{Grid}
 use Rattle.samples.specs.Samples.{Sample, Run, thetasOf, quadsOf}
@@ -26,7 +25,7 @@ pub data Survey : Type 0 where
   past : Survey
   surveyed : List Sample → Row → Survey
 
-abbrev pub searched : List Sample → Result → Survey
+abbrev pub searched : List Sample → RunBreaks → Survey
 searched samples (Breaks.breaks row) = surveyed samples row
 searched samples (Breaks.refused k) = refused k
 searched samples Breaks.unchanged = past

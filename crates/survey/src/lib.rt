@@ -28,7 +28,7 @@ fn search(samples: &[[f64; 4]], len: f64, g: Grid, breaks: &mut [[f64; 6]]) -> S
     match breaks::find_breaks(samples, len, g, &mut breaks[..room]) {
         Breaks::Found(n) => Surveyed::Rows(samples.len(), n),
         Breaks::Full => Surveyed::Refused(7),
-        Breaks::Last => Surveyed::Refused(8),
+        Breaks::Missing => Surveyed::Refused(8),
         Breaks::Past => Surveyed::Past,
     }
 }

@@ -2,7 +2,7 @@
 use Prim.Native.Nat.{ℕ, zero, suc, _-_, _≤_, _<_}
 use mathlib.Core.Path.{_≡_, refl}
 use native.Mathlib.Omega.{arith}
-use Rattle.corners.specs.Corners.{previous}
+use Rattle.outline.specs.Segments.{previous}
 
 module _ (m : ℕ) where
   pub previous-some : (k : ℕ) → 0 < k → k - 1 ≡ previous m k

@@ -10,7 +10,7 @@ use lib.IntN.{ℤ, pos, natAbs, _-ℤ_}
 use lib.ListN.{getD}
 use lib.Ieee.{binary64, sub}
 use lib.Ieee.Fits.{sub-fits}
-use Rattle.float.specs.Numbers.{nil}
+use Rattle.float.specs.Numbers.{nought}
 use Rattle.float.specs.Float.{closeTo}
 use Rattle.float.proofs.Zeros.{IsZero}
 use Rattle.refusals.specs.Refusals.{judged}
@@ -19,9 +19,9 @@ use Rattle.refusals.specs.declared.Judged.{Judged}
 use Rattle.refusals.specs.declared.Judged.the-variants as Judged
 use Rattle.rows.specs.Sixteen.{SixteenBits}
 use Rattle.geometry.specs.declared.Point.{Point}
-use Rattle.corners.specs.Segments.{coordinate, countOf, startOf}
-use Rattle.corners.specs.Laws.{count-few}
-use Rattle.corners.specs.Corners.{turnsX, turnsY, zeroTangent, previous, chordAt, tangentAt}
+use Rattle.outline.specs.Segments.{coordinate, countOf, startOf, previous}
+use Rattle.outline.specs.Laws.{count-few}
+use Rattle.corners.specs.Corners.{turnsX, turnsY, zeroTangent, chordAt, tangentAt}
 use Rattle.corners.proofs.Reasons.{marked-when, twice-when, corner-when, no-corner-past}
 use Rattle.corners.proofs.Whole.{step-whole, step-small, size-at, between, leaving-is, arriving-is}
 use Rattle.why.specs.Tests.{firstState, secondState, tangentBefore, tangentAfter, noneBefore, noneAfter, angled, reasonsOf, someReason}
@@ -110,7 +110,7 @@ none-of xs ys hx hy i j is h =
     let e = both _ _ (rw is at h) in
     rw is (record { x = close xs hx i j (e .0); y = close ys hy i j (e .1) })
   where
-    close : (row : List ℤ) → SixteenBits row → (i j : ℕ) → closeTo (sub binary64 (coordinate row j) (coordinate row i)) nil ≡ true → IsZero (sub binary64 (coordinate row j) (coordinate row i))
+    close : (row : List ℤ) → SixteenBits row → (i j : ℕ) → closeTo (sub binary64 (coordinate row j) (coordinate row i)) nought ≡ true → IsZero (sub binary64 (coordinate row j) (coordinate row i))
     close row hr i j c =
         let u = getD row j (pos 0) in
         let v = getD row i (pos 0) in

@@ -2,7 +2,7 @@
 use Prim.Native.Nat.{ℕ, _≤_, _<_}
 use mathlib.Core.Bool.{Bool}
 use mathlib.Core.List.{List}
-use mathlib.Core.Path.{_≡_, refl}
+use mathlib.Core.Path.{_≡_}
 use borrow.Author.Tests.{lt-ltb, le-ltb}
 use lib.IntN.{ℤ}
 use Rattle.geometry.specs.declared.Point.{Point}
@@ -10,9 +10,9 @@ use Rattle.refusals.specs.Refusals.{judged}
 use Rattle.refusals.specs.declared.Judged.{Judged}
 use Rattle.refusals.specs.declared.Judged.the-variants as Judged
 use Rattle.rows.specs.Lent.{inputs}
-use Rattle.corners.specs.declared.Seg.{Seg}
-use Rattle.corners.specs.Segments.{countOf, startOf, segFrom, segAt, chordOf, leavingOf, arrivingOf}
-use Rattle.corners.specs.Corners.{origin, turnsX, turnsY, zeroTangent, angleCorner, previous, stateAt}
+use Rattle.outline.specs.declared.Seg.{Seg}
+use Rattle.outline.specs.Segments.{countOf, startOf, segFrom, segAt, chordOf, leavingOf, arrivingOf, origin, previous}
+use Rattle.corners.specs.Corners.{turnsX, turnsY, zeroTangent, angleCorner, stateAt}
 use Rattle.why.specs.Tests.{either, reasonsOf}
 use Rattle.why.specs.Entry.{Promise}
 use Rattle.why.specs.declared.Marks.{Marks}

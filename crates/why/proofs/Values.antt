@@ -1,15 +1,14 @@
 -- Worked values: the smallest contours that tell the rule from its neighbours. Each is computed from the definitions. Assumes nothing.
 use Prim.Native.Nat.{ℕ}
-use mathlib.Core.Bool.{Bool, true, false}
+use mathlib.Core.Bool.{true, false}
 use mathlib.Core.List.{List, [], _∷_}
 use mathlib.Core.Path.{_≡_, refl}
 use lib.IntN.{ℤ, pos}
 use lib.Ieee as Ieee
 use Rattle.float.specs.Float.{absOf, tiny, closeTo, rootDown, rootNear, rootUnits, rootOf}
-use Rattle.corners.specs.Segments.{countOf, endOf, placeAfter, segFrom}
-use Rattle.corners.specs.Corners.{origin, turnsX, turnsY, chordAt, stateAt}
+use Rattle.outline.specs.Segments.{countOf, endOf, placeAfter, segFrom}
+use Rattle.corners.specs.Corners.{turnsY, chordAt, stateAt}
 use Rattle.why.specs.Tests.{firstState, secondState, turnY, reasonsOf}
-use Rattle.why.specs.declared.Marks.{Marks}
 
 -- (7, 9) alone: both zero tangents, and no angle
 one-point : reasonsOf (pos 7 ∷ []) (pos 9 ∷ []) (1 ∷ []) 1 0 ≡ record { x = false; y = false; before = true; after = true; angle = false }

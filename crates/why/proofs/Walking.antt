@@ -7,10 +7,10 @@ use native.Mathlib.Nat.{le-antisymm}
 use native.Mathlib.Omega.{arith}
 use lib.IntN.{ℤ}
 use Rattle.geometry.specs.declared.Point.{Point}
-use Rattle.corners.specs.declared.Seg.{Seg}
-use Rattle.corners.specs.Segments.{endOf, startOf, segFrom, chordOf}
+use Rattle.outline.specs.declared.Seg.{Seg}
+use Rattle.outline.specs.Segments.{endOf, startOf, segFrom, chordOf}
 use Rattle.corners.specs.Corners.{turns, afterTurn, stateAt, turnAt}
-use Rattle.corners.specs.Laws.{place-none, place-more}
+use Rattle.outline.specs.Laws.{place-none, place-more}
 use Rattle.corners.proofs.Rounds.{state-more, state-none}
 
 -- after i of the k segments, in a round that started with s₀

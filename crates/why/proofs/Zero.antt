@@ -1,22 +1,21 @@
 -- A zero tangent leaves the angle test false: a whole number close to 0 is 0, so that the bend and the product of the lengths are 0 or NaN, and
 -- their quotient is NaN. Assumes nothing.
 use Prim.Native.Nat.{ℕ, zero, suc, _*_, _^_, _≤_, _<_}
-use mathlib.Core.Bool.{Bool, true, false, _&&_, false≢true}
+use mathlib.Core.Bool.{Bool, true, false}
 use mathlib.Core.Path.{_≡_, refl, sym, ap, _∙_, subst}
-use native.Mathlib.Nat.{mul-comm, mul-one, mul-le-mul, le-refl}
+use native.Mathlib.Nat.{mul-comm, mul-le-mul, le-refl}
 use native.Mathlib.Omega.{arith}
 use borrow.Author.Tests.{ltb-true}
 use lib.Dec.{T}
 use lib.IntN.{ℤ, pos, negsuc}
 use lib.Ieee.{Float, nan, inf, fin, binary64, up, down, unlike, fits, round, sub, mul, div, lt}
-use lib.Ieee.Exact.{HasValue}
 use lib.Ieee.Back.{whole-unique}
-use Rattle.float.specs.Numbers.{nil}
+use Rattle.float.specs.Numbers.{nought}
 use Rattle.float.specs.Float.{absOf, tiny, closeTo}
 use Rattle.float.proofs.Zeros.{IsZero, is-zero, zero-finite, IsBlank, blank, blank-nan, zeros-add, times-zero, any-times-zero, root-zero, blanks-sub, blank-over-zero}
 use Rattle.geometry.specs.declared.Point.{Point}
 use Rattle.geometry.specs.Geometry.{normOf}
-use Rattle.corners.specs.Corners.{zeroTangent, fiftieth, bend, angleCorner}
+use Rattle.corners.specs.Corners.{fiftieth, bend, angleCorner}
 use Rattle.corners.proofs.Whole.{Whole, minus-nil}
 
 -- ---- a whole number close to 0 is 0
@@ -43,10 +42,10 @@ zero-fits s = tt
 zero-value : (x : Float) → T (fits binary64 x) → Whole x 0 → IsZero x
 zero-value x f v = subst IsZero (whole-unique binary64 (fin (v .sign) 0 (pos 0)) x (v .sign) 0 (zero-fits (v .sign)) f (refl, refl) (v .value)) (is-zero (v .sign))
 
-pub close-is-zero : (x : Float) (a : ℕ) → T (fits binary64 x) → Whole x a → a < 2 ^ 53 → closeTo x nil ≡ true → IsZero x
+pub close-is-zero : (x : Float) (a : ℕ) → T (fits binary64 x) → Whole x a → a < 2 ^ 53 → closeTo x nought ≡ true → IsZero x
 unfolding closeTo
 close-is-zero x a f v small h =
-    let none : a ≡ 0 = below-tiny (sub binary64 x nil) a (minus-nil x a v small) (ap (lt (absOf (sub binary64 x nil))) (sym tiny-is) ∙ h) in
+    let none : a ≡ 0 = below-tiny (sub binary64 x nought) a (minus-nil x a v small) (ap (lt (absOf (sub binary64 x nought))) (sym tiny-is) ∙ h) in
     zero-value x f (rw none at v)
 
 -- ---- what a zero tangent makes of the bend and of the lengths

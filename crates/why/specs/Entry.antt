@@ -7,7 +7,7 @@ use Rattle.refusals.specs.Refusals.{judged}
 use Rattle.refusals.specs.declared.Judged.{Judged}
 use Rattle.refusals.specs.declared.Judged.the-variants as Judged
 use Rattle.rows.specs.Lent.{Inputs, inputs}
-use Rattle.corners.specs.Segments.{countOf}
+use Rattle.outline.specs.Segments.{countOf}
 use Rattle.why.specs.Tests.{reasonsOf}
 use Rattle.why.specs.declared.Marks.{Marks}
 use Rattle.why.specs.declared.WhyReport.{WhyReport}

@@ -8,7 +8,7 @@ use lib.ListN.{getD}
 use Rattle.rows.specs.Lent.{inputs}
 use Rattle.rows.specs.Sixteen.{SixteenBits}
 use Rattle.geometry.specs.declared.Point.{Point}
-use Rattle.corners.specs.Segments.{countOf}
+use Rattle.outline.specs.Segments.{countOf}
 use Rattle.corners.specs.Corners.{turnsX, turnsY, none, marked, chordAt, cornersOf}
 use Rattle.why.specs.Tests.{firstState, secondState, noneBefore, noneAfter, angled, someReason}
 use Rattle.why.specs.Entry.{Promise}

@@ -1,11 +1,11 @@
 -- The five tests that can make a segment's start a corner, each by its own name: document 02's W1. Definitions only.
 use Prim.Native.Nat.{ℕ}
-use mathlib.Core.Bool.{Bool, true, false, _||_}
+use mathlib.Core.Bool.{Bool, _||_}
 use mathlib.Core.List.{List}
 use lib.IntN.{ℤ}
 use Rattle.geometry.specs.declared.Point.{Point}
-use Rattle.corners.specs.Segments.{segAt, leavingOf, arrivingOf}
-use Rattle.corners.specs.Corners.{origin, turnsX, turnsY, zeroBefore, zeroAfter, angleCorner, previous, chordAt, stateAt}
+use Rattle.outline.specs.Segments.{segAt, leavingOf, arrivingOf, origin, previous}
+use Rattle.corners.specs.Corners.{turnsX, turnsY, zeroBefore, zeroAfter, angleCorner, chordAt, stateAt}
 use Rattle.why.specs.declared.Marks.{Marks}
 
 abbrev pub either : Bool → Bool → Bool

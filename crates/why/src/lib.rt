@@ -5,8 +5,8 @@ use refusals::Judged;
 ghost use Prim.Native.Nat.{_≤_};
 ghost use mathlib.Core.Path.{_≡_};
 ghost use Rattle.rows.specs.Lent.{before, contour, Shown};
-ghost use Rattle.corners.specs.Segments.{segAt, chordOf, arrivingOf};
-ghost use Rattle.corners.specs.Corners.{previous, stateAt};
+ghost use Rattle.outline.specs.Segments.{segAt, arrivingOf, previous};
+ghost use Rattle.corners.specs.Corners.{stateAt};
 ghost use Rattle.why.specs.Tests.{either, reasonsOf};
 ghost use Rattle.why.specs.Entry.{bitIf, bitsOf, Promise, report};
 
@@ -41,9 +41,9 @@ fn state_at(xs: &[i16], ys: &[i16], flags: &[u8], from: Point, k: usize) -> Poin
     let mut a = 0;
     let mut i = 0;
     while i < k {
-        let c = corners::read_from(xs, ys, flags, a).chord();
+        let c = outline::read_from(xs, ys, flags, a).chord();
         s = corners::after_turn(corners::turns(s, c), s, c);
-        a = corners::end_of(flags, a);
+        a = outline::end_of(flags, a);
         i += 1;
     }
     s
@@ -63,7 +63,7 @@ fn previous(m: usize, k: usize) -> usize
 fn arriving_at(xs: &[i16], ys: &[i16], flags: &[u8], k: usize) -> Point
     ensures { λ r. ⌜ r ≡ arrivingOf (segAt (before xs) (before ys) (before flags) k) ⌝ }
 {
-    corners::read_from(xs, ys, flags, corners::start_of(flags, k)).arriving()
+    outline::read_from(xs, ys, flags, outline::start_of(flags, k)).arriving()
 }
 
 // The five tests at index k, of m segments. Both rounds of signs are looked at: the second starts with the state that
@@ -75,7 +75,7 @@ fn reasons(xs: &[i16], ys: &[i16], flags: &[u8], m: usize, k: usize) -> Marks
     let first = state_at(xs, ys, flags, origin, k);
     let ended = state_at(xs, ys, flags, origin, m);
     let second = state_at(xs, ys, flags, ended, k);
-    let here = corners::read_from(xs, ys, flags, corners::start_of(flags, k));
+    let here = outline::read_from(xs, ys, flags, outline::start_of(flags, k));
     let c = here.chord();
     let d0 = arriving_at(xs, ys, flags, previous(m, k));
     let d1 = here.leaving();
@@ -95,7 +95,7 @@ pub fn why(xs: &[i16], ys: &[i16], flags: &[u8], k: usize) -> Explained
     match refusals::judge(xs, ys, flags) {
         Judged::Refused(n) => Explained::Refused(n),
         Judged::Fine => {
-            let m = corners::count(flags);
+            let m = outline::count(flags);
             if k < m {
                 return Explained::Reasons(reasons(xs, ys, flags, m, k));
             }

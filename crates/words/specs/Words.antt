@@ -4,7 +4,7 @@ use mathlib.Core.Bool.{Bool, true, false, _&&_}
 use mathlib.Core.List.{List, [], _∷_}
 use mathlib.Core.Option.{Option, none, some}
 use lib.Dec.{eqb, leb}
-use Rattle.lines.specs.Line.{wholeOf}
+use Rattle.lines.specs.Line.{naturalOf}
 use Rattle.settings.specs.Settings.{defaultSettings}
 use Rattle.settings.specs.declared.Settings.{Settings}
 use Rattle.words.specs.declared.Reading as R
@@ -65,7 +65,7 @@ sixteenths s told none = Reading.Wrong
 -- one word more
 unfoldable pub taken : R.Reading → List ℕ → R.Reading
 taken (Reading.Has s told) word = optionOf s told word
-taken (Reading.Penalty s told) word = sixteenths s told (wholeOf word)
+taken (Reading.Penalty s told) word = sixteenths s told (naturalOf word)
 taken Reading.Wrong word = Reading.Wrong
 
 unfoldable pub allTaken : R.Reading → List (List ℕ) → R.Reading

@@ -1,7 +1,7 @@
 -- `assembly::after_survey` meets its contract. Assumes nothing.
 use Prim.Native.Nat.{_+_}
 use native.Mathlib.Omega.{arith}
-use mathlib.Core.Path.{refl, sym, ap, subst}
+use mathlib.Core.Path.{refl, sym, subst}
 use lib.Seq.{length-take-le}
 use Rattle.survey.specs.Survey.{samplesUsed, breaksUsed}
 use Rattle.edition.specs.Laws.{in-row}

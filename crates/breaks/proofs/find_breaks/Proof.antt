@@ -1,11 +1,11 @@
 -- `breaks::find_breaks` meets its contract. The loop's invariant is `Seeking`; the measure is what is left of the places. Assumes nothing.
 use Prim.Native.Nat.{ℕ, suc, _-_, _^_, _≤_}
 use native.Mathlib.Omega.{arith}
-use mathlib.Core.Path.{_≡_, refl, sym, _∙_}
+use mathlib.Core.Path.{refl, _∙_}
 use lib.Dec.{T, le→leb}
 use lib.IntN.{pos}
 use lib.Ieee.{binary64, inFloat}
-use Rattle.breaks.specs.Breaks.{joinedIn, countJoined, full, last, past}
+use Rattle.breaks.specs.Breaks.{full, last, past}
 use Rattle.breaks.proofs.Laws.{capped, Seeking, seek, seeks, seeks-no-more, sought}
 use Rattle.breaks.proofs.find_breaks.Statement.{statement}
 use Rattle.breaks.proofs.find_breaks.Tie as tie

@@ -1,11 +1,10 @@
 -- `breaks::join` meets its contract. Assumes nothing.
-use Prim.Native.Nat.{_≤_}
 use native.Mathlib.Nat.{pos-of-ne-zero}
 use native.Mathlib.Omega.{arith}
 use mathlib.Core.Bool.{false}
 use lib.ListN.{take}
 use Rattle.breaks.specs.Breaks.{opens}
-use mathlib.Core.Path.{_≡_, sym, ap, _∙_}
+use mathlib.Core.Path.{_≡_, sym, _∙_}
 use Rattle.breaks.proofs.Laws.{join-opens, not-first, join-replaces, join-keeps}
 use borrow.Author.Needs.{needs}
 use Rattle.breaks.proofs.join.Statement.{statement}

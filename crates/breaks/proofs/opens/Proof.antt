@@ -1,6 +1,6 @@
 -- `breaks::opens` meets its contract. Assumes nothing.
-use mathlib.Core.Path.{_≡_, sym, ap, _∙_}
-use mathlib.Core.Bool.{true, false, not}
+use mathlib.Core.Path.{sym, ap, _∙_}
+use mathlib.Core.Bool.{not}
 use Rattle.breaks.proofs.Laws.{opens-first, opens-later}
 use borrow.Author.Needs.{needs}
 use Rattle.breaks.proofs.opens.Statement.{statement}

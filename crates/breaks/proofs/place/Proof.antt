@@ -2,7 +2,7 @@
 use Prim.Native.Nat.{_<_}
 use lib.ListN.{length}
 use lib.Ieee.{toUnsigned}
-use mathlib.Core.Path.{_≡_, sym, ap, _∙_}
+use mathlib.Core.Path.{sym, _∙_}
 use Rattle.breaks.proofs.Laws.{place-past, place-found, place-last}
 use borrow.Author.Needs.{needs}
 use Rattle.breaks.proofs.place.Statement.{statement}

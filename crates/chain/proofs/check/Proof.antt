@@ -2,7 +2,7 @@
 use mathlib.Core.Bool.{true}
 use mathlib.Core.Path.{_≡_, sym, _∙_}
 use borrow.Author.Tests.{not-true, not-false}
-use Rattle.chain.specs.Valid.{evenRows, chainOf, goodShape}
+use Rattle.chain.specs.Valid.{evenRows, chainIn, goodShape}
 use Rattle.chain.proofs.Along.{good-joined}
 use Rattle.chain.proofs.Verdict.{uneven, misshapen, unmeasured, right, wrong, none-uneven, none-misshapen, all-fallen}
 use Rattle.chain.proofs.check.Statement.{statement}
@@ -17,7 +17,7 @@ even c = sym (c .before .are-even .ensures) ∙ not-false _ (c .if1 .left)
 -- the shape is good
 good : (c : tie.Else2) →
     let args = c .before .before .before .before .before .before .before .before .args in
-    goodShape (args .breaks .now) (chainOf (args .starts .now) (args .ends .now) (args .xs .now) (args .ys .now)) ≡ true
+    goodShape (args .breaks .now) (chainIn (args .starts .now) (args .ends .now) (args .xs .now) (args .ys .now)) ≡ true
 good c = sym (c .before .is-good .ensures) ∙ not-false _ (c .if2 .left)
 
 are-even-requires : tie.Need-are-even-requires

@@ -2,7 +2,7 @@
 use lib.ListN.{length}
 use Rattle.pieces.specs.Slots.{chain}
 use Rattle.edition.specs.Edition.{editionOf}
-use Rattle.chains.specs.Chains.{written}
+use Rattle.chains.specs.Chains.{chainOut}
 use Rattle.chains.specs.Entry.{rows, roomIn}
 use Rattle.chains.proofs.Steps.{of-breaks}
 use Rattle.chains.proofs.chain_surveyed.Statement.{statement}
@@ -45,7 +45,7 @@ returns : tie.Need-returns
 returns c =
     let args = c .before .before .before .before .before .before .before .before .before .before .before .before .before .before .before .before .before .before .before .before .before .before .before .before .before .before .before .before .before .before .before .before .before .before .args in
     let lent = rows (chain (args .starts .now) (args .ends .now) (args .cxs .now) (args .cys .now)) (args .spans .now) in
-    of-breaks (written (roomIn lent) (editionOf (length (args .answers .now)) (length (args .links .now)) (args .samples .now) (args .breaks .now) (args .penalty))) lent
+    of-breaks (chainOut (roomIn lent) (editionOf (length (args .answers .now)) (length (args .links .now)) (args .samples .now) (args .breaks .now) (args .penalty))) lent
     (c .before .before .before .before .before .before .before .before .before .put-worked .ensures _ _ _ (c .before .before .before .before .before .before .before .before .before .before .before .before .before .before .before .before .before .before .before .before .before .before .before .before .edition .ensures)) (c .before .before .before .before .before .before .before .before .before .before .before .before .before .before .before .before .before .before .before .name .ensures)
 
 pub chain-surveyed-spec : {M : Type 1} → statement M

@@ -1,6 +1,6 @@
 -- `checks::check_chain` meets its contract. Assumes nothing.
 use mathlib.Core.Path.{refl, _∙_}
-use Rattle.checks.specs.Checks.{Given}
+use Rattle.checks.specs.Checks.{GivenChain}
 use Rattle.edition.specs.Laws.{cleared-work}
 use Rattle.checks.proofs.Steps.{whole-is}
 use Rattle.checks.proofs.check_chain.Statement.{statement}
@@ -31,7 +31,7 @@ returns : tie.Need-returns
 returns c =
     let args = c .before .before .before .before .before .before .before .before .before .before .before .before .before .before .before .before .before .before .before .before .before .before .args in
     let kept = c .before .before .before .before .before .before .before .before .before .before .before .before .check-judged .kept .1 .1 .1 .1 .1 .1 .1 .1 .1 .1 .1 in
-    let chain : Given = record { starts = args .starts .now; ends = args .ends .now; xs = args .cxs .now; ys = args .cys .now; score = args .score } in
+    let chain : GivenChain = record { starts = args .starts .now; ends = args .ends .now; xs = args .cxs .now; ys = args .cys .now; score = args .score } in
     record {
       ruling = whole-is (args .xs .now) (args .ys .now) (args .flags .now) (args .k) (args .settings) chain (args .samples .now) (args .breaks .now) (args .answers .now) (args .links .now) (c .before .before .before .before .before .before .before .before .before .before .before .before .before .before .before .least .ensures) (c .before .before .before .before .before .before .before .before .before .before .before .before .check-judged .ensures);
       left = cleared-work (args .samples .now) (args .breaks .now) (args .answers .now) (args .links .now) (c .before .before .before .before .before .clear-work .ensures) (kept .0) (kept .1 .0) refl refl;

@@ -1,5 +1,5 @@
 -- `checks::check_run` meets its contract. Assumes nothing.
-use mathlib.Core.Path.{refl, sym}
+use mathlib.Core.Path.{sym}
 use lib.Seq.{length-take-le}
 use Rattle.survey.specs.Survey.{samplesUsed, breaksUsed}
 use Rattle.edition.specs.Laws.{in-row, found-rows}

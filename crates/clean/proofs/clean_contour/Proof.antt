@@ -1,6 +1,5 @@
 -- `clean::clean_contour` meets its contract. Assumes nothing.
 use mathlib.Core.Path.{sym, _∙_}
-use borrow.Author.Needs.{needs}
 use Rattle.refusals.specs.Accepted.{accepted}
 use Rattle.clean.proofs.Writing.{refused-first, after-judging}
 use Rattle.clean.proofs.clean_contour.Statement.{statement}

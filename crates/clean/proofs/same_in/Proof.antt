@@ -1,7 +1,6 @@
 -- `clean::same_in` meets its contract. Assumes nothing.
-use mathlib.Core.Path.{ap, _∙_}
+use mathlib.Core.Path.{_∙_}
 use borrow.Author.Needs.{sfits-of}
-use Rattle.contour.specs.Implied.{same}
 use Rattle.contour.proofs.Sixteen.{same-bits}
 use Rattle.clean.proofs.same_in.Statement.{statement}
 use Rattle.clean.proofs.same_in.Tie as tie

@@ -1,7 +1,7 @@
 -- `fontcrunch_cli::asked` is safe and ends. The loop's invariant: the place lies in the row, which keeps its length. The measure is the words left.
 -- Assumes nothing.
 use Prim.Native.Nat.{_-_, _≤_}
-use mathlib.Core.Path.{_≡_, refl, sym, _∙_}
+use mathlib.Core.Path.{_≡_, refl, sym}
 use native.Mathlib.Nat.{le-of-lt}
 use native.Mathlib.Omega.{arith}
 use lib.ListN.{length}

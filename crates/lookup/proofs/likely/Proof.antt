@@ -1,7 +1,5 @@
 -- `lookup::likely` meets its contract. Assumes nothing.
 use borrow.Author.Needs.{needs}
-use Prim.Native.Nat.{_^_}
-use native.Mathlib.Omega.{arith}
 use lib.Bits.{mask-lt}
 use lib.Ieee.{binary64, toBits}
 use Rattle.float.proofs.Number.{more}

@@ -1,6 +1,6 @@
 -- `lookup::quick_lookup` meets its contract: a guess that passes the tests is the place. Assumes nothing.
 use Prim.Native.Nat.{_+_, _^_, _<_}
-use mathlib.Core.Path.{sym, _∙_}
+use mathlib.Core.Path.{sym}
 use native.Mathlib.Omega.{arith}
 use lib.Dec.{le→leb}
 use lib.Ieee.{inFloat}

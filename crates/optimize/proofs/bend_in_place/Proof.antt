@@ -36,7 +36,7 @@ returns-2 c =
     let found = c .before .before .before .before .before in
     let crossing = c .before .before .before .before .before .before .before in
     let start = c .before .before .before .before .before .before .before .before .before in
-    bend-by (start .args .samples .now) (start .args .a) _ _ (sym (found .p .given .1) ∙ crossing .intersect .ensures) (c .before .before .before .round .ensures) Measured.Last
+    bend-by (start .args .samples .now) (start .args .a) _ _ (sym (found .p .given .1) ∙ crossing .intersect .ensures) (c .before .before .before .round .ensures) Measured.Missing
     (rw (c .enum-told2 .given .1) at (measuring .measure-quad .ensures)) refl
 
 returns-3 : tie.Need-returns-3

@@ -3,7 +3,7 @@ use Prim.Native.Nat.{_+_}
 use native.Mathlib.Omega.{arith}
 use mathlib.Core.Path.{_≡_, refl}
 use lib.ListN.{replicate}
-use Rattle.optimize.specs.Answers.{none}
+use Rattle.attempt.specs.Answers.{none}
 use Rattle.optimize.specs.Optimize.{measureBy, refused, states}
 use Rattle.optimize.specs.Fallen.{fallenBetween, fellAfterFirst, fellOf}
 use Rattle.optimize.specs.Stored.{early, lost}

@@ -1,8 +1,8 @@
 -- `optimize::search_into` meets its contract. The loop's invariant is `Reaching`; the measure is j. Assumes nothing.
-use Prim.Native.Nat.{_+_, _-_, _≤_, _<_}
+use Prim.Native.Nat.{_-_, _≤_}
 use native.Mathlib.Omega.{arith}
 use mathlib.Core.List.{[], _∷_}
-use mathlib.Core.Path.{_≡_, refl, _∙_}
+use mathlib.Core.Path.{refl, _∙_}
 use borrow.Author.Tests.{not-true, not-false}
 use Rattle.optimize.specs.Optimize.{measureBy, falling}
 use Rattle.optimize.specs.Fallen.{fallenBetween}

@@ -11,7 +11,7 @@ use Rattle.geometry.specs.declared.Crossing.the-variants as Crossing
 use Rattle.geometry.specs.declared.Point.{Point}
 use Rattle.geometry.specs.declared.Quad.{Quad}
 use Rattle.breaks.specs.Breaks.{Row, breakAt}
-use Rattle.optimize.specs.Answers.{Best, okForHalf}
+use Rattle.attempt.specs.Answers.{Best, okForHalf}
 use Rattle.optimize.specs.Optimize.{Measure, measureBy, bestAt, bentQuad}
 use Rattle.optimize.specs.Fallen.{Fallen, fallenBetween}
 use Rattle.optimize.specs.Stored.{Phase, Into, Rep, goes}

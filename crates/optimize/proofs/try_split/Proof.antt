@@ -1,14 +1,13 @@
 -- `optimize::try_split` meets its contract. The first pair leaves the rows as the second asks for them. Assumes nothing.
 use borrow.Author.Needs.{needs}
 use native.Mathlib.Omega.{arith}
-use mathlib.Core.Bool.{true, false}
 use mathlib.Core.List.{[], _∷_}
-use mathlib.Core.Path.{_≡_, refl, _∙_}
+use mathlib.Core.Path.{_≡_, refl}
 use Prim.Native.Nat.{_+_}
 use Rattle.optimize.specs.Optimize.{measureBy, states}
 use Rattle.optimize.specs.Fallen.{fallenBetween}
 use Rattle.optimize.specs.Stored.{early}
-use Rattle.optimize.proofs.Phases.{between-most, all-most, into-first, into-last, next-split, Reaching, sets-out, holding, moves, breaks-off, arrives, alone, ready}
+use Rattle.optimize.proofs.Phases.{between-most, all-most, into-first, into-last, next-split, sets-out, holding, moves, breaks-off, alone, ready}
 use Rattle.optimize.proofs.Trying.{went, thens}
 use Rattle.optimize.proofs.try_split.Statement.{statement}
 use Rattle.optimize.proofs.try_split.Tie as tie

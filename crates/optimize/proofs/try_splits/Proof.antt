@@ -1,7 +1,6 @@
 -- `optimize::try_splits` meets its contract. The loop's invariant is `Reaching`, and where the splits have come to; the measure is what is left of them. Assumes nothing.
-use Prim.Native.Nat.{_+_, _-_, _≤_, _<_}
+use Prim.Native.Nat.{_-_, _≤_, _<_}
 use native.Mathlib.Omega.{arith}
-use mathlib.Core.List.{[], _∷_}
 use mathlib.Core.Path.{_≡_, refl, ap, _∙_}
 use borrow.Author.Tests.{not-true, not-false}
 use Rattle.optimize.specs.Optimize.{measureBy, splits, splitsFrom}

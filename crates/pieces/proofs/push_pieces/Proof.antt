@@ -2,13 +2,13 @@
 use Prim.Native.Nat.{_-_}
 use native.Mathlib.Omega.{arith}
 use lib.ListN.{length, getD}
-use Rattle.pieces.specs.Slots.{quadOf, Legible}
+use Rattle.pieces.specs.Slots.{storedQuad, Legible}
 use Rattle.pieces.proofs.Going.{from-on, Pushing, push-start, push-more, push-done}
 use Rattle.pieces.proofs.push_pieces.Statement.{statement}
 use Rattle.pieces.proofs.push_pieces.Tie as tie
 
 abbrev Inv-loop : tie.InvT-loop
-Inv-loop breaks answers links slots first points₀ v₀ i₀ points v i = Pushing (quadOf breaks answers links) slots first points₀ v₀ points v i
+Inv-loop breaks answers links slots first points₀ v₀ i₀ points v i = Pushing (storedQuad breaks answers links) slots first points₀ v₀ points v i
 
 abbrev μ-loop : tie.MeasureT-loop
 μ-loop breaks answers links slots first points₀ v₀ i₀ points v i = length slots - i

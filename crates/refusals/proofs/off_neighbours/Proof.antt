@@ -1,7 +1,7 @@
 -- `refusals::off_neighbours` meets its contract. The loop's invariant: whether two neighbours are off-curve is not settled before
 -- place i - 1. Assumes nothing.
 use Prim.Native.Nat.{_+_, _-_, _≤_}
-use mathlib.Core.Path.{_≡_, sym, _∙_}
+use mathlib.Core.Path.{_≡_, _∙_}
 use native.Mathlib.Omega.{arith}
 use borrow.Author.Needs.{needs}
 use lib.ListN.{length, drop}

@@ -1,5 +1,5 @@
 -- `runs::numbered_run` meets its contract. Assumes nothing.
-use mathlib.Core.Path.{sym, _∙_}
+use mathlib.Core.Path.{sym}
 use lib.Seq.{length-take-le}
 use Rattle.runs.specs.Runs.{runsOf, numberedRun}
 use borrow.Author.Needs.{needs}

@@ -1,6 +1,6 @@
 -- `samples::finish` meets its contract. Assumes nothing.
 use borrow.Author.Needs.{needs}
-use mathlib.Core.Path.{_≡_, refl, _∙_}
+use mathlib.Core.Path.{refl}
 use native.Mathlib.Omega.{arith}
 use Rattle.samples.specs.Samples.{finished, filled}
 use Rattle.samples.proofs.finish.Statement.{statement}

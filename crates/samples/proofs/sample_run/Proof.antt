@@ -1,9 +1,8 @@
 -- `samples::sample_run` meets its contract. The loop's invariant is `Running`; the measure is what is left of the segments. Assumes nothing.
 use Prim.Native.Nat.{_-_}
-use mathlib.Core.Path.{refl, sym, ap, _∙_}
+use mathlib.Core.Path.{refl, ap, _∙_}
 use native.Mathlib.Omega.{arith}
-use borrow.Author.Needs.{needs}
-use Rattle.samples.specs.Samples.{quadOf, quadsOf, sweptIn, placesSwept, lengthSwept}
+use Rattle.samples.specs.Samples.{quadOf, quadsOf}
 use Rattle.samples.proofs.Turns.{Running, begins, runs, runs-over, run-all}
 use Rattle.samples.proofs.sample_run.Statement.{statement}
 use Rattle.samples.proofs.sample_run.Tie as tie

@@ -1,9 +1,7 @@
 -- `samples::sweep` meets its contract. The loop's invariant is `Sweeping`; the measure is what is left of the 100 steps. Assumes nothing.
 use Prim.Native.Nat.{_-_}
-use mathlib.Core.Path.{refl, sym, ap, _∙_}
+use mathlib.Core.Path.{refl, _∙_}
 use native.Mathlib.Omega.{arith}
-use borrow.Author.Needs.{needs}
-use Rattle.samples.specs.Samples.{filledIn, placesFilled}
 use Rattle.samples.proofs.Turns.{Sweeping, sweeps, sweeps-over, swept-all, length-all}
 use Rattle.samples.proofs.sweep.Statement.{statement}
 use Rattle.samples.proofs.sweep.Tie as tie

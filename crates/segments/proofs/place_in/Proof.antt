@@ -1,10 +1,6 @@
 -- `segments::place_in` meets its contract. The loop's invariant is `Passing`; the measure is what is left of the row. Assumes nothing.
 use Prim.Native.Nat.{_-_}
-use mathlib.Core.Path.{refl, sym, subst, _∙_}
 use native.Mathlib.Omega.{arith}
-use lib.Dec.{T}
-use lib.Ieee.{isNan}
-use lib.Ieee.Compare.{differs-from-itself}
 use lib.ListN.{length}
 use Rattle.segments.proofs.Going.{Passing, pass-start, pass-here, pass-more, pass-end}
 use Rattle.segments.proofs.Numbers.{nan-first, number-first}

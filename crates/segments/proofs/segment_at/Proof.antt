@@ -1,5 +1,5 @@
 -- `segments::segment_at` meets its contract. Assumes nothing.
-use mathlib.Core.Path.{sym, _∙_}
+use mathlib.Core.Path.{_∙_}
 use native.Mathlib.Omega.{arith}
 use Rattle.breaks.proofs.Laws.{few, many}
 use Rattle.segments.proofs.Numbers.{past-row}

@@ -1,7 +1,6 @@
 -- `survey::search` meets its contract. Assumes nothing.
 use native.Mathlib.Nat.{le-refl}
 use native.Mathlib.Omega.{arith}
-use mathlib.Core.Path.{_∙_}
 use Rattle.survey.proofs.Rooms.{room-is, searched-as, searched-found, count-found}
 use borrow.Author.Needs.{needs}
 use Rattle.survey.proofs.search.Statement.{statement}

@@ -1,6 +1,5 @@
 -- `why::bits` meets its contract. Assumes nothing.
 use native.Mathlib.Omega.{arith}
-use borrow.Author.Needs.{needs}
 use Rattle.why.proofs.bits.Statement.{statement}
 use Rattle.why.proofs.bits.Tie as tie
 

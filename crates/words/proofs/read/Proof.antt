@@ -1,5 +1,5 @@
 -- `words::read` meets its contract. The loop's invariant: the words from here on, after what was read, ask for what they all ask for. Assumes nothing.
-use Prim.Native.Nat.{_+_, _-_, _≤_}
+use Prim.Native.Nat.{_+_, _-_}
 use mathlib.Core.Bool.{false}
 use mathlib.Core.Path.{_≡_, refl, sym, ap, _∙_}
 use native.Mathlib.Omega.{arith}

@@ -1,6 +1,6 @@
 -- `words::take` meets its contract. Assumes nothing.
 use mathlib.Core.Path.{ap, _∙_}
-use Rattle.lines.specs.Line.{wholeOf}
+use Rattle.lines.specs.Line.{naturalOf}
 use Rattle.words.specs.Words.{taken}
 use Rattle.words.specs.Steps.{sixteenthsIn}
 use Rattle.words.proofs.Taking.{capped}
@@ -33,7 +33,7 @@ returns-2 : tie.Need-returns-2
 unfolding taken
 returns-2 c =
     let word = c .before .before .before .before .before .before .args .word .now in
-    rw (c .before .before .before .r2 .given .1) (c .sixteenths .ensures ∙ ap (sixteenthsIn _ _) (c .before .read-size .ensures) ∙ capped _ _ (wholeOf word))
+    rw (c .before .before .before .r2 .given .1) (c .sixteenths .ensures ∙ ap (sixteenthsIn _ _) (c .before .read-size .ensures) ∙ capped _ _ (naturalOf word))
 
 returns-3 : tie.Need-returns-3
 unfolding taken

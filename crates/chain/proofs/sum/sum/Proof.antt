@@ -1,7 +1,6 @@
 -- `chain::sum::sum` meets its contract. The invariant is `Summing`; the measure is what is left of the pieces. Assumes nothing.
 use Prim.Native.Nat.{_+_, _-_, _^_, _≤_, _<_}
 use native.Mathlib.Omega.{arith}
-use mathlib.Core.Path.{sym, _∙_}
 use lib.ListN.{length, getD}
 use Rattle.chain.proofs.Along.{all-inside, inside, joined-few, Summing, summing, summed, one-refused, sums-on, Falling, falling, none-counted, all-counted, counted-few, falls-on}
 use Rattle.chain.proofs.sum.sum.Statement.{statement}

@@ -1,5 +1,4 @@
 -- `editions::own::hand_over` meets its contract. Assumes nothing.
-use Rattle.edition.specs.Laws.{cleared-work}
 use Rattle.editions.proofs.own.hand_over.Statement.{statement}
 use Rattle.editions.proofs.own.hand_over.Tie as tie
 

@@ -1,8 +1,8 @@
 -- `glyfwrite::bounds::outermost_of` meets its contract. Assumes nothing.
 use native.Mathlib.Omega.{arith}
 use borrow.Author.Needs.{sfits-of}
-use mathlib.Core.Path.{_≡_, refl, sym, ap, _∙_}
-use Prim.Native.Nat.{_-_, _≤_}
+use mathlib.Core.Path.{_≡_, sym, _∙_}
+use Prim.Native.Nat.{_-_}
 use lib.ListN.{length, drop}
 use mir.Syntax.{w16}
 use mir.Val.{toZ}

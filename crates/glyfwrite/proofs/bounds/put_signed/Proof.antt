@@ -1,5 +1,4 @@
 -- `glyfwrite::bounds::put_signed` meets its contract. Assumes nothing.
-use mathlib.Core.Path.{ap}
 use Rattle.glyfwrite.proofs.Outer.{signed-word}
 use Rattle.glyfwrite.proofs.Taking.{copied}
 use borrow.Author.Needs.{needs}

@@ -3,7 +3,6 @@ use borrow.Author.Needs.{sfits-of}
 use Rattle.glyfwrite.proofs.Taking.{copied}
 use native.Mathlib.Omega.{arith}
 use mathlib.Core.List.{map}
-use mathlib.Core.Path.{_≡_, refl, sym, ap, _∙_}
 use Prim.Native.Nat.{_+_, _-_, _*_, _≤_}
 use lib.IntN.{pos}
 use lib.ListN.{length, drop}

@@ -1,9 +1,8 @@
 -- `glyfwrite::difference::steps_fit` meets its contract. Assumes nothing.
 use borrow.Author.Needs.{sfits-of}
 use Rattle.glyfwrite.proofs.Taking.{copied}
-use mathlib.Core.Bool.{_&&_}
 use native.Mathlib.Omega.{arith}
-use mathlib.Core.Path.{_≡_, refl, sym, ap, _∙_}
+use mathlib.Core.Path.{_≡_, refl, sym, _∙_}
 use Prim.Native.Nat.{_-_}
 use lib.IntN.{pos}
 use lib.ListN.{length, drop}

@@ -3,7 +3,6 @@ use native.Mathlib.Omega.{arith}
 use mathlib.Core.Path.{sym}
 use lib.Seq.{length-take-le}
 use Rattle.glyfwrite.proofs.Writing.{unlike-y, unlike-f, too-few, falling, large, fine}
-use borrow.Author.Needs.{needs}
 use Rattle.glyfwrite.proofs.write.judge.Statement.{statement}
 use Rattle.glyfwrite.proofs.write.judge.Tie as tie
 

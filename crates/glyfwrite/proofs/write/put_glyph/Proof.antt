@@ -1,9 +1,7 @@
 -- `glyfwrite::write::put_glyph` meets its contract. Assumes nothing.
 use Rattle.glyfwrite.proofs.Putting.{same-row}
 use mathlib.Core.Path.{_∙_}
-use native.Mathlib.Omega.{arith}
 use Rattle.glyfwrite.proofs.Writing.{whole-put}
-use borrow.Author.Needs.{needs}
 use Rattle.glyfwrite.proofs.write.put_glyph.Statement.{statement}
 use Rattle.glyfwrite.proofs.write.put_glyph.Tie as tie
 

@@ -1,6 +1,5 @@
 -- `glyfwrite::write::put_points` meets its contract. Assumes nothing.
 use mathlib.Core.Path.{_∙_}
-use native.Mathlib.Omega.{arith}
 use Rattle.glyfwrite.proofs.Putting.{then, same-row}
 use borrow.Author.Needs.{needs}
 use Rattle.glyfwrite.proofs.write.put_points.Statement.{statement}

@@ -1,6 +1,5 @@
 -- `glyfwrite::write::too_large` meets its contract. Assumes nothing.
 use Rattle.glyfwrite.proofs.Writing.{many-ends, many-bytes, wide-x, wide-y, none-wide}
-use borrow.Author.Needs.{needs}
 use Rattle.glyfwrite.proofs.write.too_large.Statement.{statement}
 use Rattle.glyfwrite.proofs.write.too_large.Tie as tie
 

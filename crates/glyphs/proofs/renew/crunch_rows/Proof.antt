@@ -1,5 +1,5 @@
 -- `glyphs::renew::crunch_rows` meets its contract. Assumes nothing.
-use mathlib.Core.Path.{sym, _∙_}
+use mathlib.Core.Path.{sym}
 use lib.ListN.{length, drop}
 use lib.Seq.{length-take-le, length-front}
 use native.Mathlib.Omega.{arith}

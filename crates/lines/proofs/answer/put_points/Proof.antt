@@ -1,5 +1,5 @@
 -- `lines::answer::put_points` meets its contract. The loop's invariant: the points that are left, put from here, make the whole. Assumes nothing.
-use Prim.Native.Nat.{_-_, _≤_}
+use Prim.Native.Nat.{_-_}
 use native.Mathlib.Numerals.{unary-clauses}
 use native.Mathlib.Omega.{arith}
 use mir.Facts.{toZ-ofZ}

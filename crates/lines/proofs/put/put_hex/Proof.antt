@@ -2,7 +2,6 @@
 use Prim.Native.Nat.{_≤_}
 use mathlib.Core.Path.{_≡_}
 use native.Mathlib.Omega.{arith}
-use borrow.Author.Needs.{needs}
 use Rattle.lines.specs.Text.{hexFrom}
 use Rattle.lines.proofs.Texts.{Going, begin, more, done}
 use Rattle.lines.proofs.Digits.{hex-next}

@@ -1,9 +1,9 @@
 -- `lines::word::read_size` meets its contract. The loop's invariant: the digits from here on, after v, say what they all say. Assumes nothing.
 use Prim.Native.Nat.{_-_, _≤_, min}
-use mathlib.Core.Path.{_≡_, refl, sym, ap, _∙_}
+use mathlib.Core.Path.{_≡_, sym, ap, _∙_}
 use native.Mathlib.Omega.{arith}
 use lib.ListN.{length, drop}
-use Rattle.lines.specs.Line.{wholeOf, digitsOn}
+use Rattle.lines.specs.Line.{naturalOf, digitsOn}
 use Rattle.lines.specs.Steps.{sizeOf}
 use Rattle.lines.specs.declared.word.Size.the-variants as S
 use Rattle.lines.proofs.Reading.{low, high, digit, all, some-digits, no-digits}
@@ -11,7 +11,7 @@ use Rattle.lines.proofs.word.read_size.Statement.{statement}
 use Rattle.lines.proofs.word.read_size.Tie as tie
 
 abbrev Inv-loop : tie.InvT-loop
-Inv-loop digits v₀ i₀ v i = (v ≤ 4294967296) × (sizeOf (wholeOf digits) ≡ sizeOf (digitsOn v (drop i digits)))
+Inv-loop digits v₀ i₀ v i = (v ≤ 4294967296) × (sizeOf (naturalOf digits) ≡ sizeOf (digitsOn v (drop i digits)))
 
 abbrev μ-loop : tie.MeasureT-loop
 μ-loop digits v₀ i₀ v i = length digits - i

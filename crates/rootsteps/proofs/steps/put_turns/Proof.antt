@@ -2,7 +2,6 @@
 use Prim.Native.Nat.{_-_}
 use mathlib.Core.Path.{_≡_, refl, _∙_}
 use native.Mathlib.Omega.{arith}
-use borrow.Author.Needs.{needs}
 use lib.ListN.{length}
 use Rattle.float.proofs.Squares.{Taken, start, root-lt, more, ended}
 use Rattle.rootsteps.proofs.steps.put_turns.Statement.{statement}

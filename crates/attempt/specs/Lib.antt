@@ -1,0 +1,4 @@
+-- Value is for contracts inside the product alone: no promise of an entry and no statement for a reader speaks of it.
+pub mod Answers
+pub mod Value
+pub mod Statements

@@ -1,0 +1,4 @@
+pub mod Segments
+pub mod OpenType
+pub mod Laws
+pub mod Statements
