@@ -2,8 +2,8 @@
  * fontcrunch.h: crunch TrueType contours from C and C++.
  *
  * A contour comes in, and goes out with fewer quadratic pieces between its corners. The functions below are
- * proved to do what their definitions in crates/fontcrunch, clean, why, cubics, explicit, glyfread and glyfwrite
- * say, on every input that the rules on this page allow. They are in libfontcrunch.a, for x86-64 Linux:
+ * proved to do what the definitions of their crates say, which tools/library names, on every input that the rules
+ * on this page allow. They are in libfontcrunch.a, for x86-64 Linux:
  *
  *     tools/library                                writes build/libfontcrunch.a
  *     cc -Iinclude program.c -Lbuild -lfontcrunch
