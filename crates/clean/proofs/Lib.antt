@@ -1,4 +1,4 @@
--- What the proofs share. `Theorems` and `Back` have the theorems for a reader, whose statements are types of specs/Statements; `Stated` ties the exports.
+-- What the proofs share. `Theorems` and `Back` have the theorems for a reader, whose statements are types of specs/Statements.
 mod Shortcut
 mod Ended
 mod Inserting
@@ -8,4 +8,3 @@ mod Restoring
 mod Theorems
 mod Back
 mod Writing
-mod Stated

@@ -12,15 +12,13 @@ use denote.Triple.Both.{Both}
 use Rattle.refusals.specs.Refusals.{rowsDiffer, noPoint}
 use Rattle.refusals.specs.declared.Judged.{Judged}
 use Rattle.refusals.specs.declared.Judged.the-variants as Judged
-use Rattle.rows.specs.Lent.{Inputs, inputs, Shown}
+use Rattle.rows.specs.Lent.{Inputs, inputs}
 use Rattle.contour.specs.Output.{Outputs, outputs}
 use Rattle.clean.specs.Clean.{Cleaning, cleaned, upFrom}
 use Rattle.clean.specs.PutBack.{numberOf, whyOf, insertAt, putIn, putBack, copiedSpot, keptSpot, spotsOf}
 use Rattle.clean.specs.Entry.{coordinateIn, bitIn, Rows, rows, pointRoom, listRoom, refuseIf, answerIn, cleaningOf, leftBy}
-use Rattle.clean.specs.Entry.{afterJudging, judgedOf, Promise, report}
-use Rattle.clean.specs.Entry.{spotX, spotBit, outputRoom, orRefuse, restoredOf, spotsFor, leftBack, PutPromise, putReport}
-use Rattle.clean.specs.declared.CleanReport.{CleanReport}
-use Rattle.clean.specs.declared.PutReport.{PutReport}
+use Rattle.clean.specs.Entry.{afterJudging, judgedOf, Promise}
+use Rattle.clean.specs.Entry.{spotX, spotBit, outputRoom, orRefuse, restoredOf, spotsFor, leftBack, PutPromise}
 use Rattle.clean.specs.declared.Restored as R
 use Rattle.clean.specs.declared.Restored.the-variants as Restored
 use Rattle.clean.specs.declared.Cleaned as D
@@ -105,20 +103,6 @@ equal-orders {i} {w} {w'} {r} {r'} e p p' =
     let rooms = same-rooms (w .entry) (w' .entry) e in
     let answer : r ≡ r' = p .answer ∙ rw (rooms .0, rooms .1) (sym (p' .answer)) in
     record { answer = answer; left = promise-shows p _ refl ∙ rw answer (sym (promise-shows p' _ refl)) }
-
--- ---- the export
-
-pub shown-equal-orders : {i : Inputs} {w w' : Both Rows Rows} {r r' : CleanReport} → placesOf (w .entry) ≡ placesOf (w' .entry) →
-    (s : Shown report (Promise i w) r) → (s' : Shown report (Promise i w') r') → Same r r' (firstOf (s .answer) (w .exit)) (firstOf (s' .answer) (w' .exit))
-shown-equal-orders e s s' =
-    let same = equal-orders e (s .promise) (s' .promise) in
-    record { answer = s .is ∙ ap report (same .answer) ∙ sym (s' .is); left = same .left }
-
-pub shown-determined : {i : Inputs} {w w' : Both Rows Rows} {r r' : CleanReport} → w .entry ≡ w' .entry →
-    Shown report (Promise i w) r → Shown report (Promise i w') r' → Same r r' (w .exit) (w' .exit)
-shown-determined e s s' =
-    let same = determined e (s .promise) (s' .promise) in
-    record { answer = s .is ∙ ap report (same .answer) ∙ sym (s' .is); left = same .left }
 
 -- ---- putting back
 
@@ -216,17 +200,3 @@ put-equal-orders {i} {list} {w} {w'} {r} {r'} e p p' =
     let answer : r ≡ r' = p .answer ∙ rw (same-room (w .entry) (w' .entry) e) (sym (p' .answer)) in
     let total : totalOf r (length (spotsFor i list)) = rw (p .answer) (total-of i list (outputRoom (w .entry))) in
     record { answer = answer; left = rw (p .left, p' .left, ← answer) (first-points r i list (w .entry) (w' .entry) total) }
-
-pub put-shown-orders : {i : Inputs} {list : List (List ℕ)} {w w' : Both Outputs Outputs} {r r' : PutReport} →
-    pointPlaces (w .entry) ≡ pointPlaces (w' .entry) →
-    (s : Shown putReport (PutPromise i list w) r) → (s' : Shown putReport (PutPromise i list w') r') →
-    Same r r' (firstPoints (s .answer) (w .exit)) (firstPoints (s' .answer) (w' .exit))
-put-shown-orders e s s' =
-    let same = put-equal-orders e (s .promise) (s' .promise) in
-    record { answer = s .is ∙ ap putReport (same .answer) ∙ sym (s' .is); left = same .left }
-
-pub put-shown-determined : {i : Inputs} {list : List (List ℕ)} {w w' : Both Outputs Outputs} {r r' : PutReport} → w .entry ≡ w' .entry →
-    Shown putReport (PutPromise i list w) r → Shown putReport (PutPromise i list w') r' → Same r r' (w .exit) (w' .exit)
-put-shown-determined e s s' =
-    let same = put-determined e (s .promise) (s' .promise) in
-    record { answer = s .is ∙ ap putReport (same .answer) ∙ sym (s' .is); left = same .left }

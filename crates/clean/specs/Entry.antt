@@ -14,8 +14,6 @@ use Rattle.contour.specs.Output.{Outputs, outputs, front}
 use Rattle.rows.specs.Lent.{Lent, before, after, Inputs, inputs}
 use Rattle.clean.specs.Clean.{Cleaning, cleaned, cleanOf}
 use Rattle.clean.specs.PutBack.{numberOf, whyOf, bitBy, spotsOf}
-use Rattle.clean.specs.declared.CleanReport.{CleanReport}
-use Rattle.clean.specs.declared.PutReport.{PutReport}
 use Rattle.clean.specs.declared.Restored as R
 use Rattle.clean.specs.declared.Restored.the-variants as Restored
 use Rattle.clean.specs.declared.Cleaned as D
@@ -134,13 +132,3 @@ leftBack (Restored.Points n) i list o = spotsInto i (spotsFor i list) o
 pub record PutPromise (i : Inputs) (list : List (List ℕ)) (w : Both Outputs Outputs) (r : R.Restored) : Type 0 where
   pub answer : r ≡ restoredOf i (length list) (outputRoom (w .entry))
   pub left : w .exit ≡ leftBack r i list (w .entry)
-
-abbrev pub putReport : R.Restored → PutReport
-putReport (Restored.Refused k) = record { number = k; points = 0 }
-putReport (Restored.Points n) = record { number = 0; points = n }
-
--- ---- the export: document 02's values for each answer; the number is 0 where nothing is refused
-
-abbrev pub report : D.Cleaned → CleanReport
-report (Cleaned.Refused k) = record { number = k; kept = 0; dropped = 0 }
-report (Cleaned.Points n m) = record { number = 0; kept = n; dropped = m }

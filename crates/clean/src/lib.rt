@@ -11,12 +11,12 @@ ghost use lib.ListN.{length, take, getD};
 ghost use Rattle.refusals.specs.Accepted.{Accepted};
 ghost use Rattle.contour.specs.Implied.{same};
 ghost use Rattle.contour.specs.Output.{front, outputs};
-ghost use Rattle.rows.specs.Lent.{before, after, contour, Shown};
+ghost use Rattle.rows.specs.Lent.{before, after, contour};
 ghost use Rattle.clean.specs.Clean.{samePlace, onPlace, isBefore, isBoth, upFrom, cleanOf, cleaned};
 ghost use Rattle.clean.specs.Pass.{repeats, afterOf, numberedAs, startOf, passing, endsFirst, Closed, Stands, Holds, Roomy};
 ghost use Rattle.clean.specs.PutBack.{markFor, copiedSpot, keptSpot, insertAt, restored, putBack, bitBy, spotsOf};
-ghost use Rattle.clean.specs.Entry.{coordinateIn, bitIn, pointsInto, cleaningOf, lent, Written, Promise, report};
-ghost use Rattle.clean.specs.Entry.{spotX, spotBit, spotsInto, lentOutputs, PutPromise, putReport};
+ghost use Rattle.clean.specs.Entry.{coordinateIn, bitIn, pointsInto, cleaningOf, lent, Written, Promise};
+ghost use Rattle.clean.specs.Entry.{spotX, spotBit, spotsInto, lentOutputs, PutPromise};
 
 // What cleaning answers.
 pub enum Cleaned {
@@ -532,80 +532,4 @@ pub fn put_back(
     }
     put_fine(xs, ys, flags, list, ox, oy, of);
     Restored::Points(flags.len() + list.len())
-}
-
-// ---- for C and Rust
-
-// The number of a refusal, or 0; points kept; points dropped.
-#[repr(C)]
-pub struct CleanReport {
-    pub number: u32,
-    pub kept: usize,
-    pub dropped: usize,
-}
-
-fn clean_report(c: Cleaned) -> CleanReport
-    ensures { λ r. ⌜ r ≡ report c ⌝ }
-{
-    match c {
-        Cleaned::Refused(k) => CleanReport {
-            number: k as u32,
-            kept: 0,
-            dropped: 0,
-        },
-        Cleaned::Points(kept, dropped) => CleanReport {
-            number: 0,
-            kept,
-            dropped,
-        },
-    }
-}
-
-#[no_mangle]
-pub extern "C" fn fontcrunch_clean(
-    xs: &[i16],
-    ys: &[i16],
-    flags: &[u8],
-    ox: &mut [i16],
-    oy: &mut [i16],
-    of: &mut [u8],
-    list: &mut [[u32; 2]],
-) -> CleanReport
-    ensures { λ r. ⌜ Shown report (Promise (contour xs ys flags) (lent ox oy of list)) r ⌝ }
-{
-    clean_report(clean_contour(xs, ys, flags, ox, oy, of, list))
-}
-
-// The number of a refusal, or 0; points written.
-#[repr(C)]
-pub struct PutReport {
-    pub number: u32,
-    pub points: usize,
-}
-
-fn put_report(c: Restored) -> PutReport
-    ensures { λ r. ⌜ r ≡ putReport c ⌝ }
-{
-    match c {
-        Restored::Refused(k) => PutReport {
-            number: k as u32,
-            points: 0,
-        },
-        Restored::Points(points) => PutReport { number: 0, points },
-    }
-}
-
-#[no_mangle]
-pub extern "C" fn fontcrunch_put_back(
-    xs: &[i16],
-    ys: &[i16],
-    flags: &[u8],
-    list: &[[u32; 2]],
-    ox: &mut [i16],
-    oy: &mut [i16],
-    of: &mut [u8],
-) -> PutReport
-    ensures { λ r. ⌜ Shown putReport (PutPromise (contour xs ys flags) (before list) (lentOutputs ox oy of)) r ⌝ }
-{
-    put_report(put_back(xs, ys, flags, list, ox, oy, of))
 }

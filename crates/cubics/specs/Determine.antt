@@ -12,13 +12,12 @@ use denote.Triple.Both.{Both}
 use Rattle.refusals.specs.Refusals.{tooMany}
 use Rattle.refusals.specs.declared.Judged.{Judged}
 use Rattle.refusals.specs.declared.Judged.the-variants as Judged
-use Rattle.rows.specs.Lent.{Inputs, Shown}
+use Rattle.rows.specs.Lent.{Inputs}
 use Rattle.contour.specs.Points.{Points}
 use Rattle.contour.specs.Implied.{number}
 use Rattle.contour.specs.Output.{Outputs, outputs, column, flagOf, flags}
 use Rattle.cubics.specs.Replacing.{anyOutside}
-use Rattle.cubics.specs.Entry.{roomOf, refuseIf, answerIn, afterJudging, judgedOf, pointsOf, leftBy, Promise, report}
-use Rattle.cubics.specs.declared.CubicReport.{CubicReport}
+use Rattle.cubics.specs.Entry.{roomOf, refuseIf, answerIn, afterJudging, judgedOf, pointsOf, leftBy, Promise}
 use Rattle.cubics.specs.declared.Replaced as D
 use Rattle.cubics.specs.declared.Replaced.the-variants as Replaced
 
@@ -94,17 +93,3 @@ pub equal-orders : {i : Inputs} {w w' : Both Outputs Outputs} {r r' : D.Replaced
 equal-orders {i} {w} {w'} {r} {r'} e p p' =
     let answer : r ≡ r' = p .answer ∙ rw (same-rooms (w .entry) (w' .entry) e) (sym (p' .answer)) in
     record { answer = answer; left = promise-shows p ∙ rw answer (sym (promise-shows p')) }
-
--- ---- the export
-
-pub shown-equal-orders : {i : Inputs} {w w' : Both Outputs Outputs} {r r' : CubicReport} → placesOf (w .entry) ≡ placesOf (w' .entry) →
-    (s : Shown report (Promise i w) r) → (s' : Shown report (Promise i w') r') → Same r r' (firstOf (s .answer) (w .exit)) (firstOf (s' .answer) (w' .exit))
-shown-equal-orders e s s' =
-    let same = equal-orders e (s .promise) (s' .promise) in
-    record { answer = s .is ∙ ap report (same .answer) ∙ sym (s' .is); left = same .left }
-
-pub shown-determined : {i : Inputs} {w w' : Both Outputs Outputs} {r r' : CubicReport} → w .entry ≡ w' .entry →
-    Shown report (Promise i w) r → Shown report (Promise i w') r' → Same r r' (w .exit) (w' .exit)
-shown-determined e s s' =
-    let same = determined e (s .promise) (s' .promise) in
-    record { answer = s .is ∙ ap report (same .answer) ∙ sym (s' .is); left = same .left }

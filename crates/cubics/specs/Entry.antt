@@ -15,7 +15,6 @@ use Rattle.contour.specs.Output.{Outputs, outputs, withPoints}
 use Rattle.cubics.specs.Replacing as Replacing
 use Rattle.cubics.specs.Replacing.{anyOutside}
 use Rattle.cubics.specs.Refusing.{judgedCubics}
-use Rattle.cubics.specs.declared.CubicReport.{CubicReport}
 use Rattle.cubics.specs.declared.Replaced as D
 use Rattle.cubics.specs.declared.Replaced.the-variants as Replaced
 
@@ -63,9 +62,3 @@ pub record WrittenOut (ps : Points) (w : Both Outputs Outputs) (r : D.Replaced) 
 pub record Promise (i : Inputs) (w : Both Outputs Outputs) (r : D.Replaced) : Type 0 where
   pub answer : r ≡ wholeOf i (roomOf (w .entry))
   pub left : w .exit ≡ leftBy r (pointsOf i) (w .entry)
-
--- ---- the export: document 02's values for each answer; the number is 0 where nothing is refused
-
-abbrev pub report : D.Replaced → CubicReport
-report (Replaced.Refused k) = record { number = k; points = 0 }
-report (Replaced.Quads n) = record { number = 0; points = n }

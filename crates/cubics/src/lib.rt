@@ -13,7 +13,7 @@ ghost use Prim.Native.Nat.{ℕ, _+_, _*_, _^_, _<_, _≤_};
 ghost use lib.IntN.{ℤ, pos};
 ghost use lib.ListN.{length, getD};
 ghost use Rattle.refusals.specs.Refusals.{isOn};
-ghost use Rattle.rows.specs.Lent.{before, after, contour, Shown};
+ghost use Rattle.rows.specs.Lent.{before, after, contour};
 ghost use Rattle.contour.specs.Points.{Points};
 ghost use Rattle.halving.specs.Cubic.{Curve, outside, rounded, controlPoint, startPoint, between};
 ghost use Rattle.float.specs.Dyadic.{Exact};
@@ -21,7 +21,7 @@ ghost use Rattle.halving.specs.Exact.{ExactAxis, ExactCubic, Roomy, Reach};
 ghost use Rattle.cubics.specs.Replacing.{afterPair, fourAt, curveAt, onAt, pointsAt, pointsOf, outsidePoint};
 ghost use Rattle.cubics.specs.Making.{stored, Makes, MadeOf};
 ghost use Rattle.cubics.specs.Refusing.{unpaired, offAfter, offPairs, judgedCubics};
-ghost use Rattle.cubics.specs.Entry.{lent, WrittenOut, Promise, report};
+ghost use Rattle.cubics.specs.Entry.{lent, WrittenOut, Promise};
 
 // What `from_cubics` answers.
 pub enum Replaced {
@@ -330,39 +330,4 @@ pub fn from_cubics(
         Judged::Refused(k) => Replaced::Refused(k),
         Judged::Fine => replace_fine(xs, ys, flags, ox, oy, of),
     }
-}
-
-// ---- for C and Rust
-
-// The number of a refusal, or 0; points written.
-#[repr(C)]
-pub struct CubicReport {
-    pub number: u32,
-    pub points: usize,
-}
-
-fn cubic_report(c: Replaced) -> CubicReport
-    ensures { λ r. ⌜ r ≡ report c ⌝ }
-{
-    match c {
-        Replaced::Refused(k) => CubicReport {
-            number: k as u32,
-            points: 0,
-        },
-        Replaced::Quads(points) => CubicReport { number: 0, points },
-    }
-}
-
-#[no_mangle]
-pub extern "C" fn fontcrunch_from_cubics(
-    xs: &[i16],
-    ys: &[i16],
-    flags: &[u8],
-    ox: &mut [i16],
-    oy: &mut [i16],
-    of: &mut [u8],
-) -> CubicReport
-    ensures { λ r. ⌜ Shown report (Promise (contour xs ys flags) (lent ox oy of)) r ⌝ }
-{
-    cubic_report(from_cubics(xs, ys, flags, ox, oy, of))
 }

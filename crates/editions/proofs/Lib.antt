@@ -5,4 +5,3 @@ mod Alone
 mod Whole
 pub mod Isolation
 pub mod Refused
-pub mod Stated

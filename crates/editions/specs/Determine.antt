@@ -3,7 +3,7 @@
 use Prim.Native.Nat.{ℕ}
 use native.Mathlib.Omega.{arith}
 use mathlib.Core.Path.{_≡_, refl, sym, ap, _∙_}
-use Rattle.rows.specs.Lent.{Inputs, Shown}
+use Rattle.rows.specs.Lent.{Inputs}
 use Rattle.contour.specs.Output.{Outputs}
 use Rattle.settings.specs.declared.Settings.{Settings}
 use Rattle.crunch.specs.Crunch.{Outcome}
@@ -15,9 +15,7 @@ use Rattle.crunch.specs.Determine as Alone
 use Rattle.crunch.specs.declared.Crunched.{Crunched}
 use Rattle.crunch.specs.declared.Crunched.the-variants as Crunched
 use Rattle.editions.specs.Entry.{Rows, LentRows, rowsA, rowsB, Promise}
-use Rattle.editions.specs.Exports.{report}
 use Rattle.editions.specs.declared.entry.Editions.{Editions}
-use Rattle.editions.specs.declared.export.EditionsReport.{EditionsReport}
 use Rattle.editions.specs.declared.work.Order.{Order}
 
 -- ---- two outcomes of one order are one
@@ -60,20 +58,3 @@ pub record Left (t : LentRows) (r : Editions) : Type 0 where
 
 pub refused-leaves : {i : Inputs} {o : Order} {t : LentRows} {r : Editions} → Promise i o t r → Left t r
 refused-leaves p = record { of-a = λ e. left-so (p .to-a) e; of-b = λ e. left-so (p .to-b) e }
-
--- ---- the export
-
-pub record EqualReports (r r′ : EditionsReport) (t t′ : Rows) : Type 0 where
-  pub answer : Editions
-  pub answer′ : Editions
-  pub same : r ≡ r′
-  pub both : EqualBoth answer answer′ t t′
-
-same-answers : {r r′ : Editions} {t t′ : Rows} → EqualBoth r r′ t t′ → r ≡ r′
-same-answers {r} {r′} e = rw (e .of-a .answer, e .of-b .answer) refl
-
-pub equal-reports : {i : Inputs} {o : Order} {t t′ : LentRows} {r r′ : EditionsReport} → AlikeBoth (t .entry) (t′ .entry) →
-    Shown report (Promise i o t) r → Shown report (Promise i o t′) r′ → EqualReports r r′ (t .exit) (t′ .exit)
-equal-reports l s s′ =
-    let both = equal-orders l (s .promise) (s′ .promise) in
-    record { answer = s .answer; answer′ = s′ .answer; same = s .is ∙ ap report (same-answers both) ∙ sym (s′ .is); both = both }

@@ -2,13 +2,9 @@
 // edition's work goes on; then each edition takes its step on it, lent the samples and the breaks to be read
 // alone. What an edition is handed back and left is what the crunch entry promises it by itself.
 mod entry;
-mod export;
 mod own;
 mod work;
 
 pub use crate::entry::Editions;
 pub use crate::entry::crunch_editions;
-pub use crate::export::EditionReport;
-pub use crate::export::EditionsReport;
-pub use crate::export::fontcrunch_editions;
 pub use crate::work::Order;

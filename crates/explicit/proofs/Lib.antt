@@ -4,6 +4,5 @@ mod Turning
 mod Writing
 mod Apart
 mod Again
-pub mod Stated
 pub mod Theorems
 pub mod Values

@@ -12,13 +12,12 @@ use denote.Triple.Both.{Both}
 use Rattle.refusals.specs.Refusals.{tooMany}
 use Rattle.refusals.specs.declared.Judged.{Judged}
 use Rattle.refusals.specs.declared.Judged.the-variants as Judged
-use Rattle.rows.specs.Lent.{Inputs, Shown}
+use Rattle.rows.specs.Lent.{Inputs}
 use Rattle.contour.specs.Points.{Points}
 use Rattle.contour.specs.Implied.{number}
 use Rattle.contour.specs.Output.{Outputs, outputs, column, flagOf, flags, front}
 use Rattle.explicit.specs.Explicit.{explicitOf}
-use Rattle.explicit.specs.Entry.{roomOf, refuseIf, answerIn, afterJudging, judgedOf, leftBy, Promise, report}
-use Rattle.explicit.specs.declared.ExplicitReport.{ExplicitReport}
+use Rattle.explicit.specs.Entry.{roomOf, refuseIf, answerIn, afterJudging, judgedOf, leftBy, Promise}
 use Rattle.explicit.specs.declared.Explicit as D
 use Rattle.explicit.specs.declared.Explicit.the-variants as Explicit
 
@@ -104,17 +103,3 @@ pub equal-orders : {i : Inputs} {w w' : Both Outputs Outputs} {r r' : D.Explicit
 equal-orders {i} {w} {w'} {r} {r'} e p p' =
     let answer : r ≡ r' = p .answer ∙ rw (same-rooms (w .entry) (w' .entry) e) (sym (p' .answer)) in
     record { answer = answer; left = promise-shows p ∙ rw answer (sym (promise-shows p')) }
-
--- ---- the export
-
-pub shown-equal-orders : {i : Inputs} {w w' : Both Outputs Outputs} {r r' : ExplicitReport} → placesOf (w .entry) ≡ placesOf (w' .entry) →
-    (s : Shown report (Promise i w) r) → (s' : Shown report (Promise i w') r') → Same r r' (firstOf (s .answer) (w .exit)) (firstOf (s' .answer) (w' .exit))
-shown-equal-orders e s s' =
-    let same = equal-orders e (s .promise) (s' .promise) in
-    record { answer = s .is ∙ ap report (same .answer) ∙ sym (s' .is); left = same .left }
-
-pub shown-determined : {i : Inputs} {w w' : Both Outputs Outputs} {r r' : ExplicitReport} → w .entry ≡ w' .entry →
-    Shown report (Promise i w) r → Shown report (Promise i w') r' → Same r r' (w .exit) (w' .exit)
-shown-determined e s s' =
-    let same = determined e (s .promise) (s' .promise) in
-    record { answer = s .is ∙ ap report (same .answer) ∙ sym (s' .is); left = same .left }

@@ -14,7 +14,6 @@ use Rattle.rows.specs.Lent.{Lent, before, after, Inputs, inputs}
 use Rattle.contour.specs.Points.{Points}
 use Rattle.contour.specs.Output.{Outputs, outputs, withPoints}
 use Rattle.explicit.specs.Explicit.{explicitOf}
-use Rattle.explicit.specs.declared.ExplicitReport.{ExplicitReport}
 use Rattle.explicit.specs.declared.Explicit as D
 use Rattle.explicit.specs.declared.Explicit.the-variants as Explicit
 
@@ -72,9 +71,3 @@ pub record WrittenOut (ps : Points) (w : Both Outputs Outputs) (r : D.Explicit) 
 pub record Promise (i : Inputs) (w : Both Outputs Outputs) (r : D.Explicit) : Type 0 where
   pub answer : r ≡ wholeOf i (roomOf (w .entry))
   pub left : w .exit ≡ leftBy r (explicitOf i) (w .entry)
-
--- ---- the export: the number is 0 where nothing is refused
-
-abbrev pub report : D.Explicit → ExplicitReport
-report (Explicit.Refused k) = record { number = k; points = 0 }
-report (Explicit.Points n) = record { number = 0; points = n }

@@ -10,13 +10,13 @@ ghost use lib.IntN.{_+ℤ_};
 ghost use lib.Signed.{mag};
 ghost use lib.ListN.{length};
 ghost use Rattle.outline.specs.Segments.{onAt};
-ghost use Rattle.rows.specs.Lent.{before, after, contour, Shown};
+ghost use Rattle.rows.specs.Lent.{before, after, contour};
 ghost use Rattle.contour.specs.Points.{Points, pointAs};
 ghost use Rattle.contour.specs.Writing.{written, Wrote, Appended};
 ghost use Rattle.contour.specs.Implied.{offCurve};
 ghost use Rattle.halving.specs.Cubic.{nearest};
 ghost use Rattle.explicit.specs.Explicit.{bothOff, middle, impliedPoint, impliedBetween, firstOn, placeFrom, explicitFrom};
-ghost use Rattle.explicit.specs.Entry.{judgedRows, lent, WrittenOut, Promise, report};
+ghost use Rattle.explicit.specs.Entry.{judgedRows, lent, WrittenOut, Promise};
 
 // What `explicit_contour` answers.
 pub enum Explicit {
@@ -208,39 +208,4 @@ pub fn explicit_contour(
         Judged::Refused(k) => Explicit::Refused(k),
         Judged::Fine => explicit_fine(xs, ys, flags, ox, oy, of),
     }
-}
-
-// ---- for C and Rust
-
-// The number of a refusal, or 0; points written.
-#[repr(C)]
-pub struct ExplicitReport {
-    pub number: u32,
-    pub points: usize,
-}
-
-fn explicit_report(e: Explicit) -> ExplicitReport
-    ensures { λ r. ⌜ r ≡ report e ⌝ }
-{
-    match e {
-        Explicit::Refused(k) => ExplicitReport {
-            number: k as u32,
-            points: 0,
-        },
-        Explicit::Points(points) => ExplicitReport { number: 0, points },
-    }
-}
-
-#[no_mangle]
-pub extern "C" fn fontcrunch_explicit(
-    xs: &[i16],
-    ys: &[i16],
-    flags: &[u8],
-    ox: &mut [i16],
-    oy: &mut [i16],
-    of: &mut [u8],
-) -> ExplicitReport
-    ensures { λ r. ⌜ Shown report (Promise (contour xs ys flags) (lent ox oy of)) r ⌝ }
-{
-    explicit_report(explicit_contour(xs, ys, flags, ox, oy, of))
 }

@@ -1,7 +1,6 @@
--- What the proofs of the functions share, what the export states, and what is read of a file that was written.
+-- What the proofs of the functions share, and what is read of a file that was written.
 mod Reading
 mod Renewing
-mod Stated
 pub mod Separately
 pub mod Back
 mod Point

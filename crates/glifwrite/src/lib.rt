@@ -1,9 +1,7 @@
 // UFO's GLIF, written: a file with other points in its contours.
 mod contours;
-mod export;
 mod put;
 mod write;
 
-pub use crate::export::fontcrunch_write_glif;
 pub use crate::write::GlifWriteReport;
 pub use crate::write::write_glif;

@@ -1,4 +1,4 @@
--- What the proofs of the functions share, and what the export states.
+-- What the proofs of the functions share.
 mod Signs
 mod Words
 mod Walking
@@ -7,4 +7,3 @@ mod Filling
 mod Parts
 mod Judging
 mod Leaving
-mod Stated

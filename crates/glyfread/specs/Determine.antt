@@ -5,14 +5,11 @@ use mathlib.Core.Path.{_≡_, refl, sym, ap, _∙_}
 use Prim.Native.Nat.{ℕ}
 use native.Mathlib.Omega.{arith}
 use denote.Triple.Both.{Both}
-use Rattle.rows.specs.Lent.{Shown}
 use Rattle.glyf.specs.Layout.{Glyph, Outcome, done, refused, Rooms, laidIn, leftBy, roomsOf, readOf}
 use Rattle.glyfread.specs.Reads.{answerOf}
 use Rattle.glyfread.specs.Entry.{Promise}
-use Rattle.glyfread.specs.Exports.{report}
 use Rattle.glyfread.specs.declared.read.Read.{Read}
 use Rattle.glyfread.specs.declared.read.Read.the-variants as R
-use Rattle.glyfread.specs.declared.export.GlyphReadReport.{GlyphReadReport}
 
 -- all that is handed back and left is equal
 pub record Same {A : Type 0} (r r′ : A) (w w′ : Glyph) : Type 0 where
@@ -51,17 +48,3 @@ unless-done (refused j) v k e = refl
 
 pub refused-leaves : {bytes : List ℕ} {w : Both Glyph Glyph} {k : ℕ} → Promise bytes w (R.Refused k) → w .exit ≡ w .entry
 refused-leaves {bytes} {w} {k} p = p .left ∙ unless-done (readOf (roomsOf (w .entry)) bytes) (w .entry) k (p .answer)
-
--- ---- the export
-
-pub determined-report : {bytes : List ℕ} {w w′ : Both Glyph Glyph} {r r′ : GlyphReadReport} → w .entry ≡ w′ .entry →
-    Shown report (Promise bytes w) r → Shown report (Promise bytes w′) r′ → Same r r′ (w .exit) (w′ .exit)
-determined-report e s s′ =
-    let d = determined e (s .promise) (s′ .promise) in
-    record { answer = s .is ∙ ap report (d .answer) ∙ sym (s′ .is); left = d .left }
-
-pub equal-reports : {bytes : List ℕ} {w w′ : Both Glyph Glyph} {r r′ : GlyphReadReport} → roomsOf (w .entry) ≡ roomsOf (w′ .entry) →
-    Shown report (Promise bytes w) r → Shown report (Promise bytes w′) r′ → Alike r r′ w w′
-equal-reports e s s′ =
-    let d = equal-orders e (s .promise) (s′ .promise) in
-    record { answer = s .is ∙ ap report (d .answer) ∙ sym (s′ .is); outcome = d .outcome; left = d .left; left′ = d .left′ }

@@ -2,5 +2,4 @@ pub mod Steps
 pub mod Walks
 pub mod Reads
 pub mod Entry
-pub mod Exports
 pub mod Determine

@@ -1,8 +1,7 @@
--- What the proofs of the functions share, and what the export states.
+-- What the proofs of the functions share.
 mod Putting
 mod Taking
 mod Coding
 mod Running
 mod Outer
 mod Writing
-mod Stated

@@ -4,15 +4,13 @@ use mathlib.Core.List.{List}
 use mathlib.Core.Path.{_≡_, refl, sym, ap, _∙_}
 use Prim.Native.Nat.{ℕ}
 use native.Mathlib.Omega.{arith}
-use Rattle.rows.specs.Lent.{Lent, before, after, room, Shown}
+use Rattle.rows.specs.Lent.{Lent, before, after, room}
 use lib.ListN.{length}
 use Rattle.glyf.specs.Layout.{Glyph, Outcome, done, refused, laid, leftBy, writtenOf}
 use Rattle.glyfwrite.specs.Writes.{answerOf}
 use Rattle.glyfwrite.specs.Entry.{Promise}
-use Rattle.glyfwrite.specs.Exports.{report}
 use Rattle.glyfwrite.specs.declared.write.Wrote.{Wrote}
 use Rattle.glyfwrite.specs.declared.write.Wrote.the-variants as W
-use Rattle.glyfwrite.specs.declared.export.GlyphWriteReport.{GlyphWriteReport}
 
 -- all that is handed back and left is equal
 pub record Same {A : Type 0} (r r′ : A) (out out′ : List ℕ) : Type 0 where
@@ -50,17 +48,3 @@ unless-done (refused j) row k e = refl
 
 pub refused-leaves : {g : Glyph} {out : Lent ℕ} {k : ℕ} → Promise g out (W.Refused k) → after out ≡ before out
 refused-leaves {g} {out} {k} p = p .left ∙ unless-done (writtenOf (room out) g) (before out) k (p .answer)
-
--- ---- the export
-
-pub determined-report : {g : Glyph} {out out′ : Lent ℕ} {r r′ : GlyphWriteReport} → before out ≡ before out′ →
-    Shown report (Promise g out) r → Shown report (Promise g out′) r′ → Same r r′ (after out) (after out′)
-determined-report e s s′ =
-    let d = determined e (s .promise) (s′ .promise) in
-    record { answer = s .is ∙ ap report (d .answer) ∙ sym (s′ .is); left = d .left }
-
-pub equal-reports : {g : Glyph} {out out′ : Lent ℕ} {r r′ : GlyphWriteReport} → room out ≡ room out′ →
-    Shown report (Promise g out) r → Shown report (Promise g out′) r′ → Alike r r′ out out′
-equal-reports e s s′ =
-    let d = equal-orders e (s .promise) (s′ .promise) in
-    record { answer = s .is ∙ ap report (d .answer) ∙ sym (s′ .is); outcome = d .outcome; left = d .left; left′ = d .left′ }

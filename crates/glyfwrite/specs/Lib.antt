@@ -5,5 +5,4 @@ pub mod Runs
 pub mod Outermost
 pub mod Writes
 pub mod Entry
-pub mod Exports
 pub mod Determine

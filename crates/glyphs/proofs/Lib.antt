@@ -1,9 +1,8 @@
--- What the proofs of the functions share, and what the export states.
+-- What the proofs of the functions share; from `Some` on: theorems, for a reader.
 mod Parts
 mod Going
 pub mod Writing
 mod Reading
-mod Stated
 pub mod Some
 pub mod Sixteen
 pub mod Says

@@ -6,17 +6,14 @@ use mathlib.Core.List.{List}
 use mathlib.Core.Path.{_≡_, refl, sym, ap, _∙_}
 use lib.ListN.{length, replicate}
 use Rattle.rows.specs.Rows.{pointZero}
-use Rattle.rows.specs.Lent.{Shown}
 use Rattle.settings.specs.declared.Settings.{Settings}
 use Rattle.edition.specs.Scratch.{cleared}
 use Rattle.edition.specs.Laws.{same-cleared}
 use Rattle.glyf.specs.Layout.{Outcome, done, refused, laid, leftBy}
 use Rattle.glyf.specs.Layout as Layout
-use Rattle.glyfwrite.specs.Exports.{report}
 use Rattle.glyfwrite.specs.Writes.{answerOf}
 use Rattle.glyfwrite.specs.declared.write.Wrote.{Wrote}
 use Rattle.glyfwrite.specs.declared.write.Wrote.the-variants as W
-use Rattle.glyfwrite.specs.declared.export.GlyphWriteReport.{GlyphWriteReport}
 use Rattle.glyphs.specs.Glyphs.{Rooms, crunchGlyphOf}
 use Rattle.glyphs.specs.Entry.{Rows, LentRows, roomsOf, wholeOf, zeroGlyph, Promise}
 
@@ -69,25 +66,3 @@ unless-done (refused j) row k e = refl
 
 pub refused-leaves : {bytes : List ℕ} {settings : Settings} {t : LentRows} {k : ℕ} → Promise bytes settings t (W.Refused k) → t .exit .out ≡ t .entry .out
 refused-leaves {bytes} {settings} {t} {k} p = p .out ∙ unless-done (wholeOf bytes settings (t .entry)) (t .entry .out) k (p .answer)
-
--- ---- the export
-
-pub determined-report : {bytes : List ℕ} {settings : Settings} {t t′ : LentRows} {r r′ : GlyphWriteReport} → t .entry ≡ t′ .entry →
-    Shown report (Promise bytes settings t) r → Shown report (Promise bytes settings t′) r′ → Same r r′ (t .exit) (t′ .exit)
-determined-report e s s′ =
-    let d = determined e (s .promise) (s′ .promise) in
-    record { answer = s .is ∙ ap report (d .answer) ∙ sym (s′ .is); out = d .out; read = d .read; work = d .work; points = d .points }
-
-pub equal-reports : {bytes : List ℕ} {settings : Settings} {t t′ : LentRows} {r r′ : GlyphWriteReport} → roomsOf (t .entry) ≡ roomsOf (t′ .entry) →
-    Shown report (Promise bytes settings t) r → Shown report (Promise bytes settings t′) r′ → Alike r r′ t t′
-equal-reports e s s′ =
-    let d = equal-orders e (s .promise) (s′ .promise) in
-    record {
-      answer = s .is ∙ ap report (d .answer) ∙ sym (s′ .is);
-      outcome = d .outcome;
-      left = d .left;
-      left′ = d .left′;
-      read = d .read;
-      work = d .work;
-      points = d .points;
-    }

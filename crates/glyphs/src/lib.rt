@@ -3,7 +3,6 @@
 mod clear;
 mod contours;
 mod entry;
-mod export;
 mod renew;
 
 pub use crate::clear::clear_i16;
@@ -11,5 +10,4 @@ pub use crate::clear::clear_u8;
 pub use crate::clear::clear_u16;
 pub use crate::contours::Gathered;
 pub use crate::entry::crunch_glyph;
-pub use crate::export::fontcrunch_crunch_glyph;
 pub use crate::renew::crunch_rows;

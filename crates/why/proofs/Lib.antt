@@ -1,8 +1,7 @@
--- What the proofs share. From `Values` on: worked values, W1's theorems, and the export's contract as it is read.
+-- What the proofs share. From `Values` on: worked values, and W1's theorems.
 mod Walking
 mod Numbers
 mod Told
 mod Values
 mod Zero
 mod Theorems
-mod Stated

@@ -1,0 +1,2 @@
+-- What the exports state.
+pub mod Stated

@@ -1,0 +1,8 @@
+-- The contracts of the exports as the check reads them off the source, a file for each module.
+pub mod BothEditions
+pub mod Cleaning
+pub mod FromCubics
+pub mod Glif
+pub mod Glyph
+pub mod Reasons
+pub mod WrittenOut
