@@ -3,7 +3,8 @@
  *
  * A contour comes in, and goes out with fewer quadratic pieces between its corners. The functions below are
  * proved to do what the definitions of their crates say, which tools/library names, on every input that the rules
- * on this page allow. They are in libfontcrunch.a, for x86-64 Linux:
+ * on this page allow. They are in libfontcrunch.a, for Linux on the processor that it is made on, x86-64 or Arm
+ * (aarch64):
  *
  *     tools/library                                writes build/libfontcrunch.a
  *     cc -Iinclude program.c -Lbuild -lfontcrunch

@@ -1,6 +1,7 @@
 //! Links libfontcrunch.a, which `tools/library` writes to the repository's folder build.
 
 use std::env;
+use std::fs;
 use std::path::{Path, PathBuf};
 use std::process;
 
@@ -25,17 +26,28 @@ fn library_folder() -> PathBuf {
 }
 
 fn stop_unless_linkable(folder: &Path) {
-    let target = variable("TARGET");
-    if !target.starts_with("x86_64-") || !target.contains("-linux-") {
-        stop(&format!("{LIBRARY} is for x86-64 Linux, and this build is for {target}"));
-    }
-    if !folder.join(LIBRARY).is_file() {
+    let Ok(archive) = fs::read(folder.join(LIBRARY)) else {
         stop(&format!(
             "there is no {LIBRARY} in {}\n\
              `tools/library`, run at the repository's top, writes it to build.\n\
              If it is elsewhere, set {FOLDER_VARIABLE} to its folder, as an absolute path.",
             folder.display()
-        ));
+        ))
+    };
+    let target = variable("TARGET");
+    let processor = processor_of(&archive);
+    if !target.starts_with(&format!("{processor}-")) || !target.contains("-linux-") {
+        stop(&format!("{LIBRARY} is for {processor} Linux, and this build is for {target}"));
+    }
+}
+
+/// The processor that the archive's first object file is for: two bytes of its ELF header, which starts with these four.
+fn processor_of(archive: &[u8]) -> &'static str {
+    let header = archive.windows(20).find(|bytes| bytes.starts_with(b"\x7fELF"));
+    match header.map(|bytes| u16::from_le_bytes([bytes[18], bytes[19]])) {
+        Some(62) => "x86_64",
+        Some(183) => "aarch64",
+        _ => "no known",
     }
 }
 

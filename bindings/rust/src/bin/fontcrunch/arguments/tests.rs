@@ -250,7 +250,8 @@ fn wrong_words() {
     assert!(fault(&["-x"]).contains("no option -x"));
 }
 
-const TOOLS: [&str; 10] = ["crunch", "editions", "why", "chain", "check", "glyph", "glif", "clean", "cubic", "explicit"];
+const TOOLS: [&str; 10] =
+    ["crunch", "editions", "why", "chain", "check", "glyph", "glif", "clean", "cubic", "explicit"];
 
 #[test]
 fn each_tool_has_a_page() {
