@@ -18,18 +18,20 @@ def library():
     return TTFont
 
 
-def contours(files):
+def contours(files, each=None, is_away=False):
+    """Of each file all contours of simple glyphs, or one of each of `each` glyphs."""
     if not files:
         sys.exit("make: fonts needs font files")
     opened = library()
     for name in files:
-        font = opened(name)
+        # of a collection the first
+        font = opened(name, fontNumber=0)
         if "glyf" not in font:
             sys.exit(f"make: {name} has no glyf table, so no TrueType outlines")
         skipped = 0
-        for contour in of_font(font):
+        for contour in of_font(font) if each is None else spaced(font, each):
             if any(f for _, _, f in contour):
-                yield explicit(turned(contour))
+                yield explicit(turned(contour), half_away if is_away else half)
             else:
                 skipped += 1
         if skipped:
@@ -38,17 +40,33 @@ def contours(files):
 
 def of_font(font):
     """The contours of simple glyphs in the font's glyph order; composite ones repeat others."""
-    table = font["glyf"]
     for name in font.getGlyphOrder():
-        glyph = table[name]
-        if glyph.isComposite() or glyph.numberOfContours <= 0:
-            continue
-        places, ends, flags = glyph.getCoordinates(table)
-        start = 0
-        for end in ends:
-            rows = zip(places[start : end + 1], flags[start : end + 1])
-            yield [(x, y, f & 1) for (x, y), f in rows]
-            start = end + 1
+        yield from of_glyph(font["glyf"], name)
+
+
+def of_glyph(table, name):
+    """None of a composite glyph."""
+    glyph = table[name]
+    if glyph.isComposite() or glyph.numberOfContours <= 0:
+        return
+    places, ends, flags = glyph.getCoordinates(table)
+    start = 0
+    for end in ends:
+        rows = zip(places[start : end + 1], flags[start : end + 1])
+        yield [(x, y, f & 1) for (x, y), f in rows]
+        start = end + 1
+
+
+def spaced(font, each):
+    """One contour of each of at most `each` simple glyphs that lie evenly in the glyph order, now the first, now another."""
+    names = font.getGlyphOrder()
+    starts = [len(names) * k // each for k in range(each)] if len(names) > each else range(len(names))
+    for number, (start, end) in enumerate(zip(starts, [*starts[1:], len(names)])):
+        for name in names[start:end]:
+            found = list(of_glyph(font["glyf"], name))
+            if found:
+                yield found[number % len(found)]
+                break
 
 
 def turned(contour):
@@ -56,16 +74,22 @@ def turned(contour):
     return contour[first:] + contour[:first]
 
 
-def explicit(contour):
-    """With the implied point between two off-curve neighbours, halved toward zero as the Rust does."""
+def explicit(contour, halved):
+    """With the implied point between two off-curve neighbours."""
     row = contour[:1]
     for x, y, f in contour[1:]:
         last_x, last_y, last_f = row[-1]
         if not f and not last_f:
-            row.append((half(last_x + x), half(last_y + y), 1))
+            row.append((halved(last_x + x), halved(last_y + y), 1))
         row.append((x, y, f))
     return row
 
 
 def half(total):
+    """Toward zero, as the Rust does."""
     return total // 2 if total >= 0 else -(-total // 2)
+
+
+def half_away(total):
+    """Away from zero, as `fontcrunch explicit` does."""
+    return (total + 1) // 2 if total >= 0 else -((1 - total) // 2)
