@@ -82,5 +82,6 @@ pub data Works (penalty : Float) (breaks : Row) (answers : List (List Float)) (l
   no : {r : W.Worked} {k : ℕ} → r ≡ Worked.Refused k → Works penalty breaks answers links (refused k) r
   stays : {r : W.Worked} {t : Tally} → r ≡ Worked.Unchanged t → Works penalty breaks answers links (unchanged t) r
   holds : {r : W.Worked} {n k p c : ℕ} {a : Statelet} (samples : List Sample) → r ≡ Worked.Done n k (tally p c) → n ≤ length breaks →
-      FoundBreaks (take n breaks) → optimizeOf (measureBy samples (take n breaks)) (take n breaks) penalty ≡ O.solved a p → Holds Anywhere (take n breaks) answers links k a →
+      FoundBreaks (take n breaks) → optimizeOf (measureBy samples (take n breaks)) (take n breaks) penalty ≡ O.solved a p →
+      Holds Anywhere (take n breaks) answers links k a →
       Works penalty breaks answers links (solved a (tally p c)) r

@@ -23,7 +23,6 @@ use Rattle.settings.specs.declared.Settings.{Settings}
 use Rattle.survey.specs.Survey.{Survey, sampleRoom, breakRoom, searched, afterSampling, surveyOf}
 use Rattle.survey.specs.Survey as Survey
 use Rattle.optimize.specs.Optimize.{measureBy, optimizeOf}
-use Rattle.optimize.specs.Optimize as O
 use Rattle.optimize.specs.declared.Tally.{Tally}
 use Rattle.edition.specs.Edition.{Result, Rooms, answerRoom, unlessShort, editionOf, afterSurvey, fellIn}
 use Rattle.edition.specs.Edition as Edition

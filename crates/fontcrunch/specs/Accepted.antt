@@ -20,7 +20,6 @@ use Rattle.settings.specs.declared.Settings.{Settings}
 use Rattle.attempt.specs.Answers.{Statelet, scoreOf}
 use Rattle.optimize.specs.declared.Tally.{Tally}
 use Rattle.survey.specs.Survey.{surveyOf}
-use Rattle.survey.specs.Survey as Survey
 use Rattle.chain.specs.Valid as Valid
 use Rattle.chain.specs.declared.Piece.{Piece}
 use Rattle.chain.specs.declared.Checked.the-variants as Checked

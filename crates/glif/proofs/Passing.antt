@@ -15,9 +15,9 @@ use Rattle.glif.specs.Outline.{pointMet, summed, keptPoint}
 use Rattle.glif.specs.Tree.{treed}
 use Rattle.glif.specs.declared.outline.Sum.{Sum}
 use Rattle.glif.specs.declared.tree.Tree.{Tree}
-use Rattle.glif.specs.Scan.{freshScan, Pass, pass, turned, scanned, foundOf, judged, judgedOf}
+use Rattle.glif.specs.Scan.{freshScan, Pass, pass, turned, scanned, totalsOf, judged, judgedOf}
 use Rattle.glif.specs.declared.scan.Scan.{Scan}
-use Rattle.glif.specs.declared.scan.Found.{Found}
+use Rattle.glif.specs.declared.scan.Totals.{Totals}
 
 module _ (bs ns : List ℕ) (ps : List (List ℕ)) where
   pub scan-starts : {s : Scan} → s ≡ freshScan → pass s ns ps ≡ scanned bs 0 ns ps
@@ -33,8 +33,8 @@ module _ (bs ns : List ℕ) (ps : List (List ℕ)) where
       let same : i ≡ length bs = omega arith in
       e ∙ rw same
 
-pub judge-is : (bs : List ℕ) (ps₀ : List (List ℕ)) {s : Scan} {ns : List ℕ} {ps : List (List ℕ)} {u : Bool} {r : Found} →
-    pass s ns ps ≡ scanned bs (length bs) (replicate 256 0) ps₀ → u ≡ isUtf8 bs → r ≡ foundOf s u → judged r ps ≡ judgedOf bs ps₀
+pub judge-is : (bs : List ℕ) (ps₀ : List (List ℕ)) {s : Scan} {ns : List ℕ} {ps : List (List ℕ)} {u : Bool} {r : Totals} →
+    pass s ns ps ≡ scanned bs (length bs) (replicate 256 0) ps₀ → u ≡ isUtf8 bs → r ≡ totalsOf s u → judged r ps ≡ judgedOf bs ps₀
 unfolding judgedOf
 judge-is bs ps₀ e f g = rw (← e, g, f)
 

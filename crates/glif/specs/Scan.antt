@@ -12,7 +12,7 @@ use Rattle.glif.specs.Names.{wrongNames, keptNames}
 use Rattle.glif.specs.Tree.{noTree, treed}
 use Rattle.glif.specs.Outline.{noSum, pointMet, summed, keptPoint}
 use Rattle.gliftext.specs.declared.text.Text.{Text}
-use Rattle.glif.specs.declared.scan.Found.{Found}
+use Rattle.glif.specs.declared.scan.Totals.{Totals}
 use Rattle.glif.specs.declared.scan.Scan.{Scan}
 
 abbrev pub freshScan : Scan
@@ -54,15 +54,15 @@ numberOf s utf8 =
     19
     (pick (s .sum .cubic) 20 (pick (s .sum .far) 14 (pick (s .sum .bare) 21 0)))
 
-unfoldable pub foundOf : Scan → Bool → Found
-foundOf s utf8 = record { number = numberOf s utf8; contours = s .sum .contours; points = s .sum .points; full = s .sum .full }
+unfoldable pub totalsOf : Scan → Bool → Totals
+totalsOf s utf8 = record { number = numberOf s utf8; contours = s .sum .contours; points = s .sum .points; full = s .sum .full }
 
 -- what is found, and the points' row
 pub data Judged : Type 0 where
-  judged : Found → List (List ℕ) → Judged
+  judged : Totals → List (List ℕ) → Judged
 
 abbrev judgedBy : Bool → Pass → Judged
-judgedBy utf8 (pass s names points) = judged (foundOf s utf8) points
+judgedBy utf8 (pass s names points) = judged (totalsOf s utf8) points
 
 -- at most 256 names are kept
 unfoldable pub judgedOf : List ℕ → List (List ℕ) → Judged

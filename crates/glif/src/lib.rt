@@ -5,8 +5,8 @@ mod scan;
 mod tree;
 
 pub use crate::outline::Sum;
-pub use crate::scan::Found;
 pub use crate::scan::Scan;
+pub use crate::scan::Totals;
 pub use crate::scan::fresh_scan;
 pub use crate::scan::judge;
 pub use crate::scan::turn;

@@ -21,7 +21,7 @@ use gliftext::text_of;
 ghost use mathlib.Core.Path.{_≡_};
 ghost use Prim.Native.Nat.{_<_};
 ghost use lib.ListN.{length};
-ghost use Rattle.glif.specs.Scan.{freshScan, pass, turned, scanned, numberOf, foundOf, judged, judgedOf};
+ghost use Rattle.glif.specs.Scan.{freshScan, pass, turned, scanned, numberOf, totalsOf, judged, judgedOf};
 
 pub struct Scan {
     pub text: Text,
@@ -92,18 +92,18 @@ fn number_of(s: Scan, utf8: bool) -> usize
 }
 
 // The number of a refusal, or 0; how many contours, how many points as they stand, and as they enter.
-pub struct Found {
+pub struct Totals {
     pub number: usize,
     pub contours: usize,
     pub points: usize,
     pub full: usize,
 }
 
-fn found_in(s: Scan, utf8: bool) -> Found
-    ensures { λ r. ⌜ r ≡ foundOf s utf8 ⌝ }
+fn totals_in(s: Scan, utf8: bool) -> Totals
+    ensures { λ r. ⌜ r ≡ totalsOf s utf8 ⌝ }
 {
     let sum = s.sum;
-    Found {
+    Totals {
         number: number_of(s, utf8),
         contours: sum.contours,
         points: sum.points,
@@ -112,10 +112,10 @@ fn found_in(s: Scan, utf8: bool) -> Found
 }
 
 // A whole file, its points into the scratch row.
-pub fn judge(bytes: &[u8], points: &mut [[usize; 3]]) -> Found
+pub fn judge(bytes: &[u8], points: &mut [[usize; 3]]) -> Totals
     ensures { λ r. ⌜ judged r (now (points .exit)) ≡ judgedOf (now (bytes .entry)) (now (points .entry)) ⌝ }
 {
     let mut names = [0; 256];
     let s = scan_bytes(bytes, &mut names, points);
-    found_in(s, is_utf8(bytes))
+    totals_in(s, is_utf8(bytes))
 }

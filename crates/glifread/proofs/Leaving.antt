@@ -7,13 +7,13 @@ use lib.IntN.{ℤ}
 use lib.ListN.{length, replicate}
 use Rattle.gliftext.specs.Pick.{pick}
 use Rattle.glif.specs.Scan.{Judged, judged, judgedOf}
-use Rattle.glif.specs.declared.scan.Found.{Found}
+use Rattle.glif.specs.declared.scan.Totals.{Totals}
 use Rattle.glifread.specs.Enter.{noPlace, rows, filled, enterAll}
 use Rattle.glifread.specs.Reads.{refusal, reportOf, kept, roomsOf, answerBy, leftBy}
 use Rattle.glifread.specs.declared.read.GlifReadReport.{GlifReadReport}
 
 module _ (bytes ends : List ℕ) (xs ys : List ℤ) (fs : List ℕ) (p₀ : List (List ℕ))
-    {p₁ p₂ p₃ : List (List ℕ)} {f : Found} {k n : ℕ} {ends′ : List ℕ} {xs′ ys′ : List ℤ} {fs′ : List ℕ} {r : GlifReadReport}
+    {p₁ p₂ p₃ : List (List ℕ)} {f : Totals} {k n : ℕ} {ends′ : List ℕ} {xs′ ys′ : List ℤ} {fs′ : List ℕ} {r : GlifReadReport}
     (cleared : p₁ ≡ replicate (length p₀) noPlace) (found : judged f p₂ ≡ judgedOf bytes p₁) (size : length p₂ ≡ length p₀)
     (refused : k ≡ refusal f (length ends) (length xs) (length ys) (length fs) (length p₂)) (many : n ≡ pick (eqb k 0) (f .contours) 0)
     (entered : filled ends′ (rows xs′ ys′ fs′) ≡ enterAll p₂ (f .points) n (filled ends (rows xs ys fs))) (zero : p₃ ≡ replicate (length p₂) noPlace)

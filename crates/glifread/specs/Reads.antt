@@ -4,13 +4,13 @@ use mathlib.Core.List.{List}
 use lib.Dec.{eqb, ltb}
 use lib.ListN.{length, replicate}
 use Rattle.gliftext.specs.Pick.{pick}
-use Rattle.glif.specs.declared.scan.Found.{Found}
+use Rattle.glif.specs.declared.scan.Totals.{Totals}
 use Rattle.glif.specs.Scan.{Judged, judged}
 use Rattle.glifread.specs.Enter.{noPlace, rows, Filled, filled, enterAll}
 use Rattle.glifread.specs.declared.read.GlifReadReport.{GlifReadReport}
 
 -- the file's own number, else 9 where a row is too short: ends, scratch points, x, y, flags
-unfoldable pub refusal : Found → ℕ → ℕ → ℕ → ℕ → ℕ → ℕ
+unfoldable pub refusal : Totals → ℕ → ℕ → ℕ → ℕ → ℕ → ℕ
 refusal f ends xs ys flags points =
     pick (eqb (f .number) 0)
     (pick (ltb ends (f .contours)) 9
@@ -22,7 +22,7 @@ refusal f ends xs ys flags points =
 unfoldable pub numbered : ℕ → ℕ
 numbered n = n % 256
 
-unfoldable pub reportOf : Found → ℕ → GlifReadReport
+unfoldable pub reportOf : Totals → ℕ → GlifReadReport
 reportOf f k = record { number = numbered k; contours = pick (eqb k 0) (f .contours) 0; points = pick (eqb k 0) (f .full) 0 }
 
 -- ---- the rows: those that are filled, and the scratch row
@@ -40,7 +40,7 @@ roomsOf (kept (filled ends (rows xs ys fs)) points) = rooms (length ends) (lengt
 abbrev pub scratchRoom : Rooms → ℕ
 scratchRoom (rooms ends xs ys fs points) = points
 
-abbrev pub refusalIn : Found → Rooms → ℕ
+abbrev pub refusalIn : Totals → Rooms → ℕ
 refusalIn f (rooms ends xs ys fs points) = refusal f ends xs ys fs points
 
 abbrev pub answerBy : Judged → Rooms → GlifReadReport

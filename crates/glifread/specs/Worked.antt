@@ -11,7 +11,7 @@ use Rattle.glif.specs.Tree.{pathWord, onPath, entered, left, textFits, opensTag
 use Rattle.glif.specs.Names.{alike, sameName, seenTo, repeated, unclosed, wrongNames, keptNames}
 use Rattle.glif.specs.Outline.{isNumber, isFar, offsetOf, known, cubicOf, begun, ended}
 use Rattle.glif.specs.Outline.{wrongPoint, withPoint, pointMet, contourMet, contourLeft, summed, markOf, keptPoint}
-use Rattle.glif.specs.Scan.{turned, scanned, numberOf, foundOf, judgedOf}
+use Rattle.glif.specs.Scan.{turned, scanned, numberOf, totalsOf, judgedOf}
 use lib.IntN.{pos, negsuc}
 use Rattle.glifread.specs.Enter.{isOff, isFirst, middleOf, signedOf, flagOf, endOf, rows, putAt}
 use Rattle.glifread.specs.Enter.{enterOne, enterTo, seekFrom, enterContour, enterNext, enterUpTo, Filled, filled, enterAll}
@@ -42,7 +42,7 @@ pub reads-alone : reported alone ≡ record { number = 0; contours = 0; points =
 unfolding pick more sum pushed digitOf grown fedNumber namedChar isChar narrowed classes classOf isName table moveOf runes runeClass
     runeTable runeOn runeAt isUtf8 named referred valued pointed said wrongText attributed texted pathWord onPath entered left textFits opensTag
     treed alike sameName seenTo repeated unclosed wrongNames keptNames isNumber isFar offsetOf known cubicOf begun ended wrongPoint withPoint
-    pointMet contourMet contourLeft summed markOf keptPoint turned scanned numberOf foundOf judgedOf refusal numbered reportOf
+    pointMet contourMet contourLeft summed markOf keptPoint turned scanned numberOf totalsOf judgedOf refusal numbered reportOf
 reads-alone = refl
 
 -- <glyph><outline><contour><point x="0" y="0"/><point x="-3" y="1"/><point x="9" y="9" type="qcurve"/></contour></outline></glyph>
@@ -60,7 +60,7 @@ pub reads-contour : reported entering ≡ record { number = 0; contours = 1; poi
 unfolding pick more sum pushed digitOf grown fedNumber namedChar isChar narrowed classes classOf isName table moveOf runes runeClass
     runeTable runeOn runeAt isUtf8 named referred valued pointed said wrongText attributed texted pathWord onPath entered left textFits opensTag
     treed alike sameName seenTo repeated unclosed wrongNames keptNames isNumber isFar offsetOf known cubicOf begun ended wrongPoint withPoint
-    pointMet contourMet contourLeft summed markOf keptPoint turned scanned numberOf foundOf judgedOf refusal numbered reportOf
+    pointMet contourMet contourLeft summed markOf keptPoint turned scanned numberOf totalsOf judgedOf refusal numbered reportOf
 reads-contour = refl
 
 pub enters-contour : filledBy entering
@@ -68,7 +68,7 @@ pub enters-contour : filledBy entering
 unfolding pick more sum pushed digitOf grown fedNumber namedChar isChar narrowed classes classOf isName table moveOf runes runeClass
     runeTable runeOn runeAt isUtf8 named referred valued pointed said wrongText attributed texted pathWord onPath entered left textFits opensTag
     treed alike sameName seenTo repeated unclosed wrongNames keptNames isNumber isFar offsetOf known cubicOf begun ended wrongPoint withPoint
-    pointMet contourMet contourLeft summed markOf keptPoint turned scanned numberOf foundOf judgedOf refusal numbered reportOf isOff isFirst
+    pointMet contourMet contourLeft summed markOf keptPoint turned scanned numberOf totalsOf judgedOf refusal numbered reportOf isOff isFirst
     middleOf signedOf flagOf endOf putAt enterOne enterTo seekFrom enterContour enterNext enterUpTo enterAll
 enters-contour = refl
 
@@ -84,7 +84,7 @@ pub reads-no-comment : reported commented ≡ record { number = 0; contours = 0;
 unfolding pick more sum pushed digitOf grown fedNumber namedChar isChar narrowed classes classOf isName table moveOf runes runeClass
     runeTable runeOn runeAt isUtf8 named referred valued pointed said wrongText attributed texted pathWord onPath entered left textFits opensTag
     treed alike sameName seenTo repeated unclosed wrongNames keptNames isNumber isFar offsetOf known cubicOf begun ended wrongPoint withPoint
-    pointMet contourMet contourLeft summed markOf keptPoint turned scanned numberOf foundOf judgedOf refusal numbered reportOf
+    pointMet contourMet contourLeft summed markOf keptPoint turned scanned numberOf totalsOf judgedOf refusal numbered reportOf
 reads-no-comment = refl
 
 -- <glyph><outline></glyph></outline>
@@ -97,7 +97,7 @@ pub refuses-crossed : reported crossed ≡ record { number = 19; contours = 0; p
 unfolding pick more sum pushed digitOf grown fedNumber namedChar isChar narrowed classes classOf isName table moveOf runes runeClass
     runeTable runeOn runeAt isUtf8 named referred valued pointed said wrongText attributed texted pathWord onPath entered left textFits opensTag
     treed alike sameName seenTo repeated unclosed wrongNames keptNames isNumber isFar offsetOf known cubicOf begun ended wrongPoint withPoint
-    pointMet contourMet contourLeft summed markOf keptPoint turned scanned numberOf foundOf judgedOf refusal numbered reportOf
+    pointMet contourMet contourLeft summed markOf keptPoint turned scanned numberOf totalsOf judgedOf refusal numbered reportOf
 refuses-crossed = refl
 
 -- <glyph><outline><contour><point x="1.5" y="40000" type="line"/></contour></outline></glyph>: 20 comes before 14
@@ -112,5 +112,5 @@ pub refuses-fractional : reported fractional ≡ record { number = 20; contours 
 unfolding pick more sum pushed digitOf grown fedNumber namedChar isChar narrowed classes classOf isName table moveOf runes runeClass
     runeTable runeOn runeAt isUtf8 named referred valued pointed said wrongText attributed texted pathWord onPath entered left textFits opensTag
     treed alike sameName seenTo repeated unclosed wrongNames keptNames isNumber isFar offsetOf known cubicOf begun ended wrongPoint withPoint
-    pointMet contourMet contourLeft summed markOf keptPoint turned scanned numberOf foundOf judgedOf refusal numbered reportOf
+    pointMet contourMet contourLeft summed markOf keptPoint turned scanned numberOf totalsOf judgedOf refusal numbered reportOf
 refuses-fractional = refl

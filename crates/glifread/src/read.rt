@@ -1,7 +1,7 @@
 // A file into rows: it is judged whole, with its points in the scratch row; then the contours enter the rows.
 use crate::enter::enter_all;
 use crate::place::clear;
-use glif::Found;
+use glif::Totals;
 use glif::judge;
 use gliftext::pick;
 ghost use mathlib.Core.Path.{_≡_};
@@ -18,7 +18,7 @@ pub struct GlifReadReport {
 }
 
 // The number of the file's refusal, else 9 where a row is too short.
-fn refuse(f: Found, ends: usize, xs: usize, ys: usize, flags: usize, points: usize) -> usize
+fn refuse(f: Totals, ends: usize, xs: usize, ys: usize, flags: usize, points: usize) -> usize
     ensures { λ r. ⌜ r ≡ refusal f ends xs ys flags points ⌝ }
 {
     let output = pick(
@@ -36,7 +36,7 @@ fn small(n: usize) -> u32
     (n % 256) as u32
 }
 
-fn report_of(f: Found, k: usize) -> GlifReadReport
+fn report_of(f: Totals, k: usize) -> GlifReadReport
     ensures { λ r. ⌜ r ≡ reportOf f k ⌝ }
 {
     GlifReadReport {

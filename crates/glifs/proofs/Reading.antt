@@ -10,7 +10,7 @@ use lib.IntN.{ℤ, pos}
 use lib.ListN.{length, take, replicate, length-replicate}
 use Rattle.gliftext.specs.Pick.{pick}
 use Rattle.glif.specs.Scan.{Judged, judged}
-use Rattle.glif.specs.declared.scan.Found.{Found}
+use Rattle.glif.specs.declared.scan.Totals.{Totals}
 use Rattle.glyf.specs.Layout.{Outcome, done, refused, refuse}
 use Rattle.edition.specs.Edition as Edition
 use Rattle.settings.specs.declared.Settings.{Settings}
@@ -41,7 +41,7 @@ few k n m h = by (eqb k 0) refl
     by true e = h (eqb-true k 0 e)
     by false e = omega arith
 
-module _ (f : Found) (ends xs ys flags points : ℕ) (h : refusal f ends xs ys flags points ≡ 0) where
+module _ (f : Totals) (ends xs ys flags points : ℕ) (h : refusal f ends xs ys flags points ≡ 0) where
   record Few : Type 0 where
     in-ends : f .contours ≤ ends
     in-xs : f .full ≤ xs

@@ -11,10 +11,10 @@ use lib.ListN.{length, take, replicate, length-replicate}
 use lib.Seq.{length-take-le}
 use Rattle.gliftext.specs.Pick.{pick}
 use Rattle.gliftext.specs.Utf8.{isUtf8}
-use Rattle.glif.specs.Scan.{Pass, pass, Judged, judged, foundOf}
+use Rattle.glif.specs.Scan.{Pass, pass, Judged, judged, totalsOf}
 use Rattle.glif.proofs.Stems.{pointsIn}
 use Rattle.glif.specs.declared.scan.Scan.{Scan}
-use Rattle.glif.specs.declared.scan.Found.{Found}
+use Rattle.glif.specs.declared.scan.Totals.{Totals}
 use Rattle.glyf.specs.Layout.{done, refuse, countOf, rising}
 use Rattle.glifread.specs.Enter.{noPlace, Rows, rows, filled, entering, enterUpTo, atEnd, enterAll}
 use Rattle.glifread.specs.Reads.{refusal, numbered, reportOf, Rooms, rooms, refusalIn, answerBy, entersBy}
@@ -41,13 +41,13 @@ first-zero n x e = by (eqb n 0) refl e
     by true h g = (eqb-true n 0 h, g)
     by false h g = absurd (eqb-false n 0 h g)
 
-record Room (f : Found) (ends xs ys flags points : ℕ) : Type 0 where
+record Room (f : Totals) (ends xs ys flags points : ℕ) : Type 0 where
   number : f .number ≡ 0
   in-ends : f .contours ≤ ends
   in-points : f .points ≤ points
   in-xs : f .full ≤ xs
 
-room-of : (f : Found) (ends xs ys flags points : ℕ) → refusal f ends xs ys flags points ≡ 0 → Room f ends xs ys flags points
+room-of : (f : Totals) (ends xs ys flags points : ℕ) → refusal f ends xs ys flags points ≡ 0 → Room f ends xs ys flags points
 unfolding refusal
 room-of f ends xs ys flags points e =
     let a = first-zero (f .number) _ e in
@@ -64,8 +64,8 @@ room-of f ends xs ys flags points e =
 both-and : (a b : Bool) → a ≡ true → b ≡ true → (a && b) ≡ true
 both-and a b e h = rw (e, h)
 
-found-sums : (s : Scan) (u : Bool) → (foundOf s u .contours ≡ s .sum .contours) × (foundOf s u .points ≡ s .sum .points) × (foundOf s u .full ≡ s .sum .full)
-unfolding foundOf
+found-sums : (s : Scan) (u : Bool) → (totalsOf s u .contours ≡ s .sum .contours) × (totalsOf s u .points ≡ s .sum .points) × (totalsOf s u .full ≡ s .sum .full)
+unfolding totalsOf
 found-sums s u = (refl, refl, refl)
 
 rows-same : (bs : List ℕ) (p : Pass) → pointsIn bs p ≡ rowIn p
@@ -95,8 +95,8 @@ module _ (bytes : List ℕ) (e x y f m : ℕ) where
   abbrev ps : List (List ℕ)
   ps = rowIn (passAt bytes row n)
 
-  abbrev found : Found
-  found = foundOf s (isUtf8 bytes)
+  abbrev found : Totals
+  found = totalsOf s (isUtf8 bytes)
 
   abbrev rs : Rooms
   rs = rooms e x y f m

@@ -20,13 +20,13 @@ use Rattle.glif.specs.Outline.{nowhere}
 use Rattle.glif.specs.Scan.{Judged}
 use Rattle.glif.specs.Scan as Scan
 use Rattle.glif.specs.declared.scan.Scan.{Scan}
-use Rattle.glif.specs.declared.scan.Found.{Found}
+use Rattle.glif.specs.declared.scan.Totals.{Totals}
 use Rattle.glifread.specs.Enter.{noPlace, rows, filled, enterAll}
 use Rattle.glifread.specs.Reads.{refusal, numbered, reportOf, Rooms, rooms, refusalIn, answerBy, entersBy}
 use Rattle.glifread.specs.Entry.{judgedIn}
 use Rattle.glifwrite.specs.Puts.{Putting, put, putByte}
 use Rattle.glifwrite.specs.Contours.{isOn, endAt, startOf, emptyTo, someEmpty, even, rowsRefused}
-use Rattle.glifwrite.specs.Writes.{GivenRows, given, noPoints, readTo, scanIn, foundIn, placeIn, rowIn, fileIn, refusedBy, sizeOf, numberOf, numberIn, writeAll}
+use Rattle.glifwrite.specs.Writes.{GivenRows, given, noPoints, readTo, scanIn, totalsIn, placeIn, rowIn, fileIn, refusedBy, sizeOf, numberOf, numberIn, writeAll}
 use Rattle.glifwrite.specs.Writes.{leftIn, answerOf}
 use Rattle.glifwrite.specs.Writes as Writes
 use Rattle.glifwrite.specs.Worked as Worked
@@ -69,7 +69,7 @@ text-front t out h = rw (sets-eq t out 0 (omega arith)) (take-at t (drop (0 + le
 
 -- ---- rows that belong to a file
 
-pub record Belong (f : Found) (ends : List ℕ) (nx ny nf : ℕ) : Type 0 where
+pub record Belong (f : Totals) (ends : List ℕ) (nx ny nf : ℕ) : Type 0 where
   pub number : f .number ≡ 0
   pub same-x : nx ≡ nf
   pub same-y : ny ≡ nf
@@ -133,7 +133,7 @@ last-end ends nx (suc n) e h g =
     by true k = absurd (true≢false (sym (both-is (eqb nx 0) (ltb 0 (suc n)) k (lt-ltb 0 (suc n) (omega arith))) ∙ g))
     by false k = k
 
-belong : (f : Found) (ends : List ℕ) (nx ny nf : ℕ) → rowsRefused (f .number) (f .contours) ends nx ny nf ≡ 0 → Belong f ends nx ny nf
+belong : (f : Totals) (ends : List ℕ) (nx ny nf : ℕ) → rowsRefused (f .number) (f .contours) ends nx ny nf ≡ 0 → Belong f ends nx ny nf
 unfolding rowsRefused even someEmpty
 belong f ends nx ny nf e =
     let a = first-zero (f .number) _ e in
@@ -252,7 +252,7 @@ module _ (bs ends : List ℕ) (xs ys : List ℤ) (fs out : List ℕ) (few : leng
       abbrev row : List (List ℕ)
       row = replicate m noPlace
 
-      abbrev found : Found
+      abbrev found : Totals
       found = record { number = 0; contours = length ends; points = startOf ends (length ends); full = startOf ends (length ends) }
 
       abbrev ps : List (List ℕ)
@@ -289,7 +289,7 @@ module _ (bs ends : List ℕ) (xs ys : List ℤ) (fs out : List ℕ) (few : leng
 
 small-file : (bs : List ℕ) → fileIn bs .number ≤ 21
 small-file bs =
-    let is = ap (λ (j : Judged). foundIn j .number) (judged-by bs noPoints (readTo bs (length bs)) refl) ∙ found-number (scanIn (readTo bs (length bs))) (isUtf8 bs) in
+    let is = ap (λ (j : Judged). totalsIn j .number) (judged-by bs noPoints (readTo bs (length bs)) refl) ∙ found-number (scanIn (readTo bs (length bs))) (isUtf8 bs) in
     subst (λ (n : ℕ). n ≤ 21) (sym is) (file-small (scanIn (readTo bs (length bs))) (isUtf8 bs))
 
 small-rows : (bs ends : List ℕ) (xs ys : List ℤ) (fs : List ℕ) → refusedBy (fileIn bs) (given ends xs ys fs) ≤ 21

@@ -11,13 +11,13 @@ use lib.Seq.{take-all}
 use Rattle.gliftext.specs.Pick.{pick, most}
 use Rattle.gliftext.specs.Utf8.{runeAt, isUtf8}
 use Rattle.glif.specs.Outline.{nowhere}
-use Rattle.glif.specs.Scan.{Pass, pass, scanned, numberOf, foundOf, Judged, judged, judgedOf}
+use Rattle.glif.specs.Scan.{Pass, pass, scanned, numberOf, totalsOf, Judged, judged, judgedOf}
 use Rattle.glif.specs.declared.scan.Scan.{Scan}
-use Rattle.glif.specs.declared.scan.Found.{Found}
+use Rattle.glif.specs.declared.scan.Totals.{Totals}
 use Rattle.glif.specs.declared.tree.Tree.{Tree}
 use Rattle.glif.specs.declared.outline.Sum.{Sum}
 use Rattle.glifwrite.specs.Contours.{endAt, startOf}
-use Rattle.glifwrite.specs.Writes.{GivenRows, given, noPoints, readTo, scanIn, foundIn, fileIn}
+use Rattle.glifwrite.specs.Writes.{GivenRows, given, noPoints, readTo, scanIn, totalsIn, fileIn}
 use Rattle.glifwrite.specs.Outside.{Part, own, putPart, putParts, trackTo, closed, partsOf}
 use Rattle.glifwrite.specs.Puts.{Putting}
 use Rattle.gliftext.proofs.Picks.{both-true, or-false}
@@ -96,7 +96,7 @@ file-small s u =
 -- ---- the reader's answer, from what is remembered
 
 module _ (bs : List ℕ) where
-  pub judged-by : (ps₀ : List (List ℕ)) (p : Pass) → scanned bs (length bs) (replicate 256 0) ps₀ ≡ p → judgedOf bs ps₀ ≡ judged (foundOf (scanIn p) (isUtf8 bs)) (pointsIn bs p)
+  pub judged-by : (ps₀ : List (List ℕ)) (p : Pass) → scanned bs (length bs) (replicate 256 0) ps₀ ≡ p → judgedOf bs ps₀ ≡ judged (totalsOf (scanIn p) (isUtf8 bs)) (pointsIn bs p)
   unfolding judgedOf
   judged-by ps₀ (pass s names points) e = rw e
 
@@ -132,12 +132,12 @@ rune-utf8 : (bs : List ℕ) → runeAt bs (length bs) ≡ 0 → isUtf8 bs ≡ tr
 unfolding isUtf8
 rune-utf8 bs e = rw e
 
-pub found-number : (s : Scan) (u : Bool) → foundOf s u .number ≡ numberOf s u
-unfolding foundOf
+pub found-number : (s : Scan) (u : Bool) → totalsOf s u .number ≡ numberOf s u
+unfolding totalsOf
 found-number s u = refl
 
-found-contours : (s : Scan) (u : Bool) → foundOf s u .contours ≡ s .sum .contours
-unfolding foundOf
+found-contours : (s : Scan) (u : Bool) → totalsOf s u .contours ≡ s .sum .contours
+unfolding totalsOf
 found-contours s u = refl
 
 -- ---- the beginning
@@ -257,14 +257,14 @@ module _ (bs ends : List ℕ) (xs ys : List ℤ) (fs : List ℕ) (few : length b
   abbrev z : List ℕ
   z = nameAt bs 0
 
-  file-is : judgedOf bs noPoints ≡ judged (foundOf (scanIn (readTo bs n)) (isUtf8 bs)) (pointsIn bs (readTo bs n))
+  file-is : judgedOf bs noPoints ≡ judged (totalsOf (scanIn (readTo bs n)) (isUtf8 bs)) (pointsIn bs (readTo bs n))
   file-is = judged-by bs noPoints (readTo bs n) refl
 
   file-accepted : Accepted (scanIn (readTo bs n)) (isUtf8 bs)
-  file-accepted = accepted (scanIn (readTo bs n)) (isUtf8 bs) (sym (found-number (scanIn (readTo bs n)) (isUtf8 bs)) ∙ sym (ap (λ (j : Judged). foundIn j .number) file-is) ∙ passes)
+  file-accepted = accepted (scanIn (readTo bs n)) (isUtf8 bs) (sym (found-number (scanIn (readTo bs n)) (isUtf8 bs)) ∙ sym (ap (λ (j : Judged). totalsIn j .number) file-is) ∙ passes)
 
   file-contours : scanIn (readTo bs n) .sum .contours ≡ length ends
-  file-contours = sym (found-contours (scanIn (readTo bs n)) (isUtf8 bs)) ∙ sym (ap (λ (j : Judged). foundIn j .contours) file-is) ∙ many
+  file-contours = sym (found-contours (scanIn (readTo bs n)) (isUtf8 bs)) ∙ sym (ap (λ (j : Judged). totalsIn j .contours) file-is) ∙ many
 
   abbrev seen : Shown bs (at bs n) (readTo bs n)
   seen = shown-at bs n
@@ -359,11 +359,11 @@ module _ (bs ends : List ℕ) (xs ys : List ℤ) (fs : List ℕ) (few : length b
     bare = ap (λ (v : Sum). v .bare) sum-last ∙ counted .bare;
   }
 
-  abbrev found : Found
+  abbrev found : Totals
   found = record { number = 0; contours = length ends; points = startOf ends (length ends); full = startOf ends (length ends) }
 
-  found-is : foundOf s (isUtf8 ws) ≡ found
-  unfolding foundOf
+  found-is : totalsOf s (isUtf8 ws) ≡ found
+  unfolding totalsOf
   found-is =
       λ j. record {
         number = number-zero s (isUtf8 ws) written-accepted j;

@@ -11,11 +11,11 @@ use lib.ListN.{length, replicate}
 use Rattle.gliftext.specs.Pick.{pick, both, more}
 use Rattle.glif.specs.Scan.{pass, turned, scanned, Judged, judged, judgedOf}
 use Rattle.glif.specs.declared.scan.Scan.{Scan}
-use Rattle.glif.specs.declared.scan.Found.{Found}
+use Rattle.glif.specs.declared.scan.Totals.{Totals}
 use Rattle.glifwrite.specs.Puts.{Putting, put, putRange}
 use Rattle.glifwrite.specs.Contours.{endAt, startOf, putTo, rowsRefused}
 use Rattle.glifwrite.specs.Writes.{GivenRows, given, noPoints, readTo, Copying, copying, noCopy, copyOn, copyTo, writeAll}
-use Rattle.glifwrite.specs.Writes.{placeIn, rowIn, foundIn, refusedBy, fileIn, numberOf, reportOf, numberIn, answerOf, leftIn}
+use Rattle.glifwrite.specs.Writes.{placeIn, rowIn, totalsIn, refusedBy, fileIn, numberOf, reportOf, numberIn, answerOf, leftIn}
 use Rattle.glifwrite.specs.declared.write.Copy.{Copy}
 use Rattle.glifwrite.specs.declared.write.GlifWriteReport.{GlifWriteReport}
 
@@ -53,7 +53,7 @@ unfolding pick
 few true {n} {m} e = omega arith
 few false {n} {m} e = omega arith
 
-module _ (bytes ends : List ℕ) (xs ys : List ℤ) (fs out : List ℕ) {f : Found} {p : List (List ℕ)} {k n size nine number m place : ℕ} {nothing out′ :
+module _ (bytes ends : List ℕ) (xs ys : List ℤ) (fs out : List ℕ) {f : Totals} {p : List (List ℕ)} {k n size nine number m place : ℕ} {nothing out′ :
     List ℕ} {r : GlifWriteReport}
     (found : judged f p ≡ judgedOf bytes noPoints) (refused : k ≡ rowsRefused (f .number) (f .contours) ends (length xs) (length ys) (length fs))
     (many : n ≡ pick (eqb k 0) (length bytes) 0) (measured : put size nothing ≡ writeAll bytes (given ends xs ys fs) n (replicate 1 0))
@@ -66,7 +66,7 @@ module _ (bytes ends : List ℕ) (xs ys : List ℤ) (fs out : List ℕ) {f : Fou
   refusal = refusedBy (fileIn bytes) g
 
   is-refusal : k ≡ refusal
-  is-refusal = refused ∙ ap (λ (j : Judged). refusedBy (foundIn j) g) found
+  is-refusal = refused ∙ ap (λ (j : Judged). refusedBy (totalsIn j) g) found
 
   is-size : size ≡ placeIn (writeAll bytes g (pick (eqb refusal 0) (length bytes) 0) (replicate 1 0))
   is-size = ap placeIn measured ∙ ap (λ (v : ℕ). placeIn (writeAll bytes g v (replicate 1 0))) (many ∙ ap (λ (v : ℕ). pick (eqb v 0) (length bytes) 0)

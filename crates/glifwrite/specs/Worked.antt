@@ -11,7 +11,7 @@ use Rattle.glif.specs.Tree.{pathWord, onPath, entered, left, textFits, opensTag
 use Rattle.glif.specs.Names.{alike, sameName, seenTo, repeated, unclosed, wrongNames, keptNames}
 use Rattle.glif.specs.Outline.{isNumber, isFar, offsetOf, known, cubicOf, begun, ended}
 use Rattle.glif.specs.Outline.{wrongPoint, withPoint, pointMet, contourMet, contourLeft, summed, markOf, keptPoint}
-use Rattle.glif.specs.Scan.{turned, scanned, foundOf, judgedOf}
+use Rattle.glif.specs.Scan.{turned, scanned, totalsOf, judgedOf}
 use Rattle.glif.specs.Scan as scan
 use lib.IntN.{pos, negsuc}
 use lib.ListN.{replicate}
@@ -46,7 +46,7 @@ pub writes-points : leftIn file points 110 (replicate 110 0) ≡ written
 unfolding pick more sum pushed digitOf grown fedNumber namedChar isChar narrowed classes classOf isName table moveOf runes runeClass
     runeTable runeOn runeAt isUtf8 named referred valued pointed said wrongText attributed texted pathWord onPath entered left textFits opensTag
     treed alike sameName seenTo repeated unclosed wrongNames keptNames isNumber isFar offsetOf known cubicOf begun ended wrongPoint withPoint
-    pointMet contourMet contourLeft summed markOf keptPoint turned scanned foundOf judgedOf scan.numberOf decimalIn decimalOf signedOf putByte
+    pointMet contourMet contourLeft summed markOf keptPoint turned scanned totalsOf judgedOf scan.numberOf decimalIn decimalOf signedOf putByte
     putRange putNumber putKind putPoint isOn endAt startOf putPlace putTo emptyTo someEmpty even rowsRefused copyOn copyTo writeAll numberOf
     reportOf
 writes-points = refl
@@ -55,7 +55,7 @@ pub reports-bytes : answerOf file points 110 ≡ record { number = 0; bytes = 11
 unfolding pick more sum pushed digitOf grown fedNumber namedChar isChar narrowed classes classOf isName table moveOf runes runeClass
     runeTable runeOn runeAt isUtf8 named referred valued pointed said wrongText attributed texted pathWord onPath entered left textFits opensTag
     treed alike sameName seenTo repeated unclosed wrongNames keptNames isNumber isFar offsetOf known cubicOf begun ended wrongPoint withPoint
-    pointMet contourMet contourLeft summed markOf keptPoint turned scanned foundOf judgedOf scan.numberOf decimalIn decimalOf signedOf putByte
+    pointMet contourMet contourLeft summed markOf keptPoint turned scanned totalsOf judgedOf scan.numberOf decimalIn decimalOf signedOf putByte
     putRange putNumber putKind putPoint isOn endAt startOf putPlace putTo emptyTo someEmpty even rowsRefused copyOn copyTo writeAll numberOf
     reportOf
 reports-bytes = refl
@@ -65,7 +65,7 @@ pub refuses-short : answerOf file points 109 ≡ record { number = 9; bytes = 0 
 unfolding pick more sum pushed digitOf grown fedNumber namedChar isChar narrowed classes classOf isName table moveOf runes runeClass
     runeTable runeOn runeAt isUtf8 named referred valued pointed said wrongText attributed texted pathWord onPath entered left textFits opensTag
     treed alike sameName seenTo repeated unclosed wrongNames keptNames isNumber isFar offsetOf known cubicOf begun ended wrongPoint withPoint
-    pointMet contourMet contourLeft summed markOf keptPoint turned scanned foundOf judgedOf scan.numberOf decimalIn decimalOf signedOf putByte
+    pointMet contourMet contourLeft summed markOf keptPoint turned scanned totalsOf judgedOf scan.numberOf decimalIn decimalOf signedOf putByte
     putRange putNumber putKind putPoint isOn endAt startOf putPlace putTo emptyTo someEmpty even rowsRefused copyOn copyTo writeAll numberOf
     reportOf
 refuses-short = refl

@@ -8,7 +8,7 @@ use lib.ListN.{length, replicate}
 use Rattle.gliftext.specs.Pick.{pick, both, more}
 use Rattle.glif.specs.Scan.{Pass, pass, scanned, Judged, judged, judgedOf}
 use Rattle.glif.specs.declared.scan.Scan.{Scan}
-use Rattle.glif.specs.declared.scan.Found.{Found}
+use Rattle.glif.specs.declared.scan.Totals.{Totals}
 use Rattle.glifwrite.specs.Puts.{Putting, put, putRange}
 use Rattle.glifwrite.specs.Contours.{endAt, startOf, putTo, rowsRefused}
 use Rattle.glifwrite.specs.declared.write.Copy.{Copy}
@@ -76,13 +76,13 @@ placeIn (put at out) = at
 abbrev pub rowIn : Putting → List ℕ
 rowIn (put at out) = out
 
-abbrev pub foundIn : Judged → Found
-foundIn (judged f points) = f
+abbrev pub totalsIn : Judged → Totals
+totalsIn (judged f points) = f
 
-abbrev pub fileIn : List ℕ → Found
-fileIn bytes = foundIn (judgedOf bytes noPoints)
+abbrev pub fileIn : List ℕ → Totals
+fileIn bytes = totalsIn (judgedOf bytes noPoints)
 
-abbrev pub refusedBy : Found → GivenRows → ℕ
+abbrev pub refusedBy : Totals → GivenRows → ℕ
 refusedBy f (given ends xs ys flags) = rowsRefused (f .number) (f .contours) ends (length xs) (length ys) (length flags)
 
 -- how long the file is when written: what is put into a row of one place is counted all the same

@@ -11,7 +11,7 @@ use Rattle.geometry.specs.declared.Quad.{Quad}
 use Rattle.arclen.specs.Rk4.{Tried, at, refused, Rates, halfOf, moved, rk4}
 use Rattle.arclen.specs.Arclen.{tenth}
 use Rattle.lookup.specs.Lookup.{fell}
-use Rattle.measure.specs.Measure.{alongSamples, applyOf, walkedBy, measureFunctorOf, measureOf}
+use Rattle.measure.specs.Measure.{alongSamples, applyOf, walkedBy, measureFunctorOf}
 use Rattle.measure.specs.declared.MeasureFunctor.{MeasureFunctor}
 use Rattle.measure.specs.declared.Measured.{Measured}
 use Rattle.measure.specs.declared.Measured.the-variants.{At, Missing}

@@ -25,7 +25,7 @@ use Rattle.measure.specs.declared.Measured.{Measured}
 use Rattle.measure.specs.declared.Measured.the-variants as Measured
 use Rattle.breaks.specs.Breaks.{Row, breakAt}
 use Rattle.attempt.specs.declared.answer.Answer as A
-use Rattle.optimize.specs.declared.Tried.{Tried}
+use Rattle.optimize.specs.declared.Trial.{Trial}
 use Rattle.attempt.specs.Answers.{Leg, Statelet, first, scoreOf, Best, none, best, totalOf, combined}
 use Rattle.optimize.specs.Optimize.{Measure, measureBy, States, refused, states, tryQuad, bentQuad, bentAt, bent, thenBent, tryLineQuad, refused8, unchanged, solved, optimizeOf}
 use Rattle.optimize.specs.Fallen.{Fallen, fallenBetween, fellBentAt, fellBent, fellPair, fellOf}
@@ -217,7 +217,7 @@ Straight samples c w = Counts (measureOf samples (c .s) (c .s) (inPlace (c .xy))
 pub measured-line : (samples : List (List Float)) (c : Break) {a : Break} (w v : Counted) → Straight samples a w → w ≡ v → a ≡ c → Straight samples c v
 measured-line samples c w v told e f = rw (e, f) at told
 
-pub bent-ok : (samples : List (List Float)) {a c : Break} {t : Tried} → t ≡ bendInPlace samples a → a ≡ c → bendInPlace samples c ≡ t
+pub bent-ok : (samples : List (List Float)) {a c : Break} {t : Trial} → t ≡ bendInPlace samples a → a ≡ c → bendInPlace samples c ≡ t
 bent-ok samples e f = rw (← f, ← e) refl
 
 first-total : (q line : Quad) (m penalty s : Float) (x : A.Answer) → x ≡ nothingAt 0 q → q ≡ line → s ≡ totalOf (bestOf x) q m penalty → s ≡ totalOf none line m penalty

@@ -16,7 +16,7 @@ use Rattle.breaks.specs.Breaks.{Row, breakAt}
 use Rattle.attempt.specs.Answers.{Best, okForHalf}
 use Rattle.optimize.specs.Fallen.{Fallen, fallenBetween, fellIf, fellBentAt, fellBent, fellThenBent, fellPair, fellOnward, fellAll}
 use Rattle.optimize.specs.Optimize.{Measure, bestAt, States, refused, states, straight, bentQuad, onward, tryLineQuad, tryAll, splitsFrom, falling, searchFrom}
-use Rattle.optimize.specs.declared.Tried.{Tried}
+use Rattle.optimize.specs.declared.Trial.{Trial}
 use Rattle.optimize.specs.Stored.{Stands, lacks, has, Phase, early, late, Uses, Fresh, Rep, Room, Into, Ready, Holding, Becomes, stops, goes}
 use Rattle.optimize.proofs.Held.{wider}
 use Rattle.optimize.proofs.Trying.{went, stopped, same-room}
@@ -226,11 +226,11 @@ module _ {measure : Measure} {fallen : Fallen} {penalty : Float} {n : ℕ} {bs :
   holding h = record { st = x .reach (h .st) (h .rep) .now; room = same-room (x .same-rs) (x .same-ls) (h .room); rep = x .reach (h .st) (h .rep) .rep }
 
   -- what a call on some of the pairs makes of the rows
-  abbrev Calls : Phase → List (List Float) → List ℕ → List (ℕ × ℕ) → Tried → Type 0
+  abbrev Calls : Phase → List (List Float) → List ℕ → List (ℕ × ℕ) → Trial → Type 0
   Calls g rs' ls' ps r =
       (st : List Best) → Rep f n bs rs ls st → Becomes g n bs rs' ls' (tryAll measure bs penalty ps (states st)) (fellAll measure fallen bs penalty ps (states st)) r
 
-  pub moves : (ps more : List (ℕ × ℕ)) {g : Phase} {rs' : List (List Float)} {ls' : List ℕ} {r : Tried} → rest ≡ ps ++ more →
+  pub moves : (ps more : List (ℕ × ℕ)) {g : Phase} {rs' : List (List Float)} {ls' : List ℕ} {r : Trial} → rest ≡ ps ++ more →
       length rs' ≡ length rs → length ls' ≡ length ls → Calls g rs' ls' ps r → r .ok ≡ true →
       Reaching measure fallen penalty n bs f₀ rs₀ ls₀ all g rs' ls' (so-far + r .fallen) more
   moves ps more is e e' made ok = record {
@@ -249,7 +249,7 @@ module _ {measure : Measure} {fallen : Fallen} {penalty : Float} {n : ℕ} {bs :
   }
 
   -- the count so far, and with one call more, is at most that of all pairs
-  pub counts : (ps more : List (ℕ × ℕ)) {g : Phase} {rs' : List (List Float)} {ls' : List ℕ} {r : Tried} → ((i j : ℕ) (q : Quad) → fallen i j q ≤ 80) →
+  pub counts : (ps more : List (ℕ × ℕ)) {g : Phase} {rs' : List (List Float)} {ls' : List ℕ} {r : Trial} → ((i j : ℕ) (q : Quad) → fallen i j q ≤ 80) →
       rest ≡ ps ++ more → Calls g rs' ls' ps r → r .ok ≡ true → Holding f₀ n bs rs₀ ls₀ → so-far + r .fallen ≤ 160 * length all
   counts ps more few is made ok h =
       let t = x .reach (h .st) (h .rep) in
@@ -258,14 +258,14 @@ module _ {measure : Measure} {fallen : Fallen} {penalty : Float} {n : ℕ} {bs :
       let most = all-most measure fallen bs penalty few all (states (h .st)) in
       omega (arith, t .fell, split, w .fell, most)
 
-  pub breaks-off : (ps more : List (ℕ × ℕ)) {g : Phase} (h : Phase) {rs' : List (List Float)} {ls' : List ℕ} {r : Tried} → rest ≡ ps ++ more →
+  pub breaks-off : (ps more : List (ℕ × ℕ)) {g : Phase} (h : Phase) {rs' : List (List Float)} {ls' : List ℕ} {r : Trial} → rest ≡ ps ++ more →
       Calls g rs' ls' ps r → r .ok ≡ false → (st : List Best) → Rep f₀ n bs rs₀ ls₀ st →
       Becomes h n bs rs' ls' (tryAll measure bs penalty all (states st)) (fellAll measure fallen bs penalty all (states st)) r
   breaks-off ps more h is made bad st rep =
       let t = x .reach st rep in
       rw (t .left ∙ all-step measure bs penalty ps more rest (states (t .now)) refused is (stopped (made (t .now) (t .rep)) bad) ∙ all-refused measure bs penalty more) (stops bad)
 
-  pub arrives : {g : Phase} {r : Tried} → f ≡ g → rest ≡ [] → r .ok ≡ true → r .fallen ≡ so-far → (st : List Best) → Rep f₀ n bs rs₀ ls₀ st →
+  pub arrives : {g : Phase} {r : Trial} → f ≡ g → rest ≡ [] → r .ok ≡ true → r .fallen ≡ so-far → (st : List Best) → Rep f₀ n bs rs₀ ls₀ st →
       Becomes g n bs rs ls (tryAll measure bs penalty all (states st)) (fellAll measure fallen bs penalty all (states st)) r
   arrives at is ok sum st rep =
       let t = x .reach st rep in
@@ -278,7 +278,7 @@ module _ {measure : Measure} {fallen : Fallen} {penalty : Float} {n : ℕ} {bs :
           omega (arith, t .fell, none)
 
 -- one pair alone, as the code tries it
-pub alone : (measure : Measure) (fallen : Fallen) (penalty : Float) (bs : Row) (i j : ℕ) {k : ℕ} {f : Phase} {n : ℕ} {rs rs' : List (List Float)} {ls ls' : List ℕ} {r : Tried} →
+pub alone : (measure : Measure) (fallen : Fallen) (penalty : Float) (bs : Row) (i j : ℕ) {k : ℕ} {f : Phase} {n : ℕ} {rs rs' : List (List Float)} {ls ls' : List ℕ} {r : Trial} →
     Room n bs rs ls → Into f n i j k →
     ((f : Phase) (n : ℕ) (st : List Best) → Room n bs rs ls → Into f n i j k → Rep f n bs rs ls st →
     Becomes f n bs rs' ls' (tryLineQuad measure bs penalty i j st) (fellPair measure fallen bs penalty i j st) r) → (st : List Best) → Rep f n bs rs ls st →
@@ -290,7 +290,7 @@ pub ready : {f : Phase} {n i j k : ℕ} {bs : Row} {rs : List (List Float)} {ls 
 ready {f} {n} h into = record { phase = f; last = n; st = h .st; room = h .room; into = into; rep = h .rep }
 
 -- a phase that leads to the next
-pub rephased : {f g : Phase} {n : ℕ} {bs : Row} {rs : List (List Float)} {ls : List ℕ} {s : States} {c : ℕ} {r : Tried} →
+pub rephased : {f g : Phase} {n : ℕ} {bs : Row} {rs : List (List Float)} {ls : List ℕ} {s : States} {c : ℕ} {r : Trial} →
     ((st : List Best) → Rep f n bs rs ls st → Rep g n bs rs ls st) → Becomes f n bs rs ls s c r → Becomes g n bs rs ls s c r
 rephased h (stops e) = stops e
 rephased h (goes {st = st} e fell rep) = goes e fell (h st rep)

@@ -16,7 +16,7 @@ use Rattle.measure.specs.declared.Measured.the-variants as Measured
 use Rattle.measure.specs.declared.Measure as M
 use Rattle.breaks.specs.Breaks.{Row, breakAt}
 use Rattle.attempt.specs.declared.answer.Answer as A
-use Rattle.optimize.specs.declared.Tried.{Tried}
+use Rattle.optimize.specs.declared.Trial.{Trial}
 use Rattle.attempt.specs.Answers.{Best, okForHalf, combined}
 use Rattle.optimize.specs.Optimize.{Measure, bestAt, States, refused, states, tryQuad, bentQuad, bent, thenBent, tryLineQuad}
 use Rattle.optimize.specs.Fallen.{Fallen, fellBent, fellThenBent, fellPair}
@@ -106,23 +106,23 @@ module _ {bs : Row} {rs : List (List Float)} {ls : List ℕ} {i j k : ℕ} (r : 
   room-from = omega (arith, r .room .in-links, r .into .rising, r .into .upto)
 
 -- ---- after an attempt
-pub record Went (f : Phase) (n : ℕ) (bs : Row) (rs : List (List Float)) (ls : List ℕ) (s : States) (c : ℕ) (r : Tried) : Type 0 where
+pub record Went (f : Phase) (n : ℕ) (bs : Row) (rs : List (List Float)) (ls : List ℕ) (s : States) (c : ℕ) (r : Trial) : Type 0 where
   pub st : List Best
   pub is : s ≡ states st
   pub fell : r .fallen ≡ c
   pub rep : Rep f n bs rs ls st
 
 module _ {f : Phase} {n : ℕ} {bs : Row} {rs : List (List Float)} {ls : List ℕ} where
-  pub went : {s : States} {c : ℕ} {r : Tried} → Becomes f n bs rs ls s c r → r .ok ≡ true → Went f n bs rs ls s c r
+  pub went : {s : States} {c : ℕ} {r : Trial} → Becomes f n bs rs ls s c r → r .ok ≡ true → Went f n bs rs ls s c r
   went (stops e) ok = absurd (false≢true (sym e ∙ ok))
   went (goes {st = st} e fell rep) ok = record { st = st; is = refl; fell = fell; rep = rep }
 
-  pub stopped : {s : States} {c : ℕ} {r : Tried} → Becomes f n bs rs ls s c r → r .ok ≡ false → s ≡ refused
+  pub stopped : {s : States} {c : ℕ} {r : Trial} → Becomes f n bs rs ls s c r → r .ok ≡ false → s ≡ refused
   stopped (stops e) bad = refl
   stopped (goes e fell rep) bad = absurd (true≢false (sym e ∙ bad))
 
   -- two attempts, of which the first was not refused
-  pub thens : {s : States} {c k : ℕ} (t u r : Tried) → t .fallen ≡ k → Becomes f n bs rs ls s c u →
+  pub thens : {s : States} {c k : ℕ} (t u r : Trial) → t .fallen ≡ k → Becomes f n bs rs ls s c u →
       (r .ok ≡ u .ok) × (u .ok ≡ true → r .fallen ≡ t .fallen + u .fallen) → Becomes f n bs rs ls s (k + c) r
   thens t u r first (stops e) is = stops (is .0 ∙ e)
   thens {c = c} {k = k} t u r first (goes {st = st} e fell rep) is = goes {c = k + c} (is .0 ∙ e) (is .1 e ∙ rw (first, fell) refl) rep
@@ -139,7 +139,7 @@ pub line-of : {a b c d : Break} {q : Quad} → q ≡ lineQuad (a .xy) (b .xy) �
 line-of e f g = e ∙ rw (f, g) refl
 
 -- the rows are ready for the next attempt of the pair
-pub again : {bs : Row} {rs rs' : List (List Float)} {ls ls' : List ℕ} {i j k : ℕ} {s : States} {c : ℕ} {r : Tried} (x : Ready bs rs ls i j k) → length rs' ≡ length rs → length ls' ≡ length ls →
+pub again : {bs : Row} {rs rs' : List (List Float)} {ls ls' : List ℕ} {i j k : ℕ} {s : States} {c : ℕ} {r : Trial} (x : Ready bs rs ls i j k) → length rs' ≡ length rs → length ls' ≡ length ls →
     Becomes (x .phase) (x .last) bs rs' ls' s c r → r .ok ≡ true → Ready bs rs' ls' i j k
 again x e f b ok =
     let w = went b ok in

@@ -9,8 +9,6 @@ use mathlib.Core.Path.{_≡_, refl, ap, subst, _∙_}
 use lib.ListN.{length, replicate, length-append}
 use lib.Ieee.{Float, lt}
 use Rattle.breaks.specs.Breaks.{Row}
-use Rattle.optimize.specs.declared.Solved as S
-use Rattle.optimize.specs.declared.Solved.the-variants as Solved
 use Rattle.attempt.specs.Answers.{Statelet, scoreOf, Best, none, best}
 use Rattle.optimize.specs.Optimize.{Measure, bestAt, States, refused, states, tryLineQuad, tryAll, splitsFrom, splits, falling, searchFrom, search}
 use Rattle.optimize.specs.Optimize.{Optimised, refused8, unchanged, solved, pairsAfterSplits, pairsAfterSearch, ended, chosenIf, goOn}

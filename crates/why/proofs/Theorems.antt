@@ -28,7 +28,6 @@ use Rattle.why.specs.Tests.{firstState, secondState, tangentBefore, tang
 use Rattle.why.specs.Entry.{unlessBelow, afterJudging}
 use Rattle.why.specs.Statements.{inFirst, inSecond, Told, NamedWhenMarked, SomeWhenCorner, NoCornerPast, ZeroHasNoAngle}
 use Rattle.why.specs.declared.Marks.{Marks}
-use Rattle.why.specs.declared.Explained as D
 use Rattle.why.specs.declared.Explained.the-variants as Explained
 use Rattle.why.proofs.Zero.{close-is-zero, IsNone, none-before, none-after}
 

@@ -12,7 +12,6 @@ use Rattle.settings.specs.Settings.{defaultSettings}
 use Rattle.settings.specs.declared.Settings.{Settings}
 use Rattle.words.specs.Words.{penaltyWord, sameBytes, withPenalty, optionOf, sixteenths, taken, allTaken, ended, askedOf}
 use Rattle.words.specs.Statements.{NoneAskForTheDefault, PenaltyIsAskedFor, FallenIsAskedFor, LastCounts}
-use Rattle.words.specs.declared.Reading as R
 use Rattle.words.specs.declared.Reading.the-variants as Reading
 
 pub none-said : NoneAskForTheDefault

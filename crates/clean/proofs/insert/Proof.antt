@@ -1,5 +1,5 @@
 -- `clean::insert` meets its contract, by the laws of proofs/Inserting.antt. Assumes nothing.
-use Prim.Native.Nat.{_-_, _≤_}
+use Prim.Native.Nat.{_≤_}
 use mathlib.Core.Path.{_∙_}
 use native.Mathlib.Omega.{arith}
 use lib.ListN.{length-set}

@@ -2,10 +2,6 @@
 use borrow.Author.Needs.{needs}
 use Rattle.cubics.proofs.axis_at.Statement.{statement}
 use Rattle.cubics.proofs.axis_at.Tie as tie
-use Rattle.cubics.proofs.axis_at.Reads as reads
-use Rattle.cubics.proofs.axis_at.Lts as lts
-use Rattle.cubics.proofs.after_pair.Reads as after-pair-reads
-use Rattle.cubics.proofs.float_at.Reads as float-at-reads
 
 sub-float-at : tie.Need-sub-float-at
 sub-float-at c = search needs

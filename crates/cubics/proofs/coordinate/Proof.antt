@@ -5,8 +5,6 @@ use lib.IntN.{pos}
 use lib.ListN.{List·getD-eq-default}
 use Rattle.cubics.proofs.coordinate.Statement.{statement}
 use Rattle.cubics.proofs.coordinate.Tie as tie
-use Rattle.cubics.proofs.coordinate.Reads as reads
-use Rattle.cubics.proofs.coordinate.Lts as lts
 
 mul-result : tie.Need-mul-result
 mul-result c = search needs

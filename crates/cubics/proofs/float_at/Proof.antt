@@ -8,9 +8,6 @@ use lib.Signed.{natAbs-le}
 use Rattle.float.proofs.Dyadic.{whole-exact}
 use Rattle.cubics.proofs.float_at.Statement.{statement}
 use Rattle.cubics.proofs.float_at.Tie as tie
-use Rattle.cubics.proofs.float_at.Reads as reads
-use Rattle.cubics.proofs.float_at.Lts as lts
-use Rattle.cubics.proofs.coordinate.Reads as coordinate-reads
 
 coordinate-requires : tie.Need-coordinate-requires
 coordinate-requires c κs = search needs

@@ -4,9 +4,6 @@ use borrow.Author.Needs.{needs}
 use lib.ListN.{List·getD-eq-default}
 use Rattle.cubics.proofs.on_at.Statement.{statement}
 use Rattle.cubics.proofs.on_at.Tie as tie
-use Rattle.cubics.proofs.on_at.Reads as reads
-use Rattle.cubics.proofs.on_at.Lts as lts
-use Rattle.refusals.proofs.is_on.Reads as is-on-reads
 
 shared-slice-read-is-on : tie.Need-shared-slice-read-is-on
 shared-slice-read-is-on c = search needs

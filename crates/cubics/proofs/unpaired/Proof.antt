@@ -2,8 +2,6 @@
 use borrow.Author.Tests.{eq-eqb, ne-eqb}
 use Rattle.cubics.proofs.unpaired.Statement.{statement}
 use Rattle.cubics.proofs.unpaired.Tie as tie
-use Rattle.cubics.proofs.unpaired.Reads as reads
-use Rattle.cubics.proofs.unpaired.Lts as lts
 
 returns : tie.Need-returns
 returns c = rw (eq-eqb (c .before .args .n) 0 (c .if1 .taken))

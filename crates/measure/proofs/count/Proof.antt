@@ -1,6 +1,6 @@
 -- `measure::count` meets its contract. The loop's invariant: n counts the stages passed, so that it is at most twice their number. Assumes nothing.
 use Prim.Native.Nat.{suc, _≤_, _-_}
-use mathlib.Core.Path.{_≡_, refl, sym, _∙_}
+use mathlib.Core.Path.{_≡_, refl}
 use native.Mathlib.Numerals.{add-one}
 use native.Mathlib.Omega.{arith}
 use Rattle.measure.specs.Fallen.{fallenBelow}

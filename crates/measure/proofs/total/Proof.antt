@@ -1,7 +1,7 @@
 -- `measure::total` meets its contract. The loop's invariant: the error so far is the sum of the terms so far, and n is the node of the step's start.
 -- Assumes nothing.
 use Prim.Native.Nat.{_≤_, _-_}
-use mathlib.Core.Path.{_≡_, refl, sym, _∙_}
+use mathlib.Core.Path.{_≡_, refl, _∙_}
 use native.Mathlib.Omega.{arith}
 use Rattle.arclen.specs.Arclen.{tenth}
 use Rattle.arclen.specs.Stages.{timeAt}

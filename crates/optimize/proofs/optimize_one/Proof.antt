@@ -5,7 +5,7 @@ use borrow.Author.Needs.{needs}
 use borrow.Author.Tests.{not-true, not-false}
 use Rattle.breaks.specs.Breaks.{breakAt}
 use Rattle.optimize.specs.Stored.{lost, stays, found, inPlace}
-use Rattle.optimize.specs.declared.Tried.{Tried}
+use Rattle.optimize.specs.declared.Trial.{Trial}
 use Rattle.measure.proofs.Asked.{fallen-most}
 use Rattle.optimize.proofs.One.{off-whole, off-whole-fell, one-refused, one-solved, one-solved-fell, one-bent-refused, bend-most, measured-line, bent-ok, held}
 use Rattle.optimize.proofs.Trying.{is-whole-of, line-of}
@@ -110,7 +110,7 @@ returns-3 c =
     let made = measured-line samples (breakAt bs 0) _ _ (measuring .straight-in-place .ensures .0) (found-m .m .given .1) read in
     let spoilt = measuring .straight-in-place .ensures .1 (sym (c .before .before .before .before .before .before .before .before .before .before .before .before .before .before .before .before .before .is-whole .ensures) ∙ not-false _ (tested .if1 .left)) _ _ (found-m .m .given .1) in
     let bent = bent-ok samples (bending .bend-in-place .ensures) read in
-    let ok = ap (λ (t : Tried). t .ok) bent ∙ c .before .if2 .taken in
+    let ok = ap (λ (t : Trial). t .ok) bent ∙ c .before .if2 .taken in
     rw (
       one-solved samples bs (args .penalty) (start .pre .all-breaks) whole _ (made .0) spoilt ok,
       one-solved-fell samples bs (args .penalty) (start .pre .all-breaks) whole _ (made .0) spoilt ok,
@@ -143,7 +143,7 @@ returns-4 c =
     let made = measured-line samples (breakAt bs 0) _ _ (measuring .straight-in-place .ensures .0) (found-m .m .given .1) read in
     let spoilt = measuring .straight-in-place .ensures .1 (sym (c .before .before .before .before .before .before .before .before .before .before .before .before .before .before .before .before .is-whole .ensures) ∙ not-false _ (tested .if1 .left)) _ _ (found-m .m .given .1) in
     rw (one-bent-refused samples bs (args .penalty) (start .pre .all-breaks) whole _ (made .0) spoilt
-    (ap (λ (t : Tried). t .ok) (bent-ok samples (bending .bend-in-place .ensures) read) ∙ c .if2 .left)) (lost refl)
+    (ap (λ (t : Trial). t .ok) (bent-ok samples (bending .bend-in-place .ensures) read) ∙ c .if2 .left)) (lost refl)
 
 pub optimize-one-spec : {M : Type 1} → statement M
 optimize-one-spec =

@@ -1,9 +1,6 @@
 use borrow.Author.Needs.{needs}
 use Rattle.samples.proofs.as_quad.Statement.{statement}
 use Rattle.samples.proofs.as_quad.Tie as tie
-use Rattle.samples.proofs.as_quad.Reads as reads
-use Rattle.samples.proofs.as_quad.Lts as lts
-use Rattle.geometry.proofs.Quad.line.Reads as line-reads
 
 enum-known-s : tie.Need-enum-known-s
 enum-known-s c = search needs

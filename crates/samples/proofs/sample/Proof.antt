@@ -1,11 +1,6 @@
 use borrow.Author.Needs.{needs}
 use Rattle.samples.proofs.sample.Statement.{statement}
 use Rattle.samples.proofs.sample.Tie as tie
-use Rattle.samples.proofs.sample.Reads as reads
-use Rattle.samples.proofs.sample.Lts as lts
-use Rattle.geometry.proofs.Point.lerp.Reads as lerp-reads
-use Rattle.geometry.proofs.Point.unitize.Reads as unitize-reads
-use Rattle.samples.proofs.packed.Reads as packed-reads
 
 lerp-requires : tie.Need-lerp-requires
 lerp-requires c κs = search needs

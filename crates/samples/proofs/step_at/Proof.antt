@@ -1,10 +1,6 @@
 use borrow.Author.Needs.{needs}
 use Rattle.samples.proofs.step_at.Statement.{statement}
 use Rattle.samples.proofs.step_at.Tie as tie
-use Rattle.samples.proofs.step_at.Reads as reads
-use Rattle.samples.proofs.step_at.Lts as lts
-use Rattle.arclen.proofs.ArclenFunctor.deriv.Reads as deriv-reads
-use Rattle.geometry.proofs.Quad.point_at_t.Reads as point-at-t-reads
 
 point-at-t-requires : tie.Need-point-at-t-requires
 point-at-t-requires c κs = search needs

@@ -13,14 +13,14 @@ scan-bytes-requires c κs = tt
 is-utf8-requires : tie.Need-is-utf8-requires
 is-utf8-requires c κs = tt
 
-found-in-requires : tie.Need-found-in-requires
-found-in-requires c κs = tt
+totals-in-requires : tie.Need-totals-in-requires
+totals-in-requires c κs = tt
 
 same-length : tie.Need-same-length
 same-length c = c .before .before .before .before .scan-bytes .kept .1 .1 .0
 
 returns : tie.Need-returns
-returns c = judge-is _ _ (c .before .before .before .before .scan-bytes .ensures) (c .before .is-utf8 .ensures) (c .found-in .ensures)
+returns c = judge-is _ _ (c .before .before .before .before .scan-bytes .ensures) (c .before .is-utf8 .ensures) (c .totals-in .ensures)
 
 pub judge-spec : {M : Type 1} → statement M
 judge-spec =
@@ -29,6 +29,6 @@ judge-spec =
     slice-aggregate-scan-bytes
     scan-bytes-requires
     is-utf8-requires
-    found-in-requires
+    totals-in-requires
     same-length
     returns)

@@ -1,6 +1,6 @@
 -- `measure::MeasureFunctor::look` meets its contract. The loop's invariant: what the samples have at the stages passed is written. Assumes nothing.
 use Prim.Native.Nat.{_≤_, _<_, _-_}
-use mathlib.Core.Path.{_≡_, refl, sym, _∙_}
+use mathlib.Core.Path.{_≡_, sym, _∙_}
 use native.Mathlib.Omega.{arith}
 use lib.ListN.{length, length-set}
 use Rattle.measure.specs.Terms.{Seen}

@@ -1,9 +1,9 @@
--- `optimize::Tried::then` meets its contract. Assumes nothing.
+-- `optimize::Trial::then` meets its contract. Assumes nothing.
 use mathlib.Core.Bool.{false≢true}
 use mathlib.Core.Path.{refl, sym, _∙_}
 use native.Mathlib.Omega.{arith}
-use Rattle.optimize.proofs.Tried.then.Statement.{statement}
-use Rattle.optimize.proofs.Tried.then.Tie as tie
+use Rattle.optimize.proofs.Trial.then.Statement.{statement}
+use Rattle.optimize.proofs.Trial.then.Tie as tie
 
 add-t4 : tie.Need-add-t4
 add-t4 c = omega (arith, c .before .before .before .pre (c .before .before .if1 .taken))
