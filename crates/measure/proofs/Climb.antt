@@ -27,7 +27,7 @@ above-plus (fin true m e) h = absurd (false≢true h)
 above-plus (fin false m e) h = number m e
 
 -- ---- at most, then less
-at-most : (a b : ℕ) → T (ltb a b || (eqb a b && true)) → a ≤ b
+pub at-most : (a b : ℕ) → T (ltb a b || (eqb a b && true)) → a ≤ b
 at-most a b h = go (ltb a b) (eqb a b) (ltb→lt a b) (eqb→eq a b) h
   where
     go : (t u : Bool) → (T t → a < b) → (T u → a ≡ b) → T (t || (u && true)) → a ≤ b
@@ -117,7 +117,7 @@ level-le (zeros (is-zero s) (is-zero false)) (number _ _) endless h = tt
 level-le (zeros (is-zero s) (is-zero false)) (number _ _) (number c g) h =
     le-of-values (fin false 0 (pos 0)) (fin false c g) 0 1 (c * up g) (down g) (omega arith) (down-pos g) (refl, refl) (refl, refl) (omega arith)
 
-own : (m n : ℕ) (e d : ℤ) → T (fits binary64 (fin false m e)) → T (le (fin false m e) (add binary64 (fin false m e) (fin false n d)))
+pub own : (m n : ℕ) (e d : ℤ) → T (fits binary64 (fin false m e)) → T (le (fin false m e) (add binary64 (fin false m e) (fin false n d)))
 unfolding add sum
 own m n e d f =
     level-le (plus-zero (fin false m e) f tt (is-zero false)) (number m e) (rounded (m * up e * down d + n * up d * down e) (down e * down d))
