@@ -1,10 +1,10 @@
--- `answering::is_small` is safe and ends. The point before lies in the rows too. Assumes nothing.
+-- `answering::around` is safe and ends. The point before lies in the rows too. Assumes nothing.
 use borrow.Author.Needs.{needs}
 use native.Mathlib.Omega.{arith}
 use Prim.Native.Nat.{_-_, _≤_, _<_}
 use lib.ListN.{length}
-use Rattle.answering.proofs.is_small.Statement.{statement}
-use Rattle.answering.proofs.is_small.Tie as tie
+use Rattle.answering.proofs.around.Statement.{statement}
+use Rattle.answering.proofs.around.Tie as tie
 
 abbrev Inv-loop : tie.InvT-loop
 Inv-loop xs ys n sum₀ j₀ i₀ sum j i = (n ≤ length xs) × (n ≤ length ys) × (j < n)
@@ -69,8 +69,8 @@ loop-again c = omega arith
 returns-3 : tie.Need-returns-3 Inv-loop μ-loop
 returns-3 c = tt
 
-pub is-small-spec : {M : Type 1} → statement M
-is-small-spec =
+pub around-spec : {M : Type 1} → statement M
+around-spec =
     tie.close
     (tie.spec
     Inv-loop
