@@ -1,22 +1,22 @@
--- `arclen::fill_speeds` meets its contract. The invariant is `Rooting`. Assumes nothing.
+-- `arclen::fill_in_turn` meets its contract. The invariant is `Rooting`. Assumes nothing.
 use Prim.Native.Nat.{_-_}
 use mathlib.Core.Path.{_≡_}
 use native.Mathlib.Omega.{arith}
 use Rattle.arclen.proofs.Filling.{Rooting, no-roots, one-root}
-use Rattle.arclen.proofs.fill_speeds.Statement.{statement}
-use Rattle.arclen.proofs.fill_speeds.Tie as tie
+use Rattle.arclen.proofs.fill_in_turn.Statement.{statement}
+use Rattle.arclen.proofs.fill_in_turn.Tie as tie
 
 abbrev Inv-loop : tie.InvT-loop
-Inv-loop v₀ last₀ k₀ v last k = Rooting v₀ v last k
+Inv-loop w v₀ last₀ k₀ v last k = Rooting w v last k
 
 abbrev μ-loop : tie.MeasureT-loop
-μ-loop v₀ last₀ k₀ v last k = 21 - k
+μ-loop w v₀ last₀ k₀ v last k = 21 - k
 
 still-requires : tie.Need-still-requires Inv-loop μ-loop
 still-requires c κs = tt
 
 loop-holds : tie.Need-loop-holds Inv-loop μ-loop
-loop-holds c = no-roots (c .before .pre) (c .still .ensures)
+loop-holds c = no-roots (c .before .pre .0) (c .before .pre .1) (c .still .ensures)
 
 mul-next : tie.Need-mul-next Inv-loop μ-loop
 mul-next c = omega arith
@@ -49,8 +49,8 @@ returns c =
     let end : c .before .loop .k ≡ 21 = omega (arith, c .before .loop .inv .most) in
     rw end at (c .before .loop .inv .done)
 
-pub fill-speeds-spec : {M : Type 1} → statement M
-fill-speeds-spec =
+pub fill-in-turn-spec : {M : Type 1} → statement M
+fill-in-turn-spec =
     tie.close
     (tie.spec
     Inv-loop
