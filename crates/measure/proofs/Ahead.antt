@@ -1,4 +1,4 @@
--- No stage of RK4 is more than three times the quad's length ahead, but for what rounding adds. Assumes nothing.
+-- No stage of RK4 is more than three times the quad's length ahead, but for what rounding adds; where more is known of the speeds, less far. Assumes nothing.
 use Prim.Native.Nat.{ℕ, zero, suc, _+_, _-_, _*_, _/_, _%_, _^_, _≤_, _<_, zero-le}
 use mathlib.Core.Bool.{Bool, true, false, _&&_, cond, false≢true}
 use mathlib.Core.Logic.{_⊎_, inl, inr}
@@ -13,6 +13,8 @@ use native.Mathlib.Nat.{
   mul-pos,
   mul-le-mul-left,
   mul-le-mul-right,
+  mul-add,
+  add-mul,
   lt-of-le-of-lt,
   le-of-mul-le-mul-right,
   le-of-eq,
@@ -29,7 +31,7 @@ use borrow.Author.Tests.{ltb-false, le-ltb}
 use lib.Dec.{T, leb, ltb, eqb, eqb→eq, ltb→lt, lit<, lit≤}
 use lib.Pow.{pow-pos, pow-mono}
 use lib.IntN.{ℤ, pos, negsuc}
-use lib.Ieee.{Float, nan, inf, fin, binary64, up, down, size, fits, round, sum, add, sub, mul, div, lt, le, ofInt, toUnsigned, ofBits}
+use lib.Ieee.{Float, nan, inf, fin, binary64, up, down, size, fits, round, sum, add, sub, mul, div, lt, le, toUnsigned, ofBits}
 use lib.Ieee.Bits.{ofBits-fits}
 use lib.Ieee.Digits.{size-le}
 use lib.Ieee.Exact.{odd-sign}
@@ -46,7 +48,8 @@ use Rattle.arclen.specs.declared.ArclenFunctor.{ArclenFunctor}
 use Rattle.arclen.proofs.Laws.{is-longer, length-whole}
 use Rattle.geometry.specs.declared.Quad.{Quad}
 use Rattle.measure.specs.Measure.{alongSamples, stretchOf, measureFunctorOf}
-use Rattle.measure.specs.Early.{WellBefore}
+use Rattle.measure.specs.NotNegative.{Measurable}
+use Rattle.measure.specs.Ahead.{leastGap, mostGap, WellBefore}
 use Rattle.measure.proofs.Signs.{
   NotNegative,
   no-number,
@@ -61,7 +64,7 @@ use Rattle.measure.proofs.Signs.{
   weight-plus,
   grown-plus,
 }
-use Rattle.measure.proofs.Climb.{own, adding}
+use Rattle.measure.proofs.Climb.{adding}
 use Rattle.measure.proofs.Sure.{place-inside, answered, measurable}
 use Rattle.measure.proofs.Nearly.{
   Near,
@@ -92,15 +95,15 @@ use Rattle.measure.proofs.Nearly.{
   mul-part,
 }
 
--- ---- a speed is a root, and the root of an f64 is 2 ^ 512 at most
-unfoldable fastest : ℕ
+-- ---- a speed is a root, and the root of an f64 is 2 ^ 512 at most: so nothing below is past all f64s
+unfoldable pub fastest : ℕ
 fastest = 2 ^ 1586
 
 -- x is a number of smallest f64s, and no more than a root can be
-record Fast (x : Float) : Type 0 where
-  size : ℕ
-  value : Ratio x size grain
-  most : size ≤ fastest
+pub record Fast (x : Float) : Type 0 where
+  pub size : ℕ
+  pub value : Ratio x size grain
+  pub most : size ≤ fastest
 
 either-le : (b : Bool) (p q n : ℕ) → p ≤ n → q ≤ n → cond b p q ≤ n
 either-le true p q n h k = h
@@ -157,7 +160,7 @@ speed-fast : (f : ArclenFunctor) (t : Float) → T (finite (speedOf f t)) → Fa
 unfolding speedOf
 speed-fast f t h = root-fast (squares-plus _ _) (add-fits binary64 _ _) h
 
--- ---- the constants of a step, each times a number of v smallest f64s
+-- ---- the constants of a step: a tenth, a half of it, a sixth of it, and two. A stage is a tenth or a half of it of a speed ahead
 tenth-is : Ratio tenth 3602879701896397 36028797018963968
 unfolding ofBits div round
 tenth-is = ratio 3602879701896397 (negsuc 54) (pow-pos 55) refl
@@ -180,16 +183,20 @@ by-tenth h = times-most 1002 tenth-is (pow-pos 55) (lit≤ tt) h
 by-half : {x : Float} {v : ℕ} → Ratio x v grain → AtMost 501 v (mul binary64 (halfOf tenth) x)
 by-half h = times-most 501 half-is (pow-pos 56) (lit≤ tt) h
 
--- ---- a step from the length Y to Z, with the speeds A and B at its start and middle: v is added, a sixth of a tenth of A and of four B at least
-record Step (Y A B Z : Float) (y : ℕ) : Type 0 where
+-- v is a sixth of a tenth of A, of four B and of D at least
+abbrev pub Least : ℕ → ℕ → ℕ → ℕ → Type 0
+Least a b d v = 166 * (999 * a + 999 * d + 3996 * b) ≤ v * 10000000 + 20000000
+
+-- ---- a step from the length Y to Z, with the speeds A, B and D at its start, middle and end: v is added
+record Step (Y A B D Z : Float) (y : ℕ) : Type 0 where
   a : Fast A
   b : Fast B
+  d : Fast D
   v : ℕ
   z : ℕ
   end : Ratio Z z grain
   added : v ≤ fastest
-  by-first : 166 * (999 * a .size) ≤ v * 10000000 + 20000000
-  by-middle : 166 * (3996 * b .size) ≤ v * 10000000 + 20000000
+  least : Least (a .size) (b .size) (d .size) v
   sum : Near (y + v) 1 z
 
 abbrev weightOf : Float → Float → Float → Float
@@ -199,7 +206,7 @@ fastest-some : 1000 ≤ fastest
 unfolding fastest
 fastest-some = lit≤ tt
 
--- the sum of the weighted speeds, by its parts: A + D, B + B, and twice that
+-- the weight, by its parts: A + D, B + B, and twice that
 weight-most : (a b d f p q r s : ℕ) → 1000 ≤ f → a ≤ f → b ≤ f → d ≤ f → Near (a + d) 1 p → Near (b + b) 1 q → Near (2 * q) 1 r → Near (p + r) 1 s → s ≤ 7 * f
 weight-most a b d f p q r s some ha hb hd hp hq hr hs =
     let p-most : p * 10 ≤ 21 * f = omega (arith, hp .most) in
@@ -207,17 +214,18 @@ weight-most a b d f p q r s some ha hb hd hp hq hr hs =
     let r-most : r * 10 ≤ 43 * f = omega (arith, hr .most) in
     omega (arith, hs .most)
 
-weight-least : (a b d p q r s : ℕ) → Near (a + d) 1 p → Near (b + b) 1 q → Near (2 * q) 1 r → Near (p + r) 1 s → 999 * a + 3996 * b ≤ s * 1000 + 5000
+weight-least : (a b d p q r s : ℕ) → Near (a + d) 1 p → Near (b + b) 1 q → Near (2 * q) 1 r → Near (p + r) 1 s →
+    999 * a + 999 * d + 3996 * b ≤ s * 1000 + 5000
 weight-least a b d p q r s hp hq hr hs = omega (arith, hp .least, hq .least, hr .least, hs .least)
 
-record Weight (x : Float) (a b : ℕ) : Type 0 where
+record Weight (x : Float) (a b d : ℕ) : Type 0 where
   size : ℕ
   value : Ratio x size grain
   most : size ≤ 7 * fastest
-  least : 999 * a + 3996 * b ≤ size * 1000 + 5000
+  least : 999 * a + 999 * d + 3996 * b ≤ size * 1000 + 5000
 
 weigh : {A B D : Float} (a : Fast A) (b : Fast B) (d : Fast D) → T (finite (weightOf A B D)) → T (finite (add binary64 A D)) →
-    T (finite (mul binary64 two (add binary64 B B))) → T (finite (add binary64 B B)) → Weight (weightOf A B D) (a .size) (b .size)
+    T (finite (mul binary64 two (add binary64 B B))) → T (finite (add binary64 B B)) → Weight (weightOf A B D) (a .size) (b .size) (d .size)
 weigh a b d whole outer inner twice =
     let p = sum-of (a .value) (d .value) in
     let q = sum-of (b .value) (b .value) in
@@ -233,10 +241,10 @@ weigh a b d whole outer inner twice =
     }
 
 -- from Y, with the weight S
-add-weight : {Y A B S : Float} {y : ℕ} (a : Fast A) (b : Fast B) → Ratio Y y grain → Weight S (a .size) (b .size) →
+add-weight : {Y A B D S : Float} {y : ℕ} (a : Fast A) (b : Fast B) (d : Fast D) → Ratio Y y grain → Weight S (a .size) (b .size) (d .size) →
     let X = mul binary64 (div binary64 tenth six) S in
-    T (finite X) → T (finite (add binary64 Y X)) → Step Y A B (add binary64 Y X) y
-add-weight a b Y w fin-added fin-sum =
+    T (finite X) → T (finite (add binary64 Y X)) → Step Y A B D (add binary64 Y X) y
+add-weight a b d Y w fin-added fin-sum =
     let v = times sixth-is (pow-pos 58) (w .value) in
     let z = sum-of Y (v .value (v .under fin-added)) in
     let most : v .size * 10000 ≤ 167 * w .size + 10000 = fewer-most (v .size) (2 ^ 58) 4803839602528529 (w .size) 167 (pow-pos 58) (lit≤ tt) (v .near) in
@@ -244,12 +252,12 @@ add-weight a b Y w fin-added fin-sum =
     record {
       a = a;
       b = b;
+      d = d;
       v = v .size;
       z = z .size;
       end = z .value (z .under fin-sum);
       added = omega (arith, fastest-some, w .most);
-      by-first = omega (arith, w .least);
-      by-middle = omega (arith, w .least);
+      least = omega (arith, w .least);
       sum = z .near;
     }
 
@@ -257,8 +265,9 @@ add-weight a b Y w fin-added fin-sum =
 grow : (f : ArclenFunctor) (first middle last : Float) {Y : Float} {y : ℕ} → Ratio Y y grain →
     let A = speedOf f first in
     let B = speedOf f middle in
-    let Z = grownBy tenth Y A B B (speedOf f last) in
-    T (finite Z) → Step Y A B Z y
+    let D = speedOf f last in
+    let Z = grownBy tenth Y A B B D in
+    T (finite Z) → Step Y A B D Z y
 grow f first middle last Y h =
     let pA = speed-plus f first in
     let pB = speed-plus f middle in
@@ -273,38 +282,62 @@ grow f first middle last Y h =
     let a = speed-fast f first (ends .0) in
     let b = speed-fast f middle (add-parts pB pB twice .0) in
     let d = speed-fast f last (ends .1) in
-    add-weight a b Y (weigh a b d weight (both .0) (both .1) twice) added h
+    add-weight a b d Y (weigh a b d weight (both .0) (both .1) twice) added h
 
--- ---- a stage reaches little more than three times as far as the length l
-record Reach (x : Float) (l : ℕ) : Type 0 where
+-- ---- a stage reaches little further than the length l and E ten-thousandths of it
+record Reach (E : ℕ) (x : Float) (l : ℕ) : Type 0 where
   size : ℕ
   value : Ratio x size grain
-  most : size * 1000 ≤ 3024 * l + 13000
+  most : size * 10000 ≤ 10020 * l + E * l + 140000
+
+-- the speeds a and b at the start and in the middle of a step that adds v lead no further, from its start
+pub record Share (E a b v : ℕ) : Type 0 where
+  pub first : 501 * a ≤ 10000 * v + E * v + 70000
+  pub middle : 1002 * b ≤ 10000 * v + E * v + 70000
+
+-- twice as far, and a little more, where nothing is known of the speeds
+any-share : (a b d v : ℕ) → Least a b d v → Share 20220 a b v
+any-share a b d v h = record { first = omega arith; middle = omega arith }
 
 room : 4194304 * fastest ≤ top
 unfolding fastest top
 room = lit≤ tt
 
+reach-most : (E y v x r l : ℕ) → E ≤ 20220 → (y + v) * 4095 ≤ l * 4096 + 4096 → x * 10000 ≤ 10000 * v + E * v + 80000 →
+    r * 4096 ≤ (y + x) * 4097 + 4096 → r * 10000 ≤ 10020 * l + E * l + 140000
+reach-most E y v x r l small whole ahead reached =
+    let less : v * 4095 ≤ l * 4096 + 4096 = omega arith in
+    let scaled : E * (v * 4095) ≤ E * (l * 4096 + 4096) = mul-le-mul-left E less in
+    let a : E * (v * 4095) ≡ E * v * 4095 = sym (mul-assoc E v 4095) in
+    let b : E * (l * 4096 + 4096) ≡ E * l * 4096 + E * 4096 = rw (mul-add E (l * 4096) 4096, ← mul-assoc E l 4096) in
+    let few : E * l ≤ 20220 * l = mul-le-mul-right l small in
+    omega arith
+
 -- a stage is X ahead of a step's start, and X is at most p ten-thousandths of the speed v
-reach-by : {Y A B Z X : Float} {y p v l : ℕ} (s : Step Y A B Z y) → Ratio Y y grain → y ≤ s .z → s .z ≤ l → l ≤ 1048576 * fastest → AtMost p v X →
-    p * v ≤ 1002 * fastest → p * v ≤ 30220 * s .v + 70000 → Reach (add binary64 Y X) l
-reach-by s Y start below short x small share =
+reach-by : {Y A B D Z X : Float} {y p v l : ℕ} (E : ℕ) → E ≤ 20220 → (s : Step Y A B D Z y) → Ratio Y y grain → s .z ≤ l → l ≤ 1048576 * fastest →
+    AtMost p v X → p * v ≤ 1002 * fastest → p * v ≤ 10000 * s .v + E * s .v + 70000 → Reach E (add binary64 Y X) l
+reach-by {y = y} {l = l} E few s Y below short x small share =
     let under : x .size < top = omega (arith, room, fastest-some, x .most) in
     let r = sum-of Y (x .value under) in
-    let r-under : r .size < top = omega (arith, room, fastest-some, x .most, r .near .most) in
-    record { size = r .size; value = r .value r-under; most = omega (arith, x .most, r .near .most, s .sum .least) }
+    let r-under : r .size < top = omega (arith, room, fastest-some, x .most, r .near .most, s .sum .least) in
+    record {
+      size = r .size;
+      value = r .value r-under;
+      most = reach-most E y (s .v) (x .size) (r .size) l few (omega (arith, s .sum .least)) (omega (arith, x .most)) (omega (arith, r .near .most));
+    }
 
 -- ---- along a quad
 module _ (f : ArclenFunctor) where
-  abbrev middle : ℕ → Float
+  abbrev pub middle : ℕ → Float
   middle i = speedOf f (add binary64 (timeAt tenth i) (halfOf tenth))
 
-  abbrev first : ℕ → Float
+  abbrev pub first : ℕ → Float
   first i = speedOf f (timeAt tenth i)
 
-  abbrev last : ℕ → Float
+  abbrev pub last : ℕ → Float
   last i = speedOf f (add binary64 (timeAt tenth i) tenth)
 
+  -- a length from the one before it: it is not negative, and where it is finite all before it are
   next : (i : ℕ) → lengthAt f (suc i) ≡ grownBy tenth (lengthAt f i) (first i) (middle i) (middle i) (last i)
   unfolding lengthAt
   next i = is-longer f tenth (timeAt tenth i) (lengthAt f i)
@@ -324,10 +357,10 @@ module _ (f : ArclenFunctor) where
   before i h = add-parts (length-plus i) (added-plus i) (rw (next i) at h) .0
 
   step : (i : ℕ) {y : ℕ} → Ratio (lengthAt f i) y grain → T (finite (lengthAt f (suc i))) →
-      Step (lengthAt f i) (first i) (middle i) (lengthAt f (suc i)) y
+      Step (lengthAt f i) (first i) (middle i) (last i) (lengthAt f (suc i)) y
   step i v h = rw (next i) (grow f _ _ _ v (rw (next i) at h))
 
-  -- after i steps
+  -- the length after i steps, where it is a number
   record Long (i : ℕ) : Type 0 where
     size : ℕ
     value : Ratio (lengthAt f i) size grain
@@ -341,6 +374,7 @@ module _ (f : ArclenFunctor) where
       let more : 4 ^ suc i * fastest ≡ 4 ^ i * fastest * 4 = rw (pow-suc 4 i) (mul-right-comm (4 ^ i) 4 fastest) in
       record { size = s .z; value = s .end; most = omega (arith, fastest-some, y .most, s .sum .most, s .added) }
 
+  -- no length is less than one before it
   once : (i : ℕ) {a b : ℕ} → Ratio (lengthAt f i) a grain → Ratio (lengthAt f (suc i)) b grain → a ≤ b
   once i p q = no-less p (length-fits i) (added-plus i) (rw (next i) at q)
 
@@ -362,29 +396,43 @@ module _ (f : ArclenFunctor) where
       let one : i + suc d ≡ suc (i + d) = omega arith in
       earlier i d (before (i + d) (rw one at h))
 
+  -- what is known of the speeds of ten steps
+  pub record Shares (E : ℕ) : Type 0 where
+    pub few : E ≤ 20220
+    pub each : (i : ℕ) → i < 10 → (a : Fast (first i)) (b : Fast (middle i)) (d : Fast (last i)) (v : ℕ) → Least (a .size) (b .size) (d .size) v →
+        Share E (a .size) (b .size) v
+
+  any-shares : Shares 20220
+  any-shares = record { few = omega arith; each = λ i less a b d v h. any-share (a .size) (b .size) (d .size) v h }
+
   -- the stage j of the step i, which starts at y and ends before the length l
-  stage-reach : (i j : ℕ) {y l : ℕ} → Ratio (lengthAt f i) y grain → (s : Step (lengthAt f i) (first i) (middle i) (lengthAt f (suc i)) y) → s .z ≤ l →
-      l ≤ 1048576 * fastest → Reach (getD (stageOf f tenth (timeAt tenth i) (lengthAt f i) j) 2 nan) l
+  stage-reach : (E i j : ℕ) {y l : ℕ} → Shares E → i < 10 → Ratio (lengthAt f i) y grain →
+      (s : Step (lengthAt f i) (first i) (middle i) (last i) (lengthAt f (suc i)) y) → s .z ≤ l → l ≤ 1048576 * fastest →
+      Reach E (getD (stageOf f tenth (timeAt tenth i) (lengthAt f i) j) 2 nan) l
   unfolding stageOf
-  stage-reach i zero {y} v s below short = record { size = y; value = v; most = omega (arith, once i v (s .end)) }
-  stage-reach i (suc zero) v s below short =
-      reach-by s v (once i v (s .end)) below short (by-half (s .a .value)) (omega (arith, s .a .most)) (omega (arith, s .by-first))
-  stage-reach i (suc (suc zero)) v s below short =
-      reach-by s v (once i v (s .end)) below short (by-half (s .b .value)) (omega (arith, s .b .most)) (omega (arith, s .by-middle))
-  stage-reach i (suc (suc (suc j))) v s below short =
-      reach-by s v (once i v (s .end)) below short (by-tenth (s .b .value)) (omega (arith, s .b .most)) (omega (arith, s .by-middle))
+  stage-reach E i zero {y} k less v s below short = record { size = y; value = v; most = omega (arith, once i v (s .end)) }
+  stage-reach E i (suc zero) k less v s below short =
+      let share = k .each i less (s .a) (s .b) (s .d) (s .v) (s .least) in
+      reach-by E (k .few) s v below short (by-half (s .a .value)) (omega (arith, s .a .most)) (share .first)
+  stage-reach E i (suc (suc zero)) k less v s below short =
+      let share = k .each i less (s .a) (s .b) (s .d) (s .v) (s .least) in
+      reach-by E (k .few) s v below short (by-half (s .b .value)) (omega (arith, s .b .most)) (omega (arith, share .middle))
+  stage-reach E i (suc (suc (suc j))) k less v s below short =
+      let share = k .each i less (s .a) (s .b) (s .d) (s .v) (s .least) in
+      reach-by E (k .few) s v below short (by-tenth (s .b .value)) (omega (arith, s .b .most)) (share .middle)
 
   -- where the whole length is a number
-  reach : (i j : ℕ) → i < 10 → (whole : Long 10) → Reach (getD (stageOf f tenth (timeAt tenth i) (lengthAt f i) j) 2 nan) (whole .size)
-  reach i j less whole =
+  reach : (E i j : ℕ) → Shares E → i < 10 → (whole : Long 10) →
+      Reach E (getD (stageOf f tenth (timeAt tenth i) (lengthAt f i) j) 2 nan) (whole .size)
+  reach E i j k less whole =
       let rest : suc i + (9 - i) ≡ 10 = omega arith in
       let all : Ratio (lengthAt f (suc i + (9 - i))) (whole .size) grain = rw rest (whole .value) in
       let end = earlier (suc i) (9 - i) (ratio-finite all) in
       let from = long i (before i end) in
       let s = step i (from .value) end in
-      stage-reach i j (from .value) s (climbs (suc i) (9 - i) (s .end) all) (omega (arith, whole .most))
+      stage-reach E i j k less (from .value) s (climbs (suc i) (9 - i) (s .end) all) (omega (arith, whole .most))
 
--- ---- the length is not close to 0
+-- ---- a length that is not close to 0 is 2 ^ -27 at least
 tiny-is : Ratio tiny 3022314549036573 302231454903657293676544
 unfolding tiny round
 tiny-is = ratio 3022314549036573 (negsuc 77) (pow-pos 78) refl
@@ -400,20 +448,14 @@ unfolding closeTo sub ofBits
 not-close {x} {l} r f h =
     less-digits grain l (less-false (level-ratio (plus-zero x f (ratio-finite r) (minus-zero (is-zero false))) r) tiny-is h)
 
--- ---- how far s1 is ahead of s0: between 2 ^ -10 and 2 ^ 24
-abbrev pub leastGap : Float
-leastGap = ofBits binary64 0x3f50_0000_0000_0000
-
-abbrev pub mostGap : Float
-mostGap = ofBits binary64 0x4170_0000_0000_0000
-
+-- ---- how far s1 is ahead of s0
 record Gap (x : Float) : Type 0 where
   size : ℕ
   value : Ratio x size grain
   least : grain ≤ size * 1024
   most : size ≤ 16777216 * grain
 
-least-is : Ratio leastGap 1 1024
+pub least-is : Ratio leastGap 1 1024
 unfolding ofBits
 least-is = ratio 1 (negsuc 9) (pow-pos 10) refl
 
@@ -446,14 +488,28 @@ stretch-most d l g u some more most least h =
     let c : 9007199254740992 * u * l ≡ l * u * 9007199254740992 = simp (mul-assoc, mul-comm, mul-left-comm) in
     le-of-mul-le-mul-right (rw c (omega (arith, h .most))) more
 
-product-most : (y g l d u : ℕ) → y * 1000 ≤ 3024 * l + 13000 → 13000 ≤ l → Near (d * u) l g → l * 4096 ≤ d * u →
-    y * g * 16 ≤ 49 * (d * u)
-product-most y g l d u reached some h low =
-    let thrice : y * 1000 ≤ 3025 * l = omega arith in
-    let scaled : y * 1000 * g ≤ 3025 * l * g = mul-le-mul-right g thrice in
-    let a : y * 1000 * g ≡ y * g * 1000 = mul-right-comm y 1000 g in
-    let b : 3025 * l * g ≡ g * l * 3025 = simp (mul-assoc, mul-comm, mul-left-comm) in
-    omega (arith, h .most)
+-- products of five, in another order
+turned-left : (y c g e M : ℕ) → y * c * (g * e * M) ≡ y * g * M * (c * e)
+turned-left y c g e M = simp (mul-assoc, mul-comm, mul-left-comm)
+
+turned-right : (K l g e M : ℕ) → K * l * (g * e * M) ≡ K * M * (g * l * e)
+turned-right K l g e M = simp (mul-assoc, mul-comm, mul-left-comm)
+
+turned-last : (K M x c : ℕ) → K * M * (x * c) ≡ K * (c * M) * x
+turned-last K M x c = simp (mul-assoc, mul-comm)
+
+product-by : (K N M y g l w : ℕ) → y * 10000 ≤ K * l → g * l * 4096 ≤ w * 4098 → K * (4098 * M) ≤ N * 40960000 → y * g * M ≤ N * w
+product-by K N M y g l w reached near over =
+    let a : y * 10000 * (g * 4096 * M) ≤ K * l * (g * 4096 * M) = mul-le-mul-right (g * 4096 * M) reached in
+    let b : K * M * (g * l * 4096) ≤ K * M * (w * 4098) = mul-le-mul-left (K * M) near in
+    let c : K * (4098 * M) * w ≤ N * 40960000 * w = mul-le-mul-right w over in
+    let d : N * 40960000 * w ≡ N * w * 40960000 = mul-right-comm N 40960000 w in
+    omega (arith, turned-left y 10000 g 4096 M, turned-right K l g 4096 M, turned-last K M w 4098)
+
+product-most : (E N M y g l d u : ℕ) → y * 10000 ≤ 10020 * l + E * l + 140000 → 140000 ≤ l → Near (d * u) l g → l * 4096 ≤ d * u →
+    (10021 + E) * (4098 * M) ≤ N * 40960000 → y * g * M ≤ N * (d * u)
+product-most E N M y g l d u reached some h low over =
+    product-by (10021 + E) N M y g l (d * u) (omega (arith, add-mul 10021 E l)) (omega (arith, h .most)) over
 
 length-low : (l d u t : ℕ) → l < t → t * 4194304 ≤ u * u → u ≤ d * 1024 → l * 4096 ≤ d * u
 length-low l d u t less squares least =
@@ -461,7 +517,7 @@ length-low l d u t less squares least =
     let a : d * 1024 * u ≡ d * u * 1024 = mul-right-comm d 1024 u in
     omega arith
 
-grain-some : 10000000000000 ≤ grain
+pub grain-some : 100000000000000 ≤ grain
 unfolding grain
 grain-some = lit≤ tt
 
@@ -473,28 +529,39 @@ stretch-under : 9007199254740992 * grain < top
 unfolding grain top
 stretch-under = lit< tt
 
+-- a gap's factor, which is more than a stage can be ahead
+pub record Factor (E : ℕ) (x : Float) : Type 0 where
+  pub num : ℕ
+  pub den : ℕ
+  pub some : 0 < den
+  pub value : Ratio x num den
+  pub over : (10021 + E) * (4098 * den) ≤ num * 40960000
+
 -- three gaps and a sixteenth
-abbrev pub factor : Float
-factor = ofBits binary64 0x4008_8000_0000_0000
+abbrev thrice : Float
+thrice = ofBits binary64 0x4008_8000_0000_0000
 
-factor-is : Ratio factor 49 16
+thrice-is : Factor 20220 thrice
 unfolding ofBits
-factor-is = ratio 49 (negsuc 3) (pow-pos 4) refl
+thrice-is = record { num = 49; den = 16; some = pow-pos 4; value = ratio 49 (negsuc 3) (pow-pos 4) refl; over = lit≤ tt }
 
-product-le : {x z w : Float} {l : ℕ} → Reach x l → Ratio z l grain → l ≤ 1048576 * fastest → grain ≤ l * 134217728 → Gap w →
-    T (le (mul binary64 x (div binary64 w z)) (mul binary64 factor w))
-product-le {l = l} r z short far w =
+product-le : {E l : ℕ} {factor x z w : Float} → (k : Factor E factor) → Reach E x l → Ratio z l grain → l ≤ 1048576 * fastest →
+    grain ≤ l * 134217728 → Gap w → T (le (mul binary64 x (div binary64 w z)) (mul binary64 factor w))
+product-le {E} {l} k r z short far w =
     let some : 0 < l = omega (arith, grain-some) in
     let d = w .size in
     let s = quotient-of (w .value) z some in
     let g = s .size in
+    let N = k .num in
+    let M = k .den in
     let under : g < top = lt-of-le-of-lt (stretch-most d l g grain grain-pos some (w .most) far (s .near)) stretch-under in
     let low : l * 4096 ≤ d * grain = length-low l d grain top (omega (arith, room, fastest-some)) grain-square (w .least) in
-    let most : r .size * g * 16 ≤ 49 * (d * grain) = product-most (r .size) g l d grain (r .most) (omega (arith, grain-some)) (s .near) low in
-    let a : r .size * g * (16 * grain) ≡ r .size * g * 16 * grain = sym (mul-assoc (r .size * g) 16 grain) in
-    let b : 49 * d * (grain * grain) ≡ 49 * (d * grain) * grain = simp (mul-assoc, mul-comm, mul-left-comm) in
-    rw (mul-is (r .value) (s .value under), mul-is factor-is (w .value))
-    (round-mono binary64 (r .size * g) (grain * grain) (49 * d) (16 * grain) (mul-pos grain-pos grain-pos) (mul-pos (pow-pos 4) grain-pos)
+    let most : r .size * g * M ≤ N * (d * grain) =
+    product-most E N M (r .size) g l d grain (r .most) (omega (arith, grain-some)) (s .near) low (k .over) in
+    let a : r .size * g * (M * grain) ≡ r .size * g * M * grain = sym (mul-assoc (r .size * g) M grain) in
+    let b : N * d * (grain * grain) ≡ N * (d * grain) * grain = simp (mul-assoc, mul-comm, mul-left-comm) in
+    rw (mul-is (r .value) (s .value under), mul-is (k .value) (w .value))
+    (round-mono binary64 (r .size * g) (grain * grain) (N * d) (M * grain) (mul-pos grain-pos grain-pos) (mul-pos (k .some) grain-pos)
     (rw (a, b) (mul-le-mul-right grain most)))
 
 -- ---- the stretched stage is at most that far, or it is a NaN, which is looked up at the place 0
@@ -505,45 +572,45 @@ zero-round : round binary64 false 0 1 ≡ fin false 0 (pos 0)
 unfolding round
 zero-round = refl
 
-zero-le-gap : {w : Float} → Gap w → T (le (fin false 0 (pos 0)) (mul binary64 factor w))
-zero-le-gap w =
-    rw (← zero-round, mul-is factor-is (w .value))
-    (round-mono binary64 0 1 (49 * w .size) (16 * grain) (pow-pos 0) (mul-pos (pow-pos 4) grain-pos) (omega arith))
+zero-le-gap : {E : ℕ} {factor w : Float} → Factor E factor → Gap w → T (le (fin false 0 (pos 0)) (mul binary64 factor w))
+zero-le-gap k w =
+    rw (← zero-round, mul-is (k .value) (w .value))
+    (round-mono binary64 0 1 (k .num * w .size) (k .den * grain) (pow-pos 0) (mul-pos (k .some) grain-pos) (omega arith))
 
-blank-short : {p w : Float} → IsBlank p → NotNegative p → Gap w → Short p (mul binary64 factor w)
-blank-short blank-nan n w = inl refl
-blank-short (blank (is-zero false)) n w = inr (zero-le-gap w)
+blank-short : {E : ℕ} {factor p w : Float} → Factor E factor → IsBlank p → NotNegative p → Gap w → Short p (mul binary64 factor w)
+blank-short k blank-nan n w = inl refl
+blank-short k (blank (is-zero false)) n w = inr (zero-le-gap k w)
 
 -- the length z and a stage x, where the length is a number
-record Ends (x z : Float) : Type 0 where
+record Ends (E : ℕ) (x z : Float) : Type 0 where
   size : ℕ
   value : Ratio z size grain
   short : size ≤ 1048576 * fastest
-  reaches : Reach x size
+  reaches : Reach E x size
 
 -- where it is not close to 0
-over-short : {x z w : Float} → NotNegative x → NotNegative z → T (fits binary64 z) → (T (finite z) → Ends x z) → Gap w → closeTo z nought ≡ false →
-    Short (mul binary64 x (div binary64 w z)) (mul binary64 factor w)
-over-short {x} px no-number f ends w h = inl (rw (over-nan (w .value)) (times-nan x))
+over-short : {E : ℕ} {factor x z w : Float} → Factor E factor → NotNegative x → NotNegative z → T (fits binary64 z) → (T (finite z) → Ends E x z) → Gap w →
+    closeTo z nought ≡ false → Short (mul binary64 x (div binary64 w z)) (mul binary64 factor w)
+over-short {x = x} k px no-number f ends w h = inl (rw (over-nan (w .value)) (times-nan x))
   where
     over-nan : {w : Float} {a c : ℕ} → Ratio w a c → div binary64 w nan ≡ nan
     over-nan (ratio m e p v) = unfold div in refl
-over-short {x} px endless f ends w h =
-    rw (over-inf (w .value)) (blank-short (any-times-zero x (is-zero false)) (mul-plus px (number 0 (pos 0))) w)
+over-short {x = x} k px endless f ends w h =
+    rw (over-inf (w .value)) (blank-short k (any-times-zero x (is-zero false)) (mul-plus px (number 0 (pos 0))) w)
   where
     over-inf : {w : Float} {a c : ℕ} → Ratio w a c → div binary64 w (inf false) ≡ fin false 0 (pos 0)
     over-inf (ratio m e p v) = unfold div in refl
-over-short px (number m e) f ends w h =
-    let k = ends tt in
-    inr (product-le (k .reaches) (k .value) (k .short) (not-close (k .value) f h) w)
+over-short k px (number m e) f ends w h =
+    let end = ends tt in
+    inr (product-le k (end .reaches) (end .value) (end .short) (not-close (end .value) f h) w)
 
-stretched : {x z w : Float} → NotNegative x → NotNegative z → T (fits binary64 z) → (T (finite z) → Ends x z) → Gap w →
+stretched : {E : ℕ} {factor x z w : Float} → Factor E factor → NotNegative x → NotNegative z → T (fits binary64 z) → (T (finite z) → Ends E x z) → Gap w →
     Short (mul binary64 x (cond (closeTo z nought) nought (div binary64 w z))) (mul binary64 factor w)
-stretched {x} {z} {w} px pz f ends gap = by (closeTo z nought) refl
+stretched {factor = factor} {x} {z} {w} k px pz f ends gap = by (closeTo z nought) refl
   where
     by : (b : Bool) → closeTo z nought ≡ b → Short (mul binary64 x (cond b nought (div binary64 w z))) (mul binary64 factor w)
-    by true h = unfold ofBits in blank-short (any-times-zero x (is-zero false)) (mul-plus px (number 0 (pos 0))) gap
-    by false h = over-short px pz f ends gap h
+    by true h = unfold ofBits in blank-short k (any-times-zero x (is-zero false)) (mul-plus px (number 0 (pos 0))) gap
+    by false h = over-short k px pz f ends gap h
 
 -- the stages of a quad, and the stretch w / l of them, which is 0 where the length l is close to 0
 module _ (f : ArclenFunctor) where
@@ -557,15 +624,17 @@ module _ (f : ArclenFunctor) where
   stage-plus i (suc (suc zero)) = add-plus (length-plus f i) (mul-plus (ratio-plus half-is) (speed-plus _ _))
   stage-plus i (suc (suc (suc j))) = add-plus (length-plus f i) (mul-plus (ratio-plus tenth-is) (speed-plus _ _))
 
-  ends-of : (i j : ℕ) → i < 10 → T (finite (lengthAt f 10)) → Ends (getD (stageOf f tenth (timeAt tenth i) (lengthAt f i) j) 2 nan) (lengthAt f 10)
-  ends-of i j less h =
+  ends-of : (E i j : ℕ) → Shares f E → i < 10 → T (finite (lengthAt f 10)) →
+      Ends E (getD (stageOf f tenth (timeAt tenth i) (lengthAt f i) j) 2 nan) (lengthAt f 10)
+  ends-of E i j k less h =
       let whole = long f 10 h in
-      record { size = whole .size; value = whole .value; short = omega (arith, whole .most); reaches = reach f i j less whole }
+      record { size = whole .size; value = whole .value; short = omega (arith, whole .most); reaches = reach f E i j k less whole }
 
-  stage-short : (k : ℕ) → k < 40 → {w : Float} → Gap w → Short (mul binary64 (getD (stageAt f k) 2 nan) (stretch w)) (mul binary64 factor w)
+  stage-short : {E : ℕ} {factor : Float} → Factor E factor → Shares f E → (k : ℕ) → k < 40 → {w : Float} → Gap w →
+      Short (mul binary64 (getD (stageAt f k) 2 nan) (stretch w)) (mul binary64 factor w)
   unfolding stageAt
-  stage-short k less g =
-      stretched (stage-plus (k / 4) (k % 4)) (length-plus f 10) (length-fits f 10) (ends-of (k / 4) (k % 4) (omega arith)) g
+  stage-short {E} factor shares k less g =
+      stretched factor (stage-plus (k / 4) (k % 4)) (length-plus f 10) (length-fits f 10) (ends-of E (k / 4) (k % 4) shares (omega arith)) g
 
   product-plus : (k : ℕ) {w : Float} → Gap w → NotNegative (mul binary64 (getD (stageAt f k) 2 nan) (stretch w))
   unfolding stageAt ofBits
@@ -636,30 +705,31 @@ stages-of f = listed (stageAt f) 0 40
 stages-written : (f : ArclenFunctor) → Written f (stages-of f)
 stages-written f = record { is = λ k less. listed-at (stageAt f) 0 40 k less ∙ ap (stageAt f) (zero-add k) }
 
--- ---- n is the last stored place, and three gaps and a sixteenth end before it
-module _ (row : List (List Float)) (n : ℕ) (stored : length row ≡ n + 1) (more : 0 < n) (exact : n ≤ 2 ^ 53) (s0 s1 : Float) (from : le nought s0 ≡ true)
-    (ahead : lt leastGap (sub binary64 s1 s0) ≡ true) (near : lt (sub binary64 s1 s0) mostGap ≡ true)
-    (before-end : lt (add binary64 s0 (mul binary64 factor (sub binary64 s1 s0))) (ofInt binary64 (pos n)) ≡ true) where
+-- ---- the gap, times the factor, ends before the last stored place
+module _ {row : List (List Float)} {s0 s1 factor : Float} (w : WellBefore row s0 s1 factor) {E : ℕ} (k : Factor E factor) where
   between : Gap (sub binary64 s1 s0)
-  between = gap (sub binary64 s1 s0) (sub-fits binary64 s1 s0) ahead near
+  between = gap (sub binary64 s1 s0) (sub-fits binary64 s1 s0) (w .least) (w .most)
 
   place : {p : Float} → NotNegative p → Short p (mul binary64 factor (sub binary64 s1 s0)) → toUnsigned 64 (add binary64 s0 p) + 1 < length row
-  place np (inl is-nan) = rw (is-nan, plus-nan s0) (unfold toUnsigned in omega arith)
+  place np (inl is-nan) = rw (is-nan, plus-nan s0) (unfold toUnsigned in omega (arith, w .some))
   place np (inr less) =
-      let start = start-of s0 from in
-      let far = mul-plus (ratio-plus factor-is) (ratio-plus (between .value)) in
-      place-inside row n stored more exact _ (rw (start .same np) (adding _ (start .plus) np far less (rw (start .same far) at before-end)))
+      let start = start-of s0 (w .from) in
+      let far = mul-plus (ratio-plus (k .value)) (ratio-plus (between .value)) in
+      place-inside row (length row - 1) (omega (arith, w .some)) (omega (arith, w .some)) (omega (arith, w .exact)) _
+      (rw (start .same np) (adding _ (start .plus) np far less (rw (start .same far) at (w .before-end))))
 
-  along : (q : Quad) (k : ℕ) → k < 40 →
-      toUnsigned 64 (alongSamples (measureFunctorOf s0 s1 q) (getD (getD (stages-of (arclenFunctorOf q)) k []) 2 nan)) + 1 < length row
+  along : (q : Quad) → Shares (arclenFunctorOf q) E → (j : ℕ) → j < 40 →
+      toUnsigned 64 (alongSamples (measureFunctorOf s0 s1 q) (getD (getD (stages-of (arclenFunctorOf q)) j []) 2 nan)) + 1 < length row
   unfolding stretchOf
-  along q k less =
+  along q shares j less =
       let f = arclenFunctorOf q in
-      rw (stages-written f .is k less, ← length-whole q f (lengthAt f 10) refl refl) (place (product-plus f k between) (stage-short f k less between))
+      rw (stages-written f .is j less, ← length-whole q f (lengthAt f 10) refl refl) (place (product-plus f j between) (stage-short f k shares j less between))
 
-  pub well-before : WellBefore row s0 s1
-  well-before = record {
-    each = λ q.
-        measurable row s0 s1 q (measureFunctorOf s0 s1 q) (stages-of (arclenFunctorOf q)) refl (stages-written (arclenFunctorOf q))
-        (answered row (measureFunctorOf s0 s1 q) (stages-of (arclenFunctorOf q)) (along q));
-  }
+  pub seen-by : (q : Quad) → Shares (arclenFunctorOf q) E → Measurable row s0 s1 q
+  seen-by q shares =
+      measurable row s0 s1 q (measureFunctorOf s0 s1 q) (stages-of (arclenFunctorOf q)) refl (stages-written (arclenFunctorOf q))
+      (answered row (measureFunctorOf s0 s1 q) (stages-of (arclenFunctorOf q)) (along q shares))
+
+-- whatever the quad's shape
+pub seen-any : (row : List (List Float)) (s0 s1 : Float) (q : Quad) → WellBefore row s0 s1 thrice → Measurable row s0 s1 q
+seen-any row s0 s1 q w = seen-by w thrice-is q (any-shares (arclenFunctorOf q))

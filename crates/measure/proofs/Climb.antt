@@ -40,7 +40,7 @@ strictly : (x y z p q r : ℕ) → 0 < p → x * q ≤ y * p → y * r < z * q �
 strictly x y z p q r P h k = lt-of-not-le (λ g. omega (arith, through z x y r p q P g h))
 
 -- nothing is above +inf
-none-above : (z : Float) → lt (inf false) z ≡ true → ⊥
+pub none-above : (z : Float) → lt (inf false) z ≡ true → ⊥
 unfolding lt
 none-above nan h = false≢true h
 none-above (inf t) h = false≢true h

@@ -239,6 +239,7 @@ size-le-of {a = a} {b} {c} (ratio m e p v) (ratio n d q w) h =
     le-of-mul-le-mul-right
     (transfer a b c c (m * up e) (n * up d) (down e) (down d) (down-pos e) (down-pos d) (sym v) (sym w) (at-most (m * up e * down d) (n * up d * down e) h)) p
 
+-- a sum of an f64 with what is not negative is no less
 pub no-less : {x w : Float} {a b c : ℕ} → Ratio x a c → T (fits binary64 x) → NotNegative w → Ratio (add binary64 x w) b c → a ≤ b
 no-less (ratio m e p v) f no-number r = absurd (unfold add in ratio-finite r)
 no-less (ratio m e p v) f endless r = absurd (unfold add in ratio-finite r)
@@ -289,7 +290,7 @@ pub record AtMost (p v : ℕ) (x : Float) : Type 0 where
   pub most : size * 10000 ≤ p * v + 10000
   pub value : size < top → Ratio x size grain
 
--- with fewer digits: the constant n / M is at most p ten-thousandths, or at least
+-- the constant n / M is at most p ten-thousandths, or at least, with a 4096th to spare
 pub fewer-most : (s M n a p : ℕ) → 0 < M → n * 40970000 ≤ p * (M * 4096) → Near (n * a) M s → s * 10000 ≤ p * a + 10000
 fewer-most s M n a p some c h =
     let Q = M * 4096 in

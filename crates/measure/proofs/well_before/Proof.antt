@@ -1,10 +1,9 @@
--- `measure::well_before` meets its contract, by the law `well-before`. Assumes nothing.
+-- `measure::well_before` meets its contract: each test is one of its facts. Assumes nothing.
 use mathlib.Core.Bool.{false≢true}
 use native.Mathlib.Nat.{le-trans, sub-le}
 use native.Mathlib.Omega.{arith}
 use lib.Dec.{le→leb}
 use lib.Ieee.{inFloat}
-use Rattle.measure.proofs.Ahead.{well-before}
 use Rattle.measure.proofs.well_before.Statement.{statement}
 use Rattle.measure.proofs.well_before.Tie as tie
 
@@ -25,7 +24,14 @@ returns-3 : tie.Need-returns-3
 returns-3 c h =
     let near = c .before in
     let ahead = near .before in
-    well-before _ _ (omega arith) (omega arith) (omega arith) _ _ (ahead .before .if3 .taken) (ahead .if4 .taken) (near .if5 .taken) h
+    record {
+      some = omega arith;
+      exact = omega arith;
+      from = ahead .before .if3 .taken;
+      least = ahead .if4 .taken;
+      most = near .if5 .taken;
+      before-end = h;
+    }
 
 returns-4 : tie.Need-returns-4
 returns-4 c h = absurd (false≢true h)
