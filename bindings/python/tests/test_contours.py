@@ -60,7 +60,7 @@ def is_contour(line):
 
 class Recorded(Case):
     def assert_recorded(self, contours, answers, settings, least, answer=answer):
-        asked = (TOP / contours).read_text().splitlines()
+        asked = [line for path in contours for line in (TOP / path).read_text().splitlines()]
         recorded = (TOP / answers).read_text().splitlines()
         self.assertEqual(len(asked), len(recorded))
         compared = 0
@@ -72,7 +72,7 @@ class Recorded(Case):
         self.assertGreaterEqual(compared, least)
 
     def test_answers_of_the_rust(self):
-        self.assert_recorded("crates/fontcrunch_cli/stdin", "crates/fontcrunch_cli/stdout", RECORDED, 800)
+        self.assert_recorded(["crates/fontcrunch_cli/stdin"], "crates/fontcrunch_cli/stdout", RECORDED, 800)
 
     def test_answers_at_other_settings(self):
         for name, settings in {
@@ -84,7 +84,7 @@ class Recorded(Case):
             "closed-at-16": CLOSED,
         }.items():
             with self.subTest(name):
-                self.assert_recorded("tools/words/contours", f"tools/words/{name}", settings, 3)
+                self.assert_recorded(["tools/words/contours"], f"tools/words/{name}", settings, 3)
 
     def test_lookups_that_fell(self):
         for name, settings in {
@@ -93,7 +93,7 @@ class Recorded(Case):
             "fallen-whole-at-256": Settings(penalty=256, whole_units=True),
         }.items():
             with self.subTest(name):
-                self.assert_recorded("tools/words/contours", f"tools/words/{name}", settings, 12, answer_and_fallen)
+                self.assert_recorded(["tools/words/contours", "tools/words/falling"], f"tools/words/{name}", settings, 12, answer_and_fallen)
 
     def test_letter(self):
         counts = [(len(contour), len(fontcrunch.crunch(contour, RECORDED).points)) for contour in letter()]

@@ -5,15 +5,15 @@ use mathlib.Core.List.{List, _++_}
 use mathlib.Core.Path.{_≡_, refl, sym, ap, subst, _∙_}
 use native.Mathlib.Omega.{arith}
 use lib.IntN.{ℤ, pos}
-use lib.ListN.{length, getD, drop, replicate, length-map, List·getD-append}
+use lib.ListN.{length, getD, drop, length-map, List·getD-append}
 use Rattle.settings.specs.declared.Settings.{Settings}
-use Rattle.rows.specs.Rows.{zeroWork, pointZero}
+use Rattle.rows.specs.Rows.{Work}
 use Rattle.contour.specs.Implied.{number}
+use Rattle.contour.specs.Points.{Points}
 use Rattle.contour.specs.Output.{Outputs, outputs, column, flagOf, flags}
-use Rattle.edition.specs.Edition.{Rooms}
 use Rattle.edition.specs.Laws.{Within}
 use Rattle.rows.specs.Lent.{inputs}
-use Rattle.edition.specs.Scratch.{fullRooms}
+use Rattle.edition.specs.Scratch.{roomsOf, fullRooms}
 use Rattle.crunch.specs.Crunch.{Outcome, refused, crunched, crunchOf}
 use Rattle.crunch.specs.Entry.{report, answerOf, outputsOf, Rows, pointRoom, wholeOf}
 use Rattle.crunch.specs.Laws.{points-within, forRoom, short, more-room}
@@ -43,45 +43,36 @@ same-text told (crunched ps t) (outputs ox oy of) =
     ap (λ (text : List ℕ). (okWord ++ (decimalOf (t .pairs) ++ text)) ++ fallenText told (t .fallen))
     (front-points (column 0 ps) (drop (length (column 0 ps)) ox) (column 1 ps) (drop (length (column 1 ps)) oy) (flags ps) (drop (length (flags ps)) of) (length ps) 0 (omega arith) (omega arith) (omega arith))
 
--- ---- the rows as they are lent, zero throughout
-
-abbrev pub lentRows : Rooms → ℕ → Rows
-lentRows rooms n = record {
-  outs = outputs (replicate n (pos 0)) (replicate n (pos 0)) (replicate n 0);
-  work = zeroWork (rooms .samples) (rooms .breaks) (rooms .answers) (rooms .links);
-  points = replicate n pointZero;
-}
-
--- those of a small contour
-abbrev pub smallRooms : Rooms
-smallRooms = record { samples = 256; breaks = 512; answers = 1024; links = 1024 }
-
-module _ (rooms : Rooms) (n : ℕ) (settings : Settings) (xs ys : List ℤ) (fs : List ℕ) where
-  abbrev lentWhole : Outcome
-  lentWhole = wholeOf (inputs xs ys fs) settings (lentRows rooms n)
-
-  module _ {r : C.Crunched} (e : r ≡ answerOf lentWhole) where
-    -- the points that the entry says it wrote lie in the rows
-    pub fits : {x y f : ℕ} → pointRoom (lentRows rooms n) ≡ n → x ≡ n → y ≡ n → f ≡ n → (report r .points ≤ x) × (report r .points ≤ y) × (report r .points ≤ f)
-    fits room lx ly lf =
-        let few : report r .points ≤ pointRoom (lentRows rooms n) = rw e (points-within (inputs xs ys fs) settings (lentRows rooms n)) in
-        (omega arith, omega arith, omega arith)
-
-    -- what it says is the answer, where the full rooms' outcome is the same
-    pub says : (told : Bool) {o : Outputs} {out out' : List ℕ} {at q : ℕ} → crunchOf fullRooms 16384 settings xs ys fs ≡ lentWhole →
-        o ≡ outputsOf lentWhole (lentRows rooms n .outs) → Put out at (entryText told r o) out' q → Put out at (answerText settings told xs ys fs) out' q
-    unfolding answerText
-    says told {out = out} {out' = out'} {at = at} {q = q} same rows p =
-        subst (λ (text : List ℕ). Put out at text out' q) ((λ i. entryText told (e i) (rows i)) ∙ same-text told lentWhole (lentRows rooms n .outs) ∙ ap (outcomeText told) (sym same)) p
-
 for-room : (x : Outcome) → short x ≡ forRoom (report (answerOf x) .number)
 for-room (refused k) = refl
 for-room (crunched ps t) = refl
 
--- in a small contour's rows: what is not refused for want of room is the full rooms' outcome
-pub small-same : (settings : Settings) (xs ys : List ℤ) (fs : List ℕ) {r : C.Crunched} {t : Bool} → r ≡ answerOf (lentWhole smallRooms 1024 settings xs ys fs) → t ≡ forRoom (report r .number) → t ≡ false →
-    crunchOf fullRooms 16384 settings xs ys fs ≡ lentWhole smallRooms 1024 settings xs ys fs
-small-same settings xs ys fs e t fine =
-    let within : Within smallRooms fullRooms = record { samples = omega arith; breaks = omega arith; answers = omega arith; links = omega arith } in
-    more-room smallRooms fullRooms 1024 16384 settings xs ys fs within (omega arith)
-    (for-room (lentWhole smallRooms 1024 settings xs ys fs) ∙ ap (λ (c : C.Crunched). forRoom (report c .number)) (sym e) ∙ sym t ∙ fine)
+-- ---- what the entry left in rows that were lent
+
+module _ (ox oy : List ℤ) (of : List ℕ) (w : Work) (points : Points) (settings : Settings) (xs ys : List ℤ) (fs : List ℕ) where
+  abbrev lent : Rows
+  lent = record { outs = outputs ox oy of; work = w; points = points }
+
+  abbrev whole : Outcome
+  whole = wholeOf (inputs xs ys fs) settings lent
+
+  module _ {r : C.Crunched} (e : r ≡ answerOf whole) where
+    -- the points that the entry says it wrote lie in the rows
+    pub fits : {x y f : ℕ} → x ≡ length ox → y ≡ length oy → f ≡ length of → (report r .points ≤ x) × (report r .points ≤ y) × (report r .points ≤ f)
+    fits lx ly lf =
+        let few : report r .points ≤ pointRoom lent = rw e (points-within (inputs xs ys fs) settings lent) in
+        (omega arith, omega arith, omega arith)
+
+    -- what it says is the answer, where the full rooms' outcome is the same
+    pub says : (told : Bool) {o : Outputs} {out out' : List ℕ} {at q : ℕ} → crunchOf fullRooms 16384 settings xs ys fs ≡ whole →
+        o ≡ outputsOf whole (outputs ox oy of) → Put out at (entryText told r o) out' q → Put out at (answerText settings told xs ys fs) out' q
+    unfolding answerText
+    says told {out = out} {out' = out'} {at = at} {q = q} same rows p =
+        subst (λ (text : List ℕ). Put out at text out' q)
+        ((λ i. entryText told (e i) (rows i)) ∙ same-text told whole (outputs ox oy of) ∙ ap (outcomeText told) (sym same)) p
+
+    -- in rows that are no longer than the full rooms: what is not refused for want of room is the full rooms' outcome
+    pub short-same : {t : Bool} → Within (roomsOf w) fullRooms → length points ≤ 16384 → t ≡ forRoom (report r .number) → t ≡ false → crunchOf fullRooms 16384 settings xs ys fs ≡ whole
+    short-same within few is fine =
+        more-room (roomsOf w) fullRooms (pointRoom lent) 16384 settings xs ys fs within (omega arith)
+        (for-room whole ∙ ap (λ (c : C.Crunched). forRoom (report c .number)) (sym e) ∙ sym is ∙ fine)

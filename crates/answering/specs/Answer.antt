@@ -6,9 +6,12 @@ use mathlib.Core.Option.{Option, none, some}
 use mathlib.Core.Path.{_≡_}
 use lib.IntN.{ℤ}
 use lib.ListN.{length}
+use lib.Ieee.{Float}
 use Rattle.settings.specs.declared.Settings.{Settings}
 use Rattle.contour.specs.Output.{Outputs, outputs, column, flags}
-use Rattle.edition.specs.Scratch.{fullRooms}
+use Rattle.rows.specs.Rows.{work}
+use Rattle.edition.specs.Scratch.{roomsOf, fullRooms}
+use Rattle.edition.specs.Laws.{Within}
 use Rattle.crunch.specs.Crunch.{Outcome, refused, crunched, crunchOf}
 use Rattle.crunch.specs.declared.Crunched as C
 use Rattle.crunch.specs.declared.Crunched.the-variants as Crunched
@@ -41,6 +44,10 @@ entryText told (Crunched.Points n t) (outputs ox oy of) = okText ox oy of (t .pa
 -- every output row has so many places
 abbrev pub Roomy : ℕ → Outputs → Type 0
 Roomy n (outputs ox oy of) = (n ≤ length ox) × (n ≤ length oy) × (n ≤ length of)
+
+-- no row is longer than document 01's full rooms
+abbrev pub NoLonger : List (List Float) → List (List Float) → List (List Float) → List ℕ → List (List ℤ) → Type 0
+NoLonger samples breaks answers links points = Within (roomsOf (work samples breaks answers links)) fullRooms × (length points ≤ 16384)
 
 -- of a contour
 unfoldable pub answerText : Settings → Bool → List ℤ → List ℤ → List ℕ → List ℕ

@@ -8,7 +8,7 @@ ghost use Rattle.contour.specs.Output.{outputs};
 ghost use Rattle.crunch.specs.Entry.{report};
 ghost use Rattle.crunch.specs.Laws.{forRoom};
 ghost use Rattle.lines.specs.Text.{Put};
-ghost use Rattle.answering.specs.Answer.{Roomy, fallenText, entryText, answerText, lineText, Tries};
+ghost use Rattle.answering.specs.Answer.{Roomy, NoLonger, fallenText, entryText, answerText, lineText, Tries};
 
 // How lines are answered: what the contours are worked with, and whether an answer tells the lookups that fell.
 pub struct Order {
@@ -107,8 +107,87 @@ fn is_short(c: Crunched) -> bool
     }
 }
 
-// In short rows, which are cleared in a fraction of the time. A contour that they have room for gets the
-// answer of the full rooms, by `more-room`.
+// In rows that are lent, and may be too short. A contour that they have room for gets the answer of the full rooms, by `more-room`.
+fn put_lent(
+    text: &mut [u8],
+    at: usize,
+    xs: &[i16],
+    ys: &[i16],
+    flags: &[u8],
+    settings: Settings,
+    told: bool,
+    ox: &mut [i16],
+    oy: &mut [i16],
+    of: &mut [u8],
+    samples: &mut [[f64; 4]],
+    breaks: &mut [[f64; 6]],
+    answers: &mut [[f64; 3]],
+    links: &mut [u32],
+    points: &mut [[i16; 3]],
+) -> Fit
+    requires { ⌜ NoLonger (now samples) (now breaks) (now answers) (now links) (now points) ⌝ }
+    ensures { λ r. ⌜ Tries (now (text .entry)) at (answerText settings told (now (xs .entry)) (now (ys .entry)) (now (flags .entry))) (now (text .exit)) r ⌝ }
+{
+    let c = crunch::crunch_contour(
+        xs,
+        ys,
+        flags,
+        settings,
+        ox,
+        oy,
+        of,
+        samples,
+        breaks,
+        answers,
+        links,
+        points,
+    );
+    if is_short(c) {
+        return Fit::Short;
+    }
+    Fit::Put(put_outcome(text, at, told, c, ox, oy, of))
+}
+
+// In rows of three sizes, which are cleared in a fraction of the time: 10 KiB in all.
+fn put_tiny(
+    text: &mut [u8],
+    at: usize,
+    xs: &[i16],
+    ys: &[i16],
+    flags: &[u8],
+    settings: Settings,
+    told: bool,
+) -> Fit
+    ensures { λ r. ⌜ Tries (now (text .entry)) at (answerText settings told (now (xs .entry)) (now (ys .entry)) (now (flags .entry))) (now (text .exit)) r ⌝ }
+{
+    let mut ox = [0i16; 128];
+    let mut oy = [0i16; 128];
+    let mut of = [0u8; 128];
+    let mut samples = [[0.0; 4]; 40];
+    let mut breaks = [[0.0; 6]; 64];
+    let mut answers = [[0.0; 3]; 128];
+    let mut links = [0u32; 128];
+    let mut points = [[0i16; 3]; 128];
+    put_lent(
+        text,
+        at,
+        xs,
+        ys,
+        flags,
+        settings,
+        told,
+        &mut ox,
+        &mut oy,
+        &mut of,
+        &mut samples,
+        &mut breaks,
+        &mut answers,
+        &mut links,
+        &mut points,
+    )
+}
+
+// 72 KiB.
 fn put_small(
     text: &mut [u8],
     at: usize,
@@ -128,11 +207,14 @@ fn put_small(
     let mut answers = [[0.0; 3]; 1024];
     let mut links = [0u32; 1024];
     let mut points = [[0i16; 3]; 1024];
-    let c = crunch::crunch_contour(
+    put_lent(
+        text,
+        at,
         xs,
         ys,
         flags,
         settings,
+        told,
         &mut ox,
         &mut oy,
         &mut of,
@@ -141,39 +223,100 @@ fn put_small(
         &mut answers,
         &mut links,
         &mut points,
-    );
-    if is_short(c) {
-        return Fit::Short;
-    }
-    Fit::Put(put_outcome(text, at, told, c, &ox, &oy, &of))
+    )
+}
+
+// 256 KiB.
+fn put_middling(
+    text: &mut [u8],
+    at: usize,
+    xs: &[i16],
+    ys: &[i16],
+    flags: &[u8],
+    settings: Settings,
+    told: bool,
+) -> Fit
+    ensures { λ r. ⌜ Tries (now (text .entry)) at (answerText settings told (now (xs .entry)) (now (ys .entry)) (now (flags .entry))) (now (text .exit)) r ⌝ }
+{
+    let mut ox = [0i16; 1024];
+    let mut oy = [0i16; 1024];
+    let mut of = [0u8; 1024];
+    let mut samples = [[0.0; 4]; 1024];
+    let mut breaks = [[0.0; 6]; 2048];
+    let mut answers = [[0.0; 3]; 4096];
+    let mut links = [0u32; 4096];
+    let mut points = [[0i16; 3]; 1024];
+    put_lent(
+        text,
+        at,
+        xs,
+        ys,
+        flags,
+        settings,
+        told,
+        &mut ox,
+        &mut oy,
+        &mut of,
+        &mut samples,
+        &mut breaks,
+        &mut answers,
+        &mut links,
+        &mut points,
+    )
 }
 
 fn gap(a: i16, b: i16) -> f64 {
     float::abs(a as f64 - b as f64)
 }
 
-// Whether the steps from point to point, and from the last to the first, sum to at most 250 in x and y: then
-// the short rows nearly always have room. Only the time hangs on it. In floats, where no sum overflows.
-fn is_small(xs: &[i16], ys: &[i16]) -> bool {
+// How far it is around a contour, by steps along x and y from point to point and from the last to the first. Past 1000 it is not summed on. In
+// floats, where no sum overflows.
+fn around(xs: &[i16], ys: &[i16]) -> f64 {
     let n = rows::least(xs.len(), ys.len());
     if n == 0 {
-        return true;
+        return 0.0;
     }
     let mut sum = 0.0;
     let mut j = n - 1;
     let mut i = 0;
     while i < n {
         sum = sum + gap(xs[i], xs[j]) + gap(ys[i], ys[j]);
-        if 250.0 < sum {
-            return false;
+        if 1000.0 < sum {
+            return sum;
         }
         j = i;
         i += 1;
     }
-    true
+    sum
 }
 
-// The answer to a contour: a small one is tried in short rows first.
+// In the shortest rows that nearly always have room for a contour so far around; short, where that are the full ones. Only the time hangs
+// on the choice.
+fn put_short(
+    text: &mut [u8],
+    at: usize,
+    xs: &[i16],
+    ys: &[i16],
+    flags: &[u8],
+    settings: Settings,
+    told: bool,
+) -> Fit
+    ensures { λ r. ⌜ Tries (now (text .entry)) at (answerText settings told (now (xs .entry)) (now (ys .entry)) (now (flags .entry))) (now (text .exit)) r ⌝ }
+{
+    let far = around(xs, ys);
+    if far <= 30.0 {
+        return put_tiny(text, at, xs, ys, flags, settings, told);
+    }
+    if far <= 250.0 {
+        return put_small(text, at, xs, ys, flags, settings, told);
+    }
+    if far <= 1000.0 {
+        return put_middling(text, at, xs, ys, flags, settings, told);
+    }
+    Fit::Short
+}
+
+// The answer to a contour: tried in short rows first.
 fn put_crunched(
     text: &mut [u8],
     at: usize,
@@ -185,10 +328,7 @@ fn put_crunched(
 ) -> usize
     ensures { λ r. ⌜ Put (now (text .entry)) at (answerText settings told (now (xs .entry)) (now (ys .entry)) (now (flags .entry))) (now (text .exit)) r ⌝ }
 {
-    if !is_small(xs, ys) {
-        return put_full(text, at, xs, ys, flags, settings, told);
-    }
-    match put_small(text, at, xs, ys, flags, settings, told) {
+    match put_short(text, at, xs, ys, flags, settings, told) {
         Fit::Put(end) => end,
         Fit::Short => put_full(text, at, xs, ys, flags, settings, told),
     }

@@ -1,10 +1,9 @@
--- The loops of `fill_squares` and `fill_speeds`: their invariants, and the 21 speeds. Assumes nothing.
+-- The loops of `fill_squares`, `fill_by_guesses` and `fill_in_turn`: their invariants, and the 21 speeds. Assumes nothing.
 use Prim.Native.Nat.{ℕ, suc, _+_, _*_, _/_, _%_, _≤_, _<_}
-use mathlib.Core.Path.{_≡_, refl, sym, _∙_}
+use mathlib.Core.Path.{_≡_, _∙_}
 use mathlib.Core.List.{List}
 use native.Mathlib.Omega.{arith}
 use lib.ListN.{length, set, getD, length-set}
-use lib.Seq.{getD-set-other}
 use lib.Ieee.{Float, nan, binary64, add}
 use Rattle.float.specs.Float.{rootOf}
 use Rattle.geometry.specs.Geometry.{squareNormOf}
@@ -64,30 +63,47 @@ last-square f v t a time all ea =
 
 -- ---- the roots
 
--- below k there are the roots of what w holds, and from k on what it holds
+no-root : {w v : List Float} → Roots w v 0
+no-root = record { is = λ j less. absurd (omega arith) }
+
+root-more : {w v : List Float} {k : ℕ} (a : Float) → length v ≡ 21 → k < 21 → a ≡ rootOf (getD w k nan) → Roots w v k → Roots w (set v k a) (k + 1)
+root-more {w} {v} {k} a long less e r = record { is = stored nan (λ j. rootOf (getD w j nan)) v k a (omega arith) e (r .is) }
+
+-- below k there are the roots of what w holds
 pub record Rooting (w v : List Float) (last : Pace) (k : ℕ) : Type 0 where
+  pub given : length w ≡ 21
   pub long : length v ≡ 21
   pub most : k ≤ 21
   pub paced : Paced last
   pub done : Roots w v k
-  pub left : (j : ℕ) → k ≤ j → getD v j nan ≡ getD w j nan
 
-pub no-roots : {w : List Float} {last : Pace} → length w ≡ 21 → Paced last → Rooting w w last 0
-no-roots e p = record { long = e; most = omega arith; paced = p; done = record { is = λ j less. absurd (omega arith) }; left = λ j h. refl }
+pub no-roots : {w v : List Float} {last : Pace} → length w ≡ 21 → length v ≡ 21 → Paced last → Rooting w v last 0
+no-roots d e p = record { given = d; long = e; most = omega arith; paced = p; done = no-root }
 
-pub one-root : {w v : List Float} {last : Pace} {k : ℕ} (p : Pace) → Rooting w v last k → k < 21 → p ≡ paceWith (getD v k nan) →
+pub one-root : {w v : List Float} {last : Pace} {k : ℕ} (p : Pace) → Rooting w v last k → k < 21 → p ≡ paceWith (getD w k nan) →
     Rooting w (set v k (p .speed)) p (k + 1)
-one-root {w} {v} {last} {k} p r less e =
+one-root p r less e =
     record {
+      given = r .given;
       long = simp length-set (r .long);
       most = omega arith;
       paced = rw e;
-      done =
-          record {
-            is = stored nan (λ j. rootOf (getD w j nan)) v k (p .speed) (omega (arith, r .long)) (rw (e, r .left k (omega arith))) (r .done .is);
-          };
-      left = λ j h. getD-set-other v k j (p .speed) nan (λ same. omega arith) ∙ r .left j (omega arith);
+      done = root-more (p .speed) (r .long) less (rw e) (r .done);
     }
+
+-- the same, where there is no pace, and from k on there are guesses
+pub record Testing (w v : List Float) (k : ℕ) : Type 0 where
+  pub given : length w ≡ 21
+  pub long : length v ≡ 21
+  pub most : k ≤ 21
+  pub done : Roots w v k
+
+pub none-tested : {w v : List Float} → length w ≡ 21 → length v ≡ 21 → Testing w v 0
+none-tested d e = record { given = d; long = e; most = omega arith; done = no-root }
+
+pub one-tested : {w v : List Float} {k : ℕ} (a : Float) → Testing w v k → k < 21 → a ≡ rootOf (getD w k nan) → Testing w (set v k a) (k + 1)
+one-tested a t less e =
+    record { given = t .given; long = simp length-set (t .long); most = omega arith; done = root-more a (t .long) less e (t .done) }
 
 -- ---- the speeds
 pub record Speeds (f : ArclenFunctor) (v : List Float) : Type 0 where

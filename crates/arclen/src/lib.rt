@@ -1,6 +1,7 @@
 // Module 4: the derivative of a quad, and its length by RK4. The rate of the length does not look at the
 // length, so that the two middle rates of a step are one, and a step's last rate is the next one's first:
-// 21 speeds serve ten steps. Their roots are taken in a loop of their own, where they overlap.
+// 21 speeds serve ten steps. Their roots are guessed in a loop of their own, which is compiled to take
+// several at a time, and taken by these guesses in another, where they overlap.
 ghost use mathlib.Core.Path.{_≡_};
 ghost use lib.ListN.{length};
 ghost use Rattle.arclen.specs.Rk4.{grownBy};
@@ -139,18 +140,56 @@ fn fill_squares(f: ArclenFunctor, v: &mut [f64; 21])
     v[20] = f.square(time);
 }
 
-// Writes the roots of 21 squares over them.
-fn fill_speeds(v: &mut [f64; 21])
-    requires { ⌜ length (now v) ≡ 21 ⌝ }
-    ensures { λ r. ⌜ Roots (now (v .entry)) (now (v .exit)) 21 ⌝ }
+// Guesses the roots of 21 squares. The loop has no branch.
+fn fill_guesses(w: &[f64; 21], v: &mut [f64; 21])
+    requires { ⌜ (length (now w) ≡ 21) × (length (now v) ≡ 21) ⌝ }
+    ensures { λ r. ⌜ length (now (v .exit)) ≡ 21 ⌝ }
+{
+    let mut k = 0usize;
+    while k < 21 {
+        v[k] = quickroot::likely(w[k]);
+        k += 1;
+    }
+}
+
+// Writes the roots of 21 squares over guesses of them, which may be any numbers.
+fn fill_by_guesses(w: &[f64; 21], v: &mut [f64; 21])
+    requires { ⌜ (length (now w) ≡ 21) × (length (now v) ≡ 21) ⌝ }
+    ensures { λ r. ⌜ Roots (now (w .entry)) (now (v .exit)) 21 ⌝ }
+{
+    let mut k = 0usize;
+    while k < 21 {
+        v[k] = quickroot::root_by(w[k], v[k]);
+        k += 1;
+    }
+}
+
+// Writes the roots of 21 squares. A square that is equal to the one before it costs none.
+fn fill_in_turn(w: &[f64; 21], v: &mut [f64; 21])
+    requires { ⌜ (length (now w) ≡ 21) × (length (now v) ≡ 21) ⌝ }
+    ensures { λ r. ⌜ Roots (now (w .entry)) (now (v .exit)) 21 ⌝ }
 {
     let mut last = Pace::still();
     let mut k = 0usize;
     while k < 21 {
-        last = last.next(v[k]);
+        last = last.next(w[k]);
         v[k] = last.speed;
         k += 1;
     }
+}
+
+// Writes the roots of 21 squares. Along a line all are equal, so that the first two are, and one root
+// serves.
+fn fill_speeds(w: &[f64; 21], v: &mut [f64; 21])
+    requires { ⌜ (length (now w) ≡ 21) × (length (now v) ≡ 21) ⌝ }
+    ensures { λ r. ⌜ Roots (now (w .entry)) (now (v .exit)) 21 ⌝ }
+{
+    if w[0] == w[1] {
+        fill_in_turn(w, v);
+        return;
+    }
+    fill_guesses(w, v);
+    fill_by_guesses(w, v);
 }
 
 // Ten steps along a quad: writes the 40 stages, each with its time, the speed there and the length that
@@ -160,9 +199,10 @@ pub fn walk(f: ArclenFunctor, stages: &mut [[f64; 3]; 40]) -> f64
     ensures { λ r. ⌜ Walked f (now (stages .exit)) r ⌝ }
 {
     let h = 1.0 / 10.0;
+    let mut w = [0.0; 21];
+    fill_squares(f, &mut w);
     let mut v = [0.0; 21];
-    fill_squares(f, &mut v);
-    fill_speeds(&mut v);
+    fill_speeds(&w, &mut v);
     let mut t = 0.0;
     let mut y = 0.0;
     let mut i = 0usize;

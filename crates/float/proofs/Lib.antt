@@ -10,7 +10,7 @@ mod Whole
 pub mod Squares
 pub mod Scaled
 pub mod Pattern
-mod Read
+pub mod Read
 pub mod Table
 pub mod Decimals
 pub mod Exact

@@ -27,7 +27,7 @@ above-plus (fin true m e) h = absurd (false≢true h)
 above-plus (fin false m e) h = number m e
 
 -- ---- at most, then less
-at-most : (a b : ℕ) → T (ltb a b || (eqb a b && true)) → a ≤ b
+pub at-most : (a b : ℕ) → T (ltb a b || (eqb a b && true)) → a ≤ b
 at-most a b h = go (ltb a b) (eqb a b) (ltb→lt a b) (eqb→eq a b) h
   where
     go : (t u : Bool) → (T t → a < b) → (T u → a ≡ b) → T (t || (u && true)) → a ≤ b
@@ -40,7 +40,7 @@ strictly : (x y z p q r : ℕ) → 0 < p → x * q ≤ y * p → y * r < z * q �
 strictly x y z p q r P h k = lt-of-not-le (λ g. omega (arith, through z x y r p q P g h))
 
 -- nothing is above +inf
-none-above : (z : Float) → lt (inf false) z ≡ true → ⊥
+pub none-above : (z : Float) → lt (inf false) z ≡ true → ⊥
 unfolding lt
 none-above nan h = false≢true h
 none-above (inf t) h = false≢true h
@@ -117,7 +117,7 @@ level-le (zeros (is-zero s) (is-zero false)) (number _ _) endless h = tt
 level-le (zeros (is-zero s) (is-zero false)) (number _ _) (number c g) h =
     le-of-values (fin false 0 (pos 0)) (fin false c g) 0 1 (c * up g) (down g) (omega arith) (down-pos g) (refl, refl) (refl, refl) (omega arith)
 
-own : (m n : ℕ) (e d : ℤ) → T (fits binary64 (fin false m e)) → T (le (fin false m e) (add binary64 (fin false m e) (fin false n d)))
+pub own : (m n : ℕ) (e d : ℤ) → T (fits binary64 (fin false m e)) → T (le (fin false m e) (add binary64 (fin false m e) (fin false n d)))
 unfolding add sum
 own m n e d f =
     level-le (plus-zero (fin false m e) f tt (is-zero false)) (number m e) (rounded (m * up e * down d + n * up d * down e) (down e * down d))

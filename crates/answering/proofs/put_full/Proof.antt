@@ -1,6 +1,8 @@
 -- `answering::put_full` meets its contract. Assumes nothing.
 use mathlib.Core.Path.{refl, sym}
-use Rattle.edition.specs.Scratch.{fullRooms}
+use lib.IntN.{pos}
+use lib.ListN.{replicate}
+use Rattle.rows.specs.Rows.{zeroWork, pointZero}
 use Rattle.contour.specs.Output.{outputs}
 use Rattle.answering.proofs.Answers.{fits, says}
 use Rattle.answering.proofs.put_full.Statement.{statement}
@@ -47,7 +49,8 @@ put-outcome-requires c κs =
     let called = c .before .before .before .before .before .before .before .before .before .before .before .before in
     let args = called .before .before .before .before .before .before .before .before .before .before .before .args in
     let kept = called .crunch-contour .kept .1 .1 .1 .1 in
-    fits fullRooms 16384 (args .settings) (args .xs .now) (args .ys .now) (args .flags .now) (called .crunch-contour .ensures .answer) refl (kept .0) (kept .1 .0) (kept .1 .1 .0)
+    fits (replicate 16384 (pos 0)) (replicate 16384 (pos 0)) (replicate 16384 0) (zeroWork 16384 2048 4096 4096) (replicate 16384 pointZero)
+    (args .settings) (args .xs .now) (args .ys .now) (args .flags .now) (called .crunch-contour .ensures .answer) (kept .0) (kept .1 .0) (kept .1 .1 .0)
 
 same-length : tie.Need-same-length
 same-length c = c .before .before .put-outcome .kept .0
@@ -57,7 +60,8 @@ returns c =
     let called = c .before .before .before .before .before .before .before .before .before .before .before .before .before .before .before in
     let args = called .before .before .before .before .before .before .before .before .before .before .before .args in
     let last = called .crunch-contour .last .1 .1 .1 .1 in
-    says fullRooms 16384 (args .settings) (args .xs .now) (args .ys .now) (args .flags .now) (called .crunch-contour .ensures .answer) (args .told)
+    says (replicate 16384 (pos 0)) (replicate 16384 (pos 0)) (replicate 16384 0) (zeroWork 16384 2048 4096 4096) (replicate 16384 pointZero)
+    (args .settings) (args .xs .now) (args .ys .now) (args .flags .now) (called .crunch-contour .ensures .answer) (args .told)
     {o = outputs (last .0) (last .1 .0) (last .1 .1 .0)} refl (called .crunch-contour .ensures .outs) (c .before .before .put-outcome .ensures)
 
 pub put-full-spec : {M : Type 1} → statement M

@@ -19,10 +19,10 @@ fill-squares-requires : tie.Need-fill-squares-requires Inv-loop μ-loop
 fill-squares-requires c κs = refl
 
 fill-speeds-requires : tie.Need-fill-speeds-requires Inv-loop μ-loop
-fill-speeds-requires c κs = c .before .fill-squares .ensures .long
+fill-speeds-requires c κs = (c .before .before .fill-squares .ensures .long, refl)
 
 loop-holds : tie.Need-loop-holds Inv-loop μ-loop
-loop-holds c = (c .before .before .before .before .pre, omega arith, λ f s. none (c .before .before .before .before .pre))
+loop-holds c = (c .before .before .before .before .before .pre, omega arith, λ f s. none (c .before .before .before .before .before .pre))
 
 mul-a : tie.Need-mul-a Inv-loop μ-loop
 mul-a c = omega arith
@@ -90,14 +90,14 @@ mul-stages-6 c = omega arith
 element-set-from-stages-3 : tie.Need-element-set-from-stages-3 Inv-loop μ-loop
 element-set-from-stages-3 c = omega arith
 
-mul-t15 : tie.Need-mul-t15 Inv-loop μ-loop
-mul-t15 c = omega arith
+mul-t17 : tie.Need-mul-t17 Inv-loop μ-loop
+mul-t17 c = omega arith
 
-add-t16 : tie.Need-add-t16 Inv-loop μ-loop
-add-t16 c = omega arith
+add-t18 : tie.Need-add-t18 Inv-loop μ-loop
+add-t18 c = omega arith
 
-mul-t20 : tie.Need-mul-t20 Inv-loop μ-loop
-mul-t20 c = omega arith
+mul-t22 : tie.Need-mul-t22 Inv-loop μ-loop
+mul-t22 c = omega arith
 
 element-set-from-stages-4 : tie.Need-element-set-from-stages-4 Inv-loop μ-loop
 element-set-from-stages-4 c = omega arith
@@ -125,7 +125,7 @@ loop-again c =
 returns : tie.Need-returns Inv-loop μ-loop
 returns c =
     let filled = c .before .before in
-    all (c .before .loop .inv .2 _ (speeds (filled .before .before .fill-squares .ensures) (filled .fill-speeds .ensures))) (c .loop-test .left)
+    all (c .before .loop .inv .2 _ (speeds (filled .before .before .before .fill-squares .ensures) (filled .fill-speeds .ensures))) (c .loop-test .left)
 
 pub walk-spec : {M : Type 1} → statement M
 walk-spec =
@@ -158,9 +158,9 @@ walk-spec =
     add-stages-2
     mul-stages-6
     element-set-from-stages-3
-    mul-t15
-    add-t16
-    mul-t20
+    mul-t17
+    add-t18
+    mul-t22
     element-set-from-stages-4
     grown-requires
     add-i

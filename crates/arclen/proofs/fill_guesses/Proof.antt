@@ -1,0 +1,60 @@
+-- `arclen::fill_guesses` meets its contract: its row keeps its length. Assumes nothing.
+use Prim.Native.Nat.{_-_}
+use mathlib.Core.Path.{_≡_}
+use native.Mathlib.Omega.{arith}
+use lib.ListN.{length, length-set}
+use Rattle.arclen.proofs.fill_guesses.Statement.{statement}
+use Rattle.arclen.proofs.fill_guesses.Tie as tie
+
+abbrev Inv-loop : tie.InvT-loop
+Inv-loop w v₀ k₀ v k = (length w ≡ 21) × (length v ≡ 21)
+
+abbrev μ-loop : tie.MeasureT-loop
+μ-loop w v₀ k₀ v k = 21 - k
+
+loop-holds : tie.Need-loop-holds Inv-loop μ-loop
+loop-holds c = c .pre
+
+mul-likely : tie.Need-mul-likely Inv-loop μ-loop
+mul-likely c = omega arith
+
+element-copy-out-likely : tie.Need-element-copy-out-likely Inv-loop μ-loop
+element-copy-out-likely c = omega arith
+
+likely-requires : tie.Need-likely-requires Inv-loop μ-loop
+likely-requires c κs = tt
+
+mul-v : tie.Need-mul-v Inv-loop μ-loop
+mul-v c = omega arith
+
+element-write-v : tie.Need-element-write-v Inv-loop μ-loop
+element-write-v c = omega arith
+
+add-k : tie.Need-add-k Inv-loop μ-loop
+add-k c = omega arith
+
+loop-less : tie.Need-loop-less Inv-loop μ-loop
+loop-less c = omega arith
+
+loop-again : tie.Need-loop-again Inv-loop μ-loop
+loop-again c = let inv = c .before .before .before .loop .inv in (inv .0, simp length-set (inv .1))
+
+returns : tie.Need-returns Inv-loop μ-loop
+returns c = c .before .loop .inv .1
+
+pub fill-guesses-spec : {M : Type 1} → statement M
+fill-guesses-spec =
+    tie.close
+    (tie.spec
+    Inv-loop
+    μ-loop
+    loop-holds
+    mul-likely
+    element-copy-out-likely
+    likely-requires
+    mul-v
+    element-write-v
+    add-k
+    loop-less
+    loop-again
+    returns)

@@ -1,0 +1,2 @@
+-- What the steps of the quick root hand to each other.
+pub mod Quick
