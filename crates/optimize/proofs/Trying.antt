@@ -1,12 +1,12 @@
 -- The steps of a pair, as the code takes them. Assumes nothing.
 use Prim.Native.Nat.{ℕ, _+_, _*_, _≤_, _<_}
 use native.Mathlib.Omega.{arith}
-use mathlib.Core.Bool.{Bool, true, false, false≢true, true≢false}
+use mathlib.Core.Bool.{Bool, true, false, not, _&&_, false≢true, true≢false}
 use mathlib.Core.List.{List}
 use mathlib.Core.Path.{_≡_, refl, sym, _∙_}
 use lib.ListN.{length, set}
 use lib.Ieee.{Float}
-use Rattle.geometry.specs.Geometry.{isWhole, lineQuad, intersectOf}
+use Rattle.geometry.specs.Geometry.{isLine, isWhole, lineQuad, intersectOf}
 use Rattle.geometry.specs.declared.Crossing.{Crossing}
 use Rattle.geometry.specs.declared.Crossing.the-variants as Crossing
 use Rattle.geometry.specs.declared.Break.{Break}
@@ -17,11 +17,12 @@ use Rattle.measure.specs.declared.Measure as M
 use Rattle.breaks.specs.Breaks.{Row, breakAt}
 use Rattle.attempt.specs.declared.answer.Answer as A
 use Rattle.optimize.specs.declared.Trial.{Trial}
-use Rattle.attempt.specs.Answers.{Best, okForHalf, combined}
+use Rattle.attempt.specs.Answers.{Best, none, best, isCurve, okForHalf, combined}
 use Rattle.optimize.specs.Optimize.{Measure, bestAt, States, refused, states, tryQuad, bentQuad, bent, thenBent, tryLineQuad}
 use Rattle.optimize.specs.Fallen.{Fallen, fellBent, fellThenBent, fellPair}
 use Rattle.attempt.specs.Value.{bestOf, combineOf}
 use Rattle.optimize.specs.Stored.{slotAt, loaded, standingAt, rowOf, Inside, Phase, Room, Into, Rep, Ready, Becomes, stops, goes}
+use Rattle.optimize.proofs.Held.{slot-break}
 use Rattle.optimize.proofs.Attempt.{readable, attempted}
 
 -- ---- one attempt
@@ -52,6 +53,18 @@ quad-of e f g = rw (e, f, g) refl
 
 pub half-of : {x y : A.Answer} {q r : Quad} → x ≡ y → q ≡ r → okForHalf (bestOf x) q ≡ okForHalf (bestOf y) r
 half-of e f = rw (e, f) refl
+
+-- off whole units none is built on what is no curve
+pub no-bend : (t : Best) (q : Quad) → isWhole (q .p0) ≡ false → isCurve t ≡ false → okForHalf t q ≡ false
+no-bend t q off plain = go t plain
+  where
+    neither : (b : Bool) → (b && false) ≡ false
+    neither true = refl
+    neither false = refl
+
+    go : (t : Best) → isCurve t ≡ false → okForHalf t q ≡ false
+    go none plain = rw off (neither (not (isLine q)))
+    go (best a) plain = rw (off, plain) (neither (not (isLine q)))
 
 module _ (measure : Measure) (breaks : Row) (penalty : Float) (i j : ℕ) (st : List Best) where
   abbrev crossing : Crossing
@@ -87,6 +100,9 @@ module _ (measure : Measure) (fallen : Fallen) (breaks : Row) (penalty : Float) 
     fell-not-allowed bad = rw (← e, bad) refl
 
 -- ---- what may be read
+pub break-of : {bs : Row} {rs : List (List Float)} {ls : List ℕ} (j : ℕ) → Inside bs rs ls (slotAt ls j) → (j < length bs) × (j < 2048)
+break-of {ls = ls} j inside = (omega (arith, inside .to, slot-break ls j), omega (arith, inside .few, slot-break ls j))
+
 module _ {bs : Row} {rs : List (List Float)} {ls : List ℕ} {i j k : ℕ} (r : Ready bs rs ls i j k) where
   pub break-to : j < length bs
   break-to = omega (arith, r .room .all-breaks, r .into .upto)
