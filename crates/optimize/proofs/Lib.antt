@@ -6,6 +6,7 @@ mod Attempt
 mod Trying
 mod Phases
 mod Idle
+mod Marking
 mod Solving
 mod Fresh
 pub mod FewFall
