@@ -81,8 +81,8 @@ corners-taken xs ys fs marks m count is long counted least = rw (← is) (by (de
     by (yes few) =
         marks-taken marks m 0
         (λ j p.
-          let past : countOf fs ≤ j = omega (arith, counted, least) in
-          rw is (no-corner-past xs ys fs 1024 j past))
+        let past : countOf fs ≤ j = omega (arith, counted, least) in
+        rw is (no-corner-past xs ys fs 1024 j past))
     by (no many) =
         let all : length marks ≤ m = omega (arith, long, least) in
         rw (take-all m marks all) refl
