@@ -1,13 +1,13 @@
--- `measure::sees_any` meets its contract, by the law `seen-any`. Assumes nothing.
-use Rattle.measure.proofs.Ahead.{seen-any}
+-- `measure::sees_any` meets its contract. Assumes nothing.
+use Rattle.measure.proofs.Sure.{measurable}
 use Rattle.measure.proofs.sees_any.Statement.{statement}
 use Rattle.measure.proofs.sees_any.Tie as tie
 
-well-before-requires : tie.Need-well-before-requires
-well-before-requires c κs = tt
+shows-any-requires : tie.Need-shows-any-requires
+shows-any-requires c κs = tt
 
 returns : tie.Need-returns
-returns c h q = seen-any _ _ _ _ (c .well-before .ensures h)
+returns c h q = measurable (c .shows-any .ensures h q)
 
 pub sees-any-spec : {M : Type 1} → statement M
-sees-any-spec = tie.close (tie.spec well-before-requires returns)
+sees-any-spec = tie.close (tie.spec shows-any-requires returns)
