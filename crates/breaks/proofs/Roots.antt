@@ -1,176 +1,23 @@
 -- Of two squares of which one is less by a thousandth, the root is less too. Assumes nothing.
 use Prim.Native.Nat.{ℕ, zero, suc, _+_, _-_, _*_, _/_, _%_, _^_, _≤_, _<_}
-use mathlib.Core.Bool.{Bool, true, false, cond, _&&_, _||_, Bool·beq, false≢true}
+use mathlib.Core.Bool.{Bool, true, false, _&&_, false≢true}
 use mathlib.Core.Path.{_≡_, refl, sym, ap, _∙_, subst}
-use native.Mathlib.Nat.{
-  mul-assoc,
-  mul-comm,
-  mul-mul-mul-comm,
-  mul-pos,
-  mul-le-mul,
-  mul-le-mul-left,
-  mul-le-mul-right,
-  mul-lt-mul-of-pos-right,
-  mul-div-cancel,
-  zero-lt-suc,
-  zero-mul,
-  mul-one,
-  sub-add-cancel,
-  le-of-suc-le-suc,
-  le-refl,
-  le-trans,
-  lt-of-lt-of-le,
-  lt-of-le-of-lt,
-  lt-of-not-le,
-  not-le-of-lt,
-  lt-of-mul-lt-mul-right,
-  le-div-iff-mul-le,
-  div-lt-iff-lt-mul,
-}
+use native.Mathlib.Nat.{mul-assoc, mul-comm, mul-mul-mul-comm, mul-pos, mul-le-mul, mul-lt-mul-of-pos-right, mul-div-cancel, zero-lt-suc, zero-mul, mul-one, sub-add-cancel, le-of-suc-le-suc, lt-of-lt-of-le, lt-of-not-le, not-le-of-lt, lt-of-mul-lt-mul-right}
 use native.Mathlib.Omega.{arith}
-use borrow.Author.Tests.{ltb-true, lt-ltb, le-ltb, ne-eqb}
+use borrow.Author.Tests.{ltb-true, lt-ltb}
 use lib.Dec.{T, lit≤, lit<, ltb, leb, eqb, leb→le}
 use lib.Pow.{pow-add, pow-mono, pow-pos}
 use lib.IntN.{ℤ, pos, negsuc}
-use lib.Ieee.{Float, nan, inf, fin, binary64, up, down, size, fits, odd, round, mul, lt, le, eq, below, level}
-use lib.Ieee.Digits.{size-lt, size-reaches}
-use lib.Ieee.Exact.{HasValue, odd-sign}
+use lib.Ieee.{Float, nan, inf, fin, binary64, up, down, size, fits, round, mul, lt, le, eq, below}
+use lib.Ieee.Exact.{HasValue}
 use lib.Ieee.Fits.{up-pos, down-pos, and-l, and-r}
 use lib.Ieee.Order.{round-mono}
 use lib.Ieee.Positive.{first-pos}
-use Rattle.float.specs.Float.{rootDown, rootNear, rootUnits, rootOf}
-use Rattle.float.proofs.Squares.{Root, root-down, sq-next}
-use Rattle.float.proofs.Scaled.{four-pow, four-pos}
+use Rattle.float.specs.Float.{rootUnits, rootOf}
+use Rattle.float.proofs.Less.{apart-signs, not-less}
+use Rattle.float.proofs.NearRoot.{near-root}
 use Rattle.float.proofs.Own.{itself}
 use Rattle.float.proofs.Dyadic.{left, right}
-
--- ---- of two floats one is less at most
-
-below-false : (A B : ℕ) → A < B → ltb B A || level false B false A ≡ false
-below-false A B h = rw (le-ltb B A (omega arith), ne-eqb B A (λ e. omega arith))
-
-below-true : (A B : ℕ) → B < A → ltb A B || level true B true A ≡ false
-below-true A B h = rw (le-ltb A B (omega arith), ne-eqb B A (λ e. omega arith))
-
-apart-signs : (A B : ℕ) → 0 < A + B → level false B true A ≡ false
-apart-signs A zero h = rw (ne-eqb 0 A (λ e. omega arith))
-apart-signs A (suc B) h = rw (ne-eqb (suc B) 0 (λ e. omega arith)) (by (eqb (suc B) A))
-  where
-    by : (c : Bool) → c && (Bool·beq false true || false) ≡ false
-    by true = refl
-    by false = refl
-
-pub not-less : (x y : Float) → lt x y ≡ true → le y x ≡ false
-unfolding le lt
-not-less nan y h = absurd (false≢true h)
-not-less (inf true) nan h = absurd (false≢true h)
-not-less (inf false) nan h = absurd (false≢true h)
-not-less (inf true) (inf true) h = absurd (false≢true h)
-not-less (inf true) (inf false) h = refl
-not-less (inf false) (inf t) h = absurd (false≢true h)
-not-less (inf true) (fin t n d) h = refl
-not-less (inf false) (fin t n d) h = absurd (false≢true h)
-not-less (fin s m e) nan h = absurd (false≢true h)
-not-less (fin s m e) (inf true) h = absurd (false≢true h)
-not-less (fin s m e) (inf false) h = refl
-not-less (fin false m e) (fin false n d) h = below-false (m * up e * down d) (n * up d * down e) (ltb-true (m * up e * down d) (n * up d * down e) h)
-not-less (fin false m e) (fin true n d) h = absurd (false≢true h)
-not-less (fin true m e) (fin false n d) h =
-    apart-signs (m * up e * down d) (n * up d * down e) (ltb-true 0 (m * up e * down d + n * up d * down e) h)
-not-less (fin true m e) (fin true n d) h = below-true (m * up e * down d) (n * up d * down e) (ltb-true (n * up d * down e) (m * up e * down d) h)
-
-first : (p q : Bool) → p || q ≡ false → p ≡ false
-first true q h = h
-first false q h = refl
-
-pub not-both : (x y : Float) → lt x y ≡ true → lt y x ≡ false
-unfolding le
-not-both x y h = first (lt y x) _ (not-less x y h)
-
--- ---- the nearest whole number r to the root of N, where the root rounded down is q
-near : (N q r : ℕ) → Root N q → 1048576 ≤ q → q ≤ r → r ≤ q + 1 → (r * r * 1048576 ≤ 1048579 * N) × ((N + 1) * 1048576 ≤ 1048579 * (r * r))
-near N q r root many low high =
-    let far : 1048576 * q ≤ q * q = mul-le-mul-right q many in
-    let less : q * q ≤ r * r = mul-le-mul low low in
-    let more : r * r ≤ (q + 1) * (q + 1) = mul-le-mul high high in
-    (omega (arith, root .0, sq-next q), omega (arith, root .1, sq-next q))
-
-near-in : (k n : ℕ) → (rootDown k n ≤ rootNear k n) × (rootNear k n ≤ rootDown k n + 1)
-unfolding rootNear
-near-in k n = by (rootDown k n) (ltb (rootDown k n) _)
-  where
-    by : (q : ℕ) (b : Bool) → (q ≤ cond b (q + 1) q) × (cond b (q + 1) q ≤ q + 1)
-    by q true = (omega arith, omega arith)
-    by q false = (omega arith, omega arith)
-
--- ---- the root of n smallest f64s, p * 2 ^ 484 of them: p * p is nearly n * 2 ^ 106
-record Nearly (n : ℕ) : Type 0 where
-  p : ℕ
-  value : HasValue (rootUnits n) false (p * 2 ^ 484) (2 ^ 1074)
-  most : p * p * 1048576 ≤ 1048579 * (n * 2 ^ 106)
-  least : n * 2 ^ 106 * 1048576 ≤ 1048579 * (p * p)
-
-module _ (n : ℕ) (some : 0 < n) where
-  abbrev h : ℕ
-  h = (size n + 1) / 2
-
-  abbrev N : ℕ
-  N = n * 2 ^ 106 / 4 ^ h
-
-  abbrev r : ℕ
-  r = rootNear 53 N
-
-  -- N has 105 or 106 binary digits
-  N-under : N < 4 ^ 53
-  N-under =
-      let twice : size n ≤ h + h = omega arith in
-      let under : n < 4 ^ h = rw (four-pow h) (lt-of-lt-of-le (size-lt n) (pow-mono twice)) in
-      div-lt-iff-lt-mul (four-pos h) .1 (rw (mul-comm (4 ^ 53) (4 ^ h)) (mul-lt-mul-of-pos-right under (pow-pos 106)))
-
-  N-over : 2 ^ 104 ≤ N
-  N-over =
-      let digits : 0 < size n = lt-of-not-le (λ (g : size n ≤ 0). not-le-of-lt (size-lt n) (le-trans (pow-mono g) some)) in
-      let reached : 2 ^ (size n - 1) ≤ n = size-reaches n (size n - 1) (omega arith) in
-      let twice : h + h ≤ size n - 1 + 2 = omega arith in
-      let over : 4 ^ h ≤ 4 * n = rw (four-pow h) (le-trans (pow-mono twice) (rw (pow-add 2 (size n - 1) 2) (omega arith))) in
-      le-div-iff-mul-le (four-pos h) .1 (le-trans (mul-le-mul-left (2 ^ 104) over) (omega arith))
-
-  root : Root N (rootDown 53 N)
-  root = root-down 53 N N-under
-
-  many : 1048576 ≤ rootDown 53 N
-  many =
-      let more : 1048576 < rootDown 53 N + 1 =
-      lt-of-not-le (λ (g : rootDown 53 N + 1 ≤ 1048576). not-le-of-lt (root .1) (le-trans (mul-le-mul g g) (le-trans (lit≤ tt) N-over))) in
-      omega arith
-
-  nearly : Nearly n
-  unfolding rootUnits
-  nearly =
-      let s : r * 2 ^ h * (r * 2 ^ h) ≡ r * r * 4 ^ h = mul-mul-mul-comm r (2 ^ h) r (2 ^ h) ∙ ap (λ (a : ℕ). r * r * a) (sym (pow-add 2 h h) ∙ sym (four-pow h)) in
-      let q = near N (rootDown 53 N) r root many (near-in 53 N .0) (near-in 53 N .1) in
-      let b = whole N (n * 2 ^ 106) (r * r) (4 ^ h) (le-div-iff-mul-le (four-pos h) .0 (le-refl N)) (div-lt-iff-lt-mul (four-pos h) .0 (omega arith)) q in
-      let v : r * 2 ^ (h + 484) ≡ r * 2 ^ h * 2 ^ 484 = ap (λ (a : ℕ). r * a) (pow-add 2 h 484) ∙ sym (mul-assoc r (2 ^ h) (2 ^ 484)) in
-      record {
-        p = r * 2 ^ h;
-        value = subst (λ (a : ℕ). HasValue (odd 53 false r (h + 484) 1074) false a (2 ^ 1074)) v (odd-sign 53 false r (h + 484) 1074);
-        most = rw s (b .0);
-        least = rw s (b .1);
-      }
-    where
-      whole : (N P s F : ℕ) → N * F ≤ P → P < (N + 1) * F → (s * 1048576 ≤ 1048579 * N) × ((N + 1) * 1048576 ≤ 1048579 * s) →
-          (s * F * 1048576 ≤ 1048579 * P) × (P * 1048576 ≤ 1048579 * (s * F))
-      whole N P s F low high q =
-          let a : s * 1048576 * F ≤ 1048579 * N * F = mul-le-mul-right F (q .0) in
-          let b : (N + 1) * 1048576 * F ≤ 1048579 * s * F = mul-le-mul-right F (q .1) in
-          let c : (N + 1) * 1048576 * F ≡ (N + 1) * F * 1048576 = turn (N + 1) F in
-          let d : s * 1048576 * F ≡ s * F * 1048576 = turn s F in
-          let e : 1048579 * N * F ≡ 1048579 * (N * F) = mul-assoc 1048579 N F in
-          let g : 1048579 * s * F ≡ 1048579 * (s * F) = mul-assoc 1048579 s F in
-          (omega arith, omega arith)
-        where
-          turn : (a F : ℕ) → a * 1048576 * F ≡ a * F * 1048576
-          turn a F = mul-assoc a 1048576 F ∙ ap (λ (k : ℕ). a * k) (mul-comm 1048576 F) ∙ sym (mul-assoc a F 1048576)
 
 -- ---- the lesser of two
 
@@ -195,8 +42,8 @@ less-values (fin false m e) (fin false n d) a b c v w h =
 
 less-units : (n k : ℕ) → 0 < n → 0 < k → 1025 * n < 1024 * k → lt (rootUnits n) (rootUnits k) ≡ true
 less-units n k some more h =
-    let a = nearly n some in
-    let b = nearly k more in
+    let a = near-root n some in
+    let b = near-root k more in
     let scaled : 1025 * (n * 2 ^ 106) < 1024 * (k * 2 ^ 106) = rw (← mul-assoc 1025 n (2 ^ 106), ← mul-assoc 1024 k (2 ^ 106)) (mul-lt-mul-of-pos-right h (pow-pos 106)) in
     let p : a .p < b .p = less-roots (a .p) (b .p) (less-squares (a .p * a .p) (b .p * b .p) (n * 2 ^ 106) (k * 2 ^ 106) (a .most) (b .least) scaled) in
     less-values (rootUnits n) (rootUnits k) (a .p * 2 ^ 484) (b .p * 2 ^ 484) (2 ^ 1074) (a .value) (b .value) (mul-lt-mul-of-pos-right p (pow-pos 484))
@@ -302,7 +149,7 @@ unfolding rootOf
 root-above n d f =
     let w = whole-of n d f in
     let k = suc n * up d * w .k in
-    let r = nearly k (some-units n d w) in
+    let r = near-root k (some-units n d w) in
     let p : 0 < r .p = less-roots 0 (r .p) (squared (k * 2 ^ 106) (r .p * r .p) (mul-pos (some-units n d w) (pow-pos 106)) (r .least)) in
     rw (units-are n d w) (record { size = r .p * 2 ^ 484; value = r .value; above = mul-pos p (pow-pos 484) })
   where

@@ -1,5 +1,5 @@
 -- Of two floats that are not negative the first is no more: sums, products and quotients keep that, by the order of rounding. Assumes nothing.
-use Prim.Native.Nat.{ℕ, zero, suc, _+_, _*_, _≤_, _<_}
+use Prim.Native.Nat.{ℕ, zero, suc, _*_, _≤_, _<_}
 use mathlib.Core.Bool.{Bool, true, false, cond, false≢true}
 use mathlib.Core.Path.{_≡_, refl}
 use native.Mathlib.Nat.{zero-lt-suc, add-comm, mul-comm, mul-assoc, mul-left-comm, mul-mul-mul-comm, mul-pos, mul-le-mul-left, mul-le-mul-right}

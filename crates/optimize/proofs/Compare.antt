@@ -3,14 +3,15 @@
 use Prim.Native.Nat.{ℕ, zero, suc, _+_, _*_, _≤_, _<_}
 use mathlib.Core.Bool.{Bool, true, false, _&&_, _||_, false≢true, true≢false}
 use mathlib.Core.Logic.{_⊎_, inl, inr}
-use mathlib.Core.Path.{_≡_, refl}
+use mathlib.Core.Path.{_≡_, refl, subst}
 use native.Mathlib.Nat.{zero-lt-suc, mul-pos, eq-or-lt-of-le, eq-zero-or-pos}
 use native.Mathlib.Omega.{arith}
-use borrow.Author.Tests.{ltb-true, ltb-false, eq-eqb}
+use borrow.Author.Tests.{ltb-false, eq-eqb}
 use lib.Dec.{T, ltb, eqb, ltb→lt, lt→ltb, eqb→eq}
 use lib.Ieee.{Float, nan, inf, fin, up, down, below, level, lt, eq, le, isNan}
 use lib.Ieee.Fits.{down-pos}
 use lib.Ieee.Positive.{through}
+use Rattle.float.proofs.Less.{not-less}
 
 or-left : (a b : Bool) → T a → T (a || b)
 or-left true b t = tt
@@ -80,12 +81,6 @@ not-below false false a b h = ltb-false a b h
 not-below false true a b h = tt
 not-below true false a b h = let z = ltb-false 0 (a + b) h in (omega arith, omega arith)
 not-below true true a b h = ltb-false b a h
-
-not-both : (s t : Bool) (a b : ℕ) → below s a t b ≡ true → Le t b s a → ⊥
-not-both false false a b h k = omega (arith, ltb-true a b h)
-not-both false true a b h k = false≢true h
-not-both true false a b h k = omega (arith, ltb-true 0 (a + b) h, k .0, k .1)
-not-both true true a b h k = omega (arith, ltb-true b a h)
 
 -- ---- through a third
 
@@ -198,19 +193,7 @@ lt-right : (x y : Float) → lt x y ≡ true → isNan y ≡ false
 lt-right x y h = right-number x y (lt-le x y h)
 
 lt-not-ge : (x y : Float) → lt x y ≡ true → T (le y x) → ⊥
-unfolding lt le
-lt-not-ge nan y h k = false≢true h
-lt-not-ge (inf s) nan h k = k
-lt-not-ge (inf true) (inf true) h k = false≢true h
-lt-not-ge (inf true) (inf false) h k = k
-lt-not-ge (inf false) (inf t) h k = false≢true h
-lt-not-ge (inf true) (fin t n d) h k = k
-lt-not-ge (inf false) (fin t n d) h k = false≢true h
-lt-not-ge (fin s m e) nan h k = k
-lt-not-ge (fin s m e) (inf true) h k = false≢true h
-lt-not-ge (fin s m e) (inf false) h k = k
-lt-not-ge (fin s m e) (fin t n d) h k =
-    not-both s t (m * up e * down d) (n * up d * down e) h (le-is t s (n * up d * down e) (m * up e * down d) k)
+lt-not-ge x y h k = subst T (not-less x y h) k
 
 pub lt-self : (x : Float) → lt x x ≡ false
 lt-self x = go (lt x x) refl

@@ -1,6 +1,6 @@
 -- `arclen::walk` meets its contract. The invariant is `Walking`, for whichever quad has the speeds. Assumes nothing.
 use Prim.Native.Nat.{_≤_, _-_}
-use mathlib.Core.Path.{_≡_, refl}
+use mathlib.Core.Path.{_≡_}
 use native.Mathlib.Omega.{arith}
 use lib.ListN.{length, length-set}
 use Rattle.float.specs.Numbers.{nought}

@@ -1,6 +1,6 @@
 -- `breaks::nearer` meets its contract: of two roots one is less at most, by the law `not-both`. Assumes nothing.
 use mathlib.Core.Path.{sym}
-use Rattle.breaks.proofs.Roots.{not-both}
+use Rattle.float.proofs.Less.{not-both}
 use Rattle.breaks.proofs.nearer.Statement.{statement}
 use Rattle.breaks.proofs.nearer.Tie as tie
 

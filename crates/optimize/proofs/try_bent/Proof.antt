@@ -1,6 +1,6 @@
 -- `optimize::try_bent` meets its contract. Assumes nothing.
 use borrow.Author.Needs.{needs}
-use mathlib.Core.Path.{_≡_, refl, sym, _∙_}
+use mathlib.Core.Path.{refl, sym, _∙_}
 use Rattle.optimize.specs.Optimize.{measureBy}
 use Rattle.optimize.specs.Fallen.{fallenBetween}
 use Rattle.optimize.specs.Stored.{goes}
