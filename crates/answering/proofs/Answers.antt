@@ -1,5 +1,5 @@
 -- What the crunch entry left, as the answer to a contour. Assumes nothing.
-use Prim.Native.Nat.{ℕ, zero, suc, _+_, _≤_}
+use Prim.Native.Nat.{ℕ, zero, suc, _+_, _≤_, min}
 use mathlib.Core.Bool.{Bool, false}
 use mathlib.Core.List.{List, _++_}
 use mathlib.Core.Path.{_≡_, refl, sym, ap, subst, _∙_}
@@ -76,3 +76,7 @@ module _ (ox oy : List ℤ) (of : List ℕ) (w : Work) (points : Points) (settin
     short-same within few is fine =
         more-room (roomsOf w) fullRooms (pointRoom lent) 16384 settings xs ys fs within (omega arith)
         (for-room whole ∙ ap (λ (c : C.Crunched). forRoom (report c .number)) (sym e) ∙ sym is ∙ fine)
+
+-- the place after an answer is no further than the end of the text
+pub no-further : {out out' text : List ℕ} {at end r : ℕ} → Put out at text out' end → length out' ≡ length out → r ≡ min end (length out') → Put out at text out' r
+no-further put same is = record { held = put .held; next = omega (arith, put .next) }

@@ -148,7 +148,7 @@ fn put_lent(
     Fit::Put(put_outcome(text, at, told, c, ox, oy, of))
 }
 
-// In rows of three sizes, which are cleared in a fraction of the time: 10 KiB in all.
+// In rows of three sizes, which are cleared in a fraction of the time: 5 KiB in all.
 fn put_tiny(
     text: &mut [u8],
     at: usize,
@@ -160,14 +160,14 @@ fn put_tiny(
 ) -> Fit
     ensures { λ r. ⌜ Tries (now (text .entry)) at (answerText settings told (now (xs .entry)) (now (ys .entry)) (now (flags .entry))) (now (text .exit)) r ⌝ }
 {
-    let mut ox = [0i16; 128];
-    let mut oy = [0i16; 128];
-    let mut of = [0u8; 128];
-    let mut samples = [[0.0; 4]; 40];
-    let mut breaks = [[0.0; 6]; 64];
-    let mut answers = [[0.0; 3]; 128];
-    let mut links = [0u32; 128];
-    let mut points = [[0i16; 3]; 128];
+    let mut ox = [0i16; 64];
+    let mut oy = [0i16; 64];
+    let mut of = [0u8; 64];
+    let mut samples = [[0.0; 4]; 24];
+    let mut breaks = [[0.0; 6]; 32];
+    let mut answers = [[0.0; 3]; 64];
+    let mut links = [0u32; 64];
+    let mut points = [[0i16; 3]; 64];
     put_lent(
         text,
         at,
@@ -290,8 +290,7 @@ fn around(xs: &[i16], ys: &[i16]) -> f64 {
     sum
 }
 
-// In the shortest rows that nearly always have room for a contour so far around; short, where that are the full ones. Only the time hangs
-// on the choice.
+// In the shorter of the short rows, where these nearly always have room for a contour so far around. Only the time hangs on the choice.
 fn put_short(
     text: &mut [u8],
     at: usize,
@@ -300,23 +299,57 @@ fn put_short(
     flags: &[u8],
     settings: Settings,
     told: bool,
+    far: f64,
 ) -> Fit
     ensures { λ r. ⌜ Tries (now (text .entry)) at (answerText settings told (now (xs .entry)) (now (ys .entry)) (now (flags .entry))) (now (text .exit)) r ⌝ }
 {
-    let far = around(xs, ys);
-    if far <= 30.0 {
+    if far <= 20.0 {
         return put_tiny(text, at, xs, ys, flags, settings, told);
     }
-    if far <= 250.0 {
-        return put_small(text, at, xs, ys, flags, settings, told);
-    }
+    put_small(text, at, xs, ys, flags, settings, told)
+}
+
+// In the shorter of the long rows, likewise; short, where they are too short.
+fn put_less(
+    text: &mut [u8],
+    at: usize,
+    xs: &[i16],
+    ys: &[i16],
+    flags: &[u8],
+    settings: Settings,
+    told: bool,
+    far: f64,
+) -> Fit
+    ensures { λ r. ⌜ Tries (now (text .entry)) at (answerText settings told (now (xs .entry)) (now (ys .entry)) (now (flags .entry))) (now (text .exit)) r ⌝ }
+{
     if far <= 1000.0 {
         return put_middling(text, at, xs, ys, flags, settings, told);
     }
     Fit::Short
 }
 
-// The answer to a contour: tried in short rows first.
+// The answer to a contour so far around, in long rows.
+fn put_long(
+    text: &mut [u8],
+    at: usize,
+    xs: &[i16],
+    ys: &[i16],
+    flags: &[u8],
+    settings: Settings,
+    told: bool,
+    far: f64,
+) -> usize
+    ensures { λ r. ⌜ Put (now (text .entry)) at (answerText settings told (now (xs .entry)) (now (ys .entry)) (now (flags .entry))) (now (text .exit)) r ⌝ }
+{
+    match put_less(text, at, xs, ys, flags, settings, told, far) {
+        Fit::Put(end) => end,
+        Fit::Short => put_full(text, at, xs, ys, flags, settings, told),
+    }
+}
+
+// The answer to a contour, tried in short rows first where it is short. The long rows are asked for in two places, whose
+// results go different ways: so they are not compiled in place, where every page of them would be touched for a short contour too. No
+// place after an answer is past the text.
 fn put_crunched(
     text: &mut [u8],
     at: usize,
@@ -328,9 +361,16 @@ fn put_crunched(
 ) -> usize
     ensures { λ r. ⌜ Put (now (text .entry)) at (answerText settings told (now (xs .entry)) (now (ys .entry)) (now (flags .entry))) (now (text .exit)) r ⌝ }
 {
-    match put_short(text, at, xs, ys, flags, settings, told) {
+    let far = around(xs, ys);
+    if 250.0 < far {
+        return put_long(text, at, xs, ys, flags, settings, told, far);
+    }
+    match put_short(text, at, xs, ys, flags, settings, told, far) {
         Fit::Put(end) => end,
-        Fit::Short => put_full(text, at, xs, ys, flags, settings, told),
+        Fit::Short => {
+            let end = put_long(text, at, xs, ys, flags, settings, told, far);
+            rows::least(end, text.len())
+        }
     }
 }
 

@@ -1,6 +1,6 @@
 -- The loops of `fill_squares`, `fill_by_guesses` and `fill_in_turn`: their invariants, and the 21 speeds. Assumes nothing.
-use Prim.Native.Nat.{ℕ, suc, _+_, _*_, _/_, _%_, _≤_, _<_}
-use mathlib.Core.Path.{_≡_, _∙_}
+use Prim.Native.Nat.{ℕ, zero, suc, _+_, _*_, _/_, _%_, _≤_, _<_}
+use mathlib.Core.Path.{_≡_, refl, _∙_}
 use mathlib.Core.List.{List}
 use native.Mathlib.Omega.{arith}
 use lib.ListN.{length, set, getD, length-set}
@@ -8,58 +8,67 @@ use lib.Ieee.{Float, nan, binary64, add}
 use Rattle.float.specs.Float.{rootOf}
 use Rattle.geometry.specs.Geometry.{squareNormOf}
 use Rattle.arclen.specs.Rk4.{halfOf}
-use Rattle.arclen.specs.Arclen.{tenth, derivOf, speedOf}
-use Rattle.arclen.specs.Stages.{Paced, paceWith, timeAt, placeAt, Squares, Roots}
+use Rattle.arclen.specs.Arclen.{derivOf, speedOf}
+use Rattle.arclen.specs.Stages.{Paced, paceWith, timeFrom, placeAt, Squares, Ready, Roots}
 use Rattle.arclen.specs.declared.ArclenFunctor.{ArclenFunctor}
 use Rattle.arclen.specs.declared.Pace.{Pace}
 use Rattle.arclen.proofs.Walking.{stored}
 
--- the times of the step i
-place-even : (i : ℕ) → placeAt (2 * i) ≡ timeAt tenth i
-unfolding placeAt
-place-even i =
-    let step : 2 * i / 2 ≡ i = omega arith in
-    let part : 2 * i % 2 ≡ 0 = omega arith in
-    rw (step, part)
+module _ (h : Float) where
+  -- one step more
+  pub time-next : (t : Float) (i : ℕ) → timeFrom h t (suc i) ≡ add binary64 (timeFrom h t i) h
+  unfolding timeFrom
+  time-next t zero = refl
+  time-next t (suc i) = time-next (add binary64 t h) i
 
-place-odd : (i : ℕ) → placeAt (2 * i + 1) ≡ add binary64 (timeAt tenth i) (halfOf tenth)
-unfolding placeAt
-place-odd i =
-    let step : (2 * i + 1) / 2 ≡ i = omega arith in
-    let part : (2 * i + 1) % 2 ≡ 1 = omega arith in
-    rw (step, part)
+  -- the times of the step i
+  place-even : (t : Float) (i : ℕ) → placeAt h t (2 * i) ≡ timeFrom h t i
+  unfolding placeAt
+  place-even t i =
+      let step : 2 * i / 2 ≡ i = omega arith in
+      let part : 2 * i % 2 ≡ 0 = omega arith in
+      rw (step, part)
 
-place-next : (i : ℕ) → placeAt (2 * i + 2) ≡ add binary64 (timeAt tenth i) tenth
-unfolding timeAt
-place-next i =
-    let same : 2 * i + 2 ≡ 2 * suc i = omega arith in
-    rw (same, place-even (suc i))
+  place-odd : (t : Float) (i : ℕ) → placeAt h t (2 * i + 1) ≡ add binary64 (timeFrom h t i) (halfOf h)
+  unfolding placeAt
+  place-odd t i =
+      let step : (2 * i + 1) / 2 ≡ i = omega arith in
+      let part : (2 * i + 1) % 2 ≡ 1 = omega arith in
+      rw (step, part)
+
+  -- a step later
+  place-later : (t : Float) (k : ℕ) → placeAt h t (k + 2) ≡ placeAt h (add binary64 t h) k
+  unfolding placeAt timeFrom
+  place-later t k =
+      let step : (k + 2) / 2 ≡ suc (k / 2) = omega arith in
+      let part : (k + 2) % 2 ≡ k % 2 = omega arith in
+      rw (step, part)
 
 -- ---- the squares
 
-abbrev squareAt : ArclenFunctor → ℕ → Float
-squareAt f k = squareNormOf (derivOf f (placeAt k))
+abbrev squareAt : ArclenFunctor → Float → Float → ℕ → Float
+squareAt f h t k = squareNormOf (derivOf f (placeAt h t k))
 
-pub no-squares : {f : ArclenFunctor} {v : List Float} → length v ≡ 21 → Squares f v 0
+pub no-squares : {f : ArclenFunctor} {h t : Float} {v : List Float} → length v ≡ 21 → Squares f h t v 0
 no-squares e = record { long = e; is = λ j less. absurd (omega arith) }
 
-pub two-more : (f : ArclenFunctor) (v : List Float) (i : ℕ) (t a b : Float) → i < 10 → t ≡ timeAt tenth i → Squares f v (2 * i) →
-    a ≡ squareNormOf (derivOf f t) → b ≡ squareNormOf (derivOf f (add binary64 t (halfOf tenth))) →
-    Squares f (set (set v (2 * i) a) (2 * i + 1) b) (2 * (i + 1))
-two-more f v i t a b less time all ea eb =
+pub two-more : (f : ArclenFunctor) (h s : Float) (v : List Float) (i : ℕ) (t a b : Float) → i < 10 → t ≡ timeFrom h s i → Squares f h s v (2 * i) →
+    a ≡ squareNormOf (derivOf f t) → b ≡ squareNormOf (derivOf f (add binary64 t (halfOf h))) →
+    Squares f h s (set (set v (2 * i) a) (2 * i + 1) b) (2 * (i + 1))
+two-more f h s v i t a b less time all ea eb =
     let h0 : 2 * i < length v = omega (arith, all .long) in
     let h1 : 2 * i + 1 < length (set v (2 * i) a) = simp length-set (omega (arith, all .long)) in
     record {
       long = simp length-set (all .long);
       is =
-          λ k h. stored nan (squareAt f) (set v (2 * i) a) (2 * i + 1) b h1 (eb ∙ rw (time, place-odd i))
-          (stored nan (squareAt f) v (2 * i) a h0 (ea ∙ rw (time, place-even i)) (all .is)) k (omega arith);
+          λ k l. stored nan (squareAt f h s) (set v (2 * i) a) (2 * i + 1) b h1 (eb ∙ rw (time, place-odd h s i))
+          (stored nan (squareAt f h s) v (2 * i) a h0 (ea ∙ rw (time, place-even h s i)) (all .is)) k (omega arith);
     }
 
-pub last-square : (f : ArclenFunctor) (v : List Float) (t a : Float) → t ≡ timeAt tenth 10 → Squares f v 20 →
-    a ≡ squareNormOf (derivOf f t) → Squares f (set v 20 a) 21
-last-square f v t a time all ea =
-    record { long = simp length-set (all .long); is = stored nan (squareAt f) v 20 a (omega (arith, all .long)) (ea ∙ rw (time, place-even 10)) (all .is) }
+pub last-square : (f : ArclenFunctor) (h s : Float) (v : List Float) (t a : Float) → t ≡ timeFrom h s 10 → Squares f h s v 20 →
+    a ≡ squareNormOf (derivOf f t) → Squares f h s (set v 20 a) 21
+last-square f h s v t a time all ea =
+    record { long = simp length-set (all .long); is = stored nan (squareAt f h s) v 20 a (omega (arith, all .long)) (ea ∙ rw (time, place-even h s 10)) (all .is) }
 
 -- ---- the roots
 
@@ -106,19 +115,37 @@ one-tested a t less e =
     record { given = t .given; long = simp length-set (t .long); most = omega arith; done = root-more a (t .long) less e (t .done) }
 
 -- ---- the speeds
-pub record Speeds (f : ArclenFunctor) (v : List Float) : Type 0 where
-  pub is : (k : ℕ) → k < 21 → getD v k nan ≡ speedOf f (placeAt k)
 
-pub speeds : {f : ArclenFunctor} {w v : List Float} → Squares f w 21 → Roots w v 21 → Speeds f v
+pub speeds-ready : {f : ArclenFunctor} {h t : Float} {w v : List Float} → Squares f h t w 21 → Roots w v 21 → Ready f h t v 0
 unfolding speedOf
-speeds s r = record { is = λ k h. r .is k h ∙ rw (s .is k h) }
+speeds-ready s r =
+    record {
+      is = λ k less.
+          let all : 2 * 0 + k ≡ k = omega arith in
+          let low : k < 21 = omega arith in
+          rw all (r .is k low ∙ rw (s .is k low));
+    }
 
-module _ {f : ArclenFunctor} {v : List Float} (all : Speeds f v) (i : ℕ) (t : Float) (less : i < 10) (time : t ≡ timeAt tenth i) where
-  pub speed-first : getD v (2 * i) nan ≡ speedOf f t
-  speed-first = all .is (2 * i) (omega arith) ∙ rw (place-even i, time)
+module _ {f : ArclenFunctor} {h t : Float} {v : List Float} {i : ℕ} (now : Ready f h t v i) where
+  pub speed-first : i < 10 → getD v (2 * i) nan ≡ speedOf f t
+  unfolding placeAt timeFrom
+  speed-first less =
+      let same : 2 * i ≡ 2 * i + 0 = omega arith in
+      rw same (now .is 0 (omega arith))
 
-  pub speed-middle : getD v (2 * i + 1) nan ≡ speedOf f (add binary64 t (halfOf tenth))
-  speed-middle = all .is (2 * i + 1) (omega arith) ∙ rw (place-odd i, time)
+  pub speed-middle : i < 10 → getD v (2 * i + 1) nan ≡ speedOf f (add binary64 t (halfOf h))
+  unfolding placeAt timeFrom
+  speed-middle less = now .is 1 (omega arith)
 
-  pub speed-last : getD v (2 * i + 2) nan ≡ speedOf f (add binary64 t tenth)
-  speed-last = all .is (2 * i + 2) (omega arith) ∙ rw (place-next i, time)
+  pub speed-last : i < 10 → getD v (2 * i + 2) nan ≡ speedOf f (add binary64 t h)
+  unfolding placeAt timeFrom
+  speed-last less = now .is 2 (omega arith)
+
+  -- for the next step
+  pub ready-next : Ready f h (add binary64 t h) v (i + 1)
+  ready-next =
+      record {
+        is = λ k less.
+            let same : 2 * (i + 1) + k ≡ 2 * i + (k + 2) = omega arith in
+            rw (same, ← place-later h t k) (now .is (k + 2) (omega arith));
+      }

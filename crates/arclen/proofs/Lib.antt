@@ -2,5 +2,5 @@
 pub mod Laws
 pub mod Again
 mod Walking
-mod Filling
+pub mod Filling
 mod Values

@@ -1,6 +1,6 @@
 -- How the code goes along a quad: a root that is known is not taken again, and the 40 stages of ten steps, four to a step, are written down.
 -- Definitions only, for the contracts.
-use Prim.Native.Nat.{ℕ, zero, suc, _/_, _%_, _<_}
+use Prim.Native.Nat.{ℕ, zero, suc, _+_, _*_, _/_, _%_, _<_}
 use mathlib.Core.Path.{_≡_}
 use mathlib.Core.List.{List, [], _∷_}
 use lib.ListN.{length, getD}
@@ -37,18 +37,27 @@ unfoldable pub lengthAt : ArclenFunctor → ℕ → Float
 lengthAt f zero = nought
 lengthAt f (suc i) = rk4One f tenth (timeAt tenth i) (lengthAt f i)
 
--- the time at the place k of 21: where the step k / 2 starts, or in its middle
-abbrev pub within : Float → ℕ → Float
-within t zero = t
-within t (suc j) = add binary64 t (halfOf tenth)
+-- the time after i steps of h from t on
+unfoldable pub timeFrom : Float → Float → ℕ → Float
+timeFrom h t zero = t
+timeFrom h t (suc i) = timeFrom h (add binary64 t h) i
 
-unfoldable pub placeAt : ℕ → Float
-placeAt k = within (timeAt tenth (k / 2)) (k % 2)
+-- the time at the place k of 21, for ten steps of h from t on: where the step k / 2 starts, or in its middle
+abbrev pub within : Float → Float → ℕ → Float
+within h t zero = t
+within h t (suc j) = add binary64 t (halfOf h)
+
+unfoldable pub placeAt : Float → Float → ℕ → Float
+placeAt h t k = within h (timeFrom h t (k / 2)) (k % 2)
 
 -- below k of 21 places the squares of the speeds are written
-pub record Squares (f : ArclenFunctor) (v : List Float) (k : ℕ) : Type 0 where
+pub record Squares (f : ArclenFunctor) (h t : Float) (v : List Float) (k : ℕ) : Type 0 where
   pub long : length v ≡ 21
-  pub is : (j : ℕ) → j < k → getD v j nan ≡ squareNormOf (derivOf f (placeAt j))
+  pub is : (j : ℕ) → j < k → getD v j nan ≡ squareNormOf (derivOf f (placeAt h t j))
+
+-- from the step i of ten on, which starts at t, the speeds are written
+pub record Ready (f : ArclenFunctor) (h t : Float) (v : List Float) (i : ℕ) : Type 0 where
+  pub is : (k : ℕ) → 2 * i + k < 21 → getD v (2 * i + k) nan ≡ speedOf f (placeAt h t k)
 
 -- below k the roots of what w holds are written
 pub record Roots (w v : List Float) (k : ℕ) : Type 0 where

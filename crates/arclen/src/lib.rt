@@ -6,7 +6,7 @@ ghost use mathlib.Core.Path.{_≡_};
 ghost use lib.ListN.{length};
 ghost use Rattle.arclen.specs.Rk4.{grownBy};
 ghost use Rattle.arclen.specs.Arclen.{arclenFunctorOf, derivOf, arclenOf};
-ghost use Rattle.arclen.specs.Stages.{Paced, paceWith, paceOf, reachedBy, Squares, Roots, Walked};
+ghost use Rattle.arclen.specs.Stages.{Paced, paceWith, paceOf, reachedBy, Squares, Ready, Roots, Walked};
 ghost use Rattle.geometry.specs.Geometry.{squareNormOf};
 use geometry::Point;
 use geometry::Quad;
@@ -120,14 +120,13 @@ pub fn rk4(f: ArclenFunctor, h: f64, t: f64, from: Reached) -> Reached
     Reached { length, pace }
 }
 
-// Writes the squares of the 21 speeds: those where a step starts at the even places, and those in its
-// middle at the odd ones.
-fn fill_squares(f: ArclenFunctor, v: &mut [f64; 21])
+// Writes the squares of the 21 speeds of ten steps of h from t on: those where a step starts at the even
+// places, and those in its middle at the odd ones.
+fn fill_squares(f: ArclenFunctor, h: f64, t: f64, v: &mut [f64; 21])
     requires { ⌜ length (now v) ≡ 21 ⌝ }
-    ensures { λ r. ⌜ Squares f (now (v .exit)) 21 ⌝ }
+    ensures { λ r. ⌜ Squares f h t (now (v .exit)) 21 ⌝ }
 {
-    let h = 1.0 / 10.0;
-    let mut time = 0.0;
+    let mut time = t;
     let mut i = 0usize;
     while i < 10 {
         let first = f.square(time);
@@ -192,6 +191,18 @@ fn fill_speeds(w: &[f64; 21], v: &mut [f64; 21])
     fill_by_guesses(w, v);
 }
 
+// The 21 speeds of ten steps of h from t on. The steps of a length and those between samples take theirs
+// from here.
+pub fn speeds(f: ArclenFunctor, h: f64, t: f64) -> [f64; 21]
+    ensures { λ r. ⌜ Ready f h t r 0 ⌝ }
+{
+    let mut w = [0.0; 21];
+    fill_squares(f, h, t, &mut w);
+    let mut v = [0.0; 21];
+    fill_speeds(&w, &mut v);
+    v
+}
+
 // Ten steps along a quad: writes the 40 stages, each with its time, the speed there and the length that
 // RK4 takes to be reached there, and gives the length.
 pub fn walk(f: ArclenFunctor, stages: &mut [[f64; 3]; 40]) -> f64
@@ -199,10 +210,7 @@ pub fn walk(f: ArclenFunctor, stages: &mut [[f64; 3]; 40]) -> f64
     ensures { λ r. ⌜ Walked f (now (stages .exit)) r ⌝ }
 {
     let h = 1.0 / 10.0;
-    let mut w = [0.0; 21];
-    fill_squares(f, &mut w);
-    let mut v = [0.0; 21];
-    fill_speeds(&w, &mut v);
+    let v = speeds(f, h, 0.0);
     let mut t = 0.0;
     let mut y = 0.0;
     let mut i = 0usize;

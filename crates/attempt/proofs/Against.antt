@@ -1,11 +1,12 @@
 -- An answer against an attempt: which of the two is kept. Assumes nothing.
 use Prim.Native.Nat.{ℕ}
-use mathlib.Core.Bool.{Bool, true, false}
+use mathlib.Core.Bool.{Bool, true, false, _&&_, _||_}
 use mathlib.Core.Path.{_≡_, refl, sym, _∙_}
 use borrow.Author.Tests.{ne-eqb}
 use lib.Dec.{T, eqb}
-use lib.Ieee.{Float, lt}
-use Rattle.float.specs.Numbers.{nought}
+use lib.Ieee.{Float, binary64, add, mul, lt}
+use Rattle.float.specs.Numbers.{nought, one, two}
+use Rattle.geometry.specs.Geometry.{isLine, isSmooth}
 use Rattle.geometry.specs.declared.Quad.{Quad}
 use Rattle.measure.specs.NotNegative.{notNegative}
 use Rattle.measure.specs.Early.{Beyond, Judges}
@@ -13,9 +14,17 @@ use Rattle.measure.specs.declared.Measured.{Measured}
 use Rattle.measure.specs.declared.Judged.{Judged}
 use Rattle.measure.specs.declared.Judged.the-variants as Judging
 use Rattle.attempt.specs.declared.answer.Answer as A
-use Rattle.attempt.specs.Answers.{totalOf}
-use Rattle.attempt.specs.Value.{bestOf, orElse, newAnswer, combineOf, baseOf, Makes}
+use Rattle.attempt.specs.Answers.{isCurve, smoothAfter, oneOrTwo, totalOf}
+use Rattle.attempt.specs.Value.{bestIf, bestOf, orElse, newAnswer, combineOf, baseOf, Makes}
 use Rattle.attempt.proofs.Order.{no-less}
+
+-- a joint with an answer is smooth where this is a curve and the joint of the two quads is
+pub smooth-on : (x : A.Answer) (q : Quad) (t : Bool) → t ≡ isCurve (bestOf x) → (t && isSmooth (x .quad) q) ≡ smoothAfter (bestOf x) q
+smooth-on x q t e = rw e (go (eqb (x .link) 0))
+  where
+    go : (none : Bool) → (isCurve (bestIf none x) && isSmooth (x .quad) q) ≡ smoothAfter (bestIf none x) q
+    go true = refl
+    go false = refl
 
 -- ---- an answer against an attempt with the score s
 
@@ -43,19 +52,22 @@ ended old previous q penalty x n base r e told some is = go (rw e at told)
     go : Beyond x n base (old .score) → Makes x n old previous q penalty old 0
     go b = record { error = b .error; is = b .is; same = kept old previous (b .error) q penalty some (rw is at (b .most)); fell = sym (b .none) }
 
--- an answer stays where an attempt with no error would not replace it
-module _ (old previous : A.Answer) (q : Quad) (penalty least : Float) (e : least ≡ totalOf (bestOf previous) q nought penalty) (above : lt nought least ≡ true) (most : lt least (old .score) ≡ false) where
-  not-less : (measure : Float) → T (notNegative measure) → lt (totalOf (bestOf previous) q measure penalty) (old .score) ≡ false
-  not-less measure p = go (lt (totalOf (bestOf previous) q measure penalty) (old .score)) refl
-    where
-      go : (t : Bool) → lt (totalOf (bestOf previous) q measure penalty) (old .score) ≡ t → t ≡ false
-      go true k = sym (no-less _ measure (old .score) (rw e at above) p k) ∙ (rw e at most)
-      go false k = refl
+-- a score is not less than a limit where it would not be with no error
+pub not-less : (x least limit : Float) → least ≡ add binary64 x nought → lt nought least ≡ true → lt least limit ≡ false →
+    (measure : Float) → T (notNegative measure) → lt (add binary64 x measure) limit ≡ false
+not-less x least limit e above most measure p = go (lt (add binary64 x measure) limit) refl
+  where
+    go : (t : Bool) → lt (add binary64 x measure) limit ≡ t → t ≡ false
+    go true k = sym (no-less x measure limit (rw e at above) p k) ∙ (rw e at most)
+    go false k = refl
 
-  pub remains : (old .link ≡ 0 → ⊥) → (measure : Float) → T (notNegative measure) → combineOf old previous measure q penalty ≡ old
-  unfolding combineOf
-  remains some measure p = rw (ne-eqb (old .link) 0 some, not-less measure p) (either (eqb (previous .name) 0))
-    where
-      either : (t : Bool) → orElse t old old ≡ old
-      either true = refl
-      either false = refl
+-- so it is of every piece that is built on an answer, where it is of the two joints
+pub at-each-joint : (x : A.Answer) (limit penalty : Float) → (x .link ≡ 0 → ⊥) →
+    ((measure : Float) → T (notNegative measure) → lt (add binary64 (add binary64 (x .score) (mul binary64 penalty one)) measure) limit ≡ false) →
+    ((measure : Float) → T (notNegative measure) → lt (add binary64 (add binary64 (x .score) (mul binary64 penalty two)) measure) limit ≡ false) →
+    (q : Quad) (measure : Float) → T (notNegative measure) → lt (totalOf (bestOf x) q measure penalty) limit ≡ false
+at-each-joint x limit penalty some with-one with-two q measure p = rw (ne-eqb (x .link) 0 some) (go (isLine q || smoothAfter (bestIf false x) q))
+  where
+    go : (t : Bool) → lt (add binary64 (add binary64 (x .score) (mul binary64 penalty (oneOrTwo t))) measure) limit ≡ false
+    go true = with-one measure p
+    go false = with-two measure p

@@ -32,10 +32,15 @@ pub data Best : Type 0 where
 
 -- ---- one attempt: a piece from a break where `previous` stands
 
+-- an answer whose last piece is a curve
+abbrev pub isCurve : Best → Bool
+isCurve none = false
+isCurve (best a) = not (isLine (legOf a .quad))
+
 -- a smooth joint of two curves
 abbrev pub smoothAfter : Best → Quad → Bool
 smoothAfter none q = false
-smoothAfter (best a) q = not (isLine (legOf a .quad)) && isSmooth (legOf a .quad) q
+smoothAfter (best a) q = isCurve (best a) && isSmooth (legOf a .quad) q
 
 -- `ok_for_half`: a piece that starts off whole units is curved and goes on smoothly from a curve
 abbrev pub okForHalf : Best → Quad → Bool

@@ -1,11 +1,12 @@
 // The answer at a break, by value.
 use geometry::Quad;
 ghost use mathlib.Core.Path.{_≡_};
-ghost use mathlib.Core.Bool.{true};
+ghost use mathlib.Core.Bool.{true, false};
 ghost use lib.Dec.{T};
-ghost use lib.Ieee.{Float};
+ghost use lib.Ieee.{Float, binary64, add, lt};
+ghost use Rattle.float.specs.Numbers.{nought};
 ghost use Rattle.measure.specs.NotNegative.{notNegative};
-ghost use Rattle.attempt.specs.Answers.{smoothAfter, okForHalf, jointOf, totalOf};
+ghost use Rattle.attempt.specs.Answers.{isCurve, smoothAfter, okForHalf, jointOf, totalOf};
 ghost use Rattle.attempt.specs.Value.{bestOf, combineOf, baseOf, nothingAt};
 
 pub struct Answer {
@@ -15,6 +16,16 @@ pub struct Answer {
     pub link: u32,
     pub score: f64,
     pub quad: Quad,
+}
+
+// Whether no error makes a score less than the limit that is so much with none: an error is not negative.
+fn out_of_reach(least: f64, limit: f64) -> bool
+    ensures { λ r. ⌜ (r ≡ true → (x measure : Float) → least ≡ add binary64 x nought → T (notNegative measure) → lt (add binary64 x measure) limit ≡ false) ⌝ }
+{
+    if least > 0.0 {
+        return !(least < limit);
+    }
+    false
 }
 
 impl Answer {
@@ -30,18 +41,24 @@ impl Answer {
         }
     }
 
-    // Whether a quad goes on from this one, both curves, with a smooth joint.
-    pub fn goes_on(self, q: Quad) -> bool
-        ensures { λ r. ⌜ r ≡ smoothAfter (bestOf self) q ⌝ }
+    // Whether this is an answer whose last piece is a curve.
+    pub fn is_curve(self) -> bool
+        ensures { λ r. ⌜ r ≡ isCurve (bestOf self) ⌝ }
     {
         if self.link == 0 {
             return false;
         }
-        let p = self.quad;
-        if p.is_line() {
-            return false;
+        !self.quad.is_line()
+    }
+
+    // Whether a quad goes on from this one, both curves, with a smooth joint.
+    pub fn goes_on(self, q: Quad) -> bool
+        ensures { λ r. ⌜ r ≡ smoothAfter (bestOf self) q ⌝ }
+    {
+        if self.is_curve() {
+            return self.quad.is_smooth(q);
         }
-        p.is_smooth(q)
+        false
     }
 
     // Whether a bent piece may be built on this.
@@ -119,9 +136,19 @@ impl Answer {
         if self.link == 0 {
             return false;
         }
-        let least = previous.total(quad, 0.0, penalty);
-        if least > 0.0 {
-            return !(least < self.score);
+        out_of_reach(previous.total(quad, 0.0, penalty), self.score)
+    }
+
+    // Whether no piece that is built on this scores less than the limit, whatever its quad and its error are: with no
+    // error it scores one penalty more than this, or two.
+    pub fn never_below(self, limit: f64, penalty: f64) -> bool
+        ensures { λ r. ⌜ (r ≡ true → (q : Quad) (measure : Float) → T (notNegative measure) → lt (totalOf (bestOf self) q measure penalty) limit ≡ false) ⌝ }
+    {
+        if self.link == 0 {
+            return false;
+        }
+        if out_of_reach(self.score + penalty * 1.0 + 0.0, limit) {
+            return out_of_reach(self.score + penalty * 2.0 + 0.0, limit);
         }
         false
     }

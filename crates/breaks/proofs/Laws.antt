@@ -17,6 +17,7 @@ use Rattle.lookup.specs.Lookup.{Found, found, xyAt, dirAt, spotAt}
 use Rattle.lookup.specs.declared.Spot.{Spot}
 use Rattle.lookup.specs.declared.Looked.the-variants as Looked
 use Rattle.float.specs.Numbers.{nought}
+use Rattle.float.specs.Float.{rootOf}
 use Rattle.breaks.specs.Breaks.{Row, packedOf, breakAt, placesOf, lengthAt, placed, placeAt, placeOf, Finding, so, full, opened, opens, joinOf, stepped, walk, breaks, runBreaksOf, breaksOf}
 use Rattle.breaks.specs.declared.Progress.{Progress}
 use Rattle.breaks.specs.declared.Grid.{Grid}
@@ -156,9 +157,9 @@ pub record Seeking (samples : List (List Float)) (len : Float) (g : Grid) (n : �
   pub long : length row ≡ length row₀
   pub inside : p .count ≤ length row₀
   pub rows : walk (suc n) (length row₀) (placeOf samples g len) 0 (so [] nought)
-      ≡ walk (suc n - i) (length row₀) (placeOf samples g len) i (so (take (p .count) row) (p .opened))
+      ≡ walk (suc n - i) (length row₀) (placeOf samples g len) i (so (take (p .count) row) (rootOf (p .opened)))
 
-pub seek : (samples : List (List Float)) (len : Float) (g : Grid) (n : ℕ) (row : Row) (p : Progress) → n ≡ placesOf len → p .count ≡ 0 → p .opened ≡ nought → Seeking samples len g n row row p 0
+pub seek : (samples : List (List Float)) (len : Float) (g : Grid) (n : ℕ) (row : Row) (p : Progress) → n ≡ placesOf len → p .count ≡ 0 → rootOf (p .opened) ≡ nought → Seeking samples len g n row row p 0
 seek samples len g n row p e none fresh =
     let all : suc n - 0 ≡ suc n = omega arith in
     record { last-place = e; long = refl; inside = omega arith; rows = rw (all, none, fresh) refl }
@@ -166,11 +167,11 @@ seek samples len g n row p e none fresh =
 module _ {samples : List (List Float)} {len : Float} {g : Grid} {n : ℕ} {row₀ row : Row} {p : Progress} {i : ℕ} (s : Seeking samples len g n row₀ row p i) where
   next : {pl : P.Placed} → i ≤ n → pl ≡ placeAt samples g (lengthAt len n i) →
       walk (suc n) (length row₀) (placeOf samples g len) 0 (so [] nought)
-      ≡ walk (suc n - (i + 1)) (length row₀) (placeOf samples g len) (i + 1) (stepped (length row) (so (take (p .count) row) (p .opened)) pl)
+      ≡ walk (suc n - (i + 1)) (length row₀) (placeOf samples g len) (i + 1) (stepped (length row) (so (take (p .count) row) (rootOf (p .opened))) pl)
   next h is = s .rows ∙ goes n (length row₀) (placeOf samples g len) i _ h ∙ rw (is, s .long, s .last-place) refl
 
   pub seeks : {pl : P.Placed} {row' : Row} {q : Progress} → i ≤ n → pl ≡ placeAt samples g (lengthAt len n i) →
-      stepped (length row) (so (take (p .count) row) (p .opened)) pl ≡ so (take (q .count) row') (q .opened) →
+      stepped (length row) (so (take (p .count) row) (rootOf (p .opened))) pl ≡ so (take (q .count) row') (rootOf (q .opened)) →
       length row' ≡ length row → q .count ≤ length row → Seeking samples len g n row₀ row' q (i + 1)
   seeks h is steps same few = record {
     last-place = s .last-place;
@@ -181,10 +182,10 @@ module _ {samples : List (List Float)} {len : Float} {g : Grid} {n : ℕ} {row�
 
   -- a place that ends the search
   pub seeks-no-more : {pl : P.Placed} (f : Finding) → ((room : ℕ) (pl : P.Placed) → stepped room f pl ≡ f) → i ≤ n → pl ≡ placeAt samples g (lengthAt len n i) →
-      stepped (length row) (so (take (p .count) row) (p .opened)) pl ≡ f → breaksOf (length row₀) samples g len ≡ runBreaksOf f
+      stepped (length row) (so (take (p .count) row) (rootOf (p .opened))) pl ≡ f → breaksOf (length row₀) samples g len ≡ runBreaksOf f
   unfolding breaksOf
   seeks-no-more f stuck h is steps = rw (← s .last-place, next h is, steps, stays (suc n - (i + 1)) (length row₀) (placeOf samples g len) (i + 1) f (stuck (length row₀))) refl
 
   pub sought : n < i → breaksOf (length row₀) samples g len ≡ breaks (take (p .count) row)
   unfolding breaksOf
-  sought h = rw (← s .last-place, s .rows, done n (length row₀) (placeOf samples g len) i (so (take (p .count) row) (p .opened)) h) refl
+  sought h = rw (← s .last-place, s .rows, done n (length row₀) (placeOf samples g len) i (so (take (p .count) row) (rootOf (p .opened))) h) refl

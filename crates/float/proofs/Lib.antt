@@ -9,6 +9,8 @@ pub mod Zeros
 mod Whole
 pub mod Squares
 pub mod Scaled
+pub mod Less
+pub mod NearRoot
 pub mod Pattern
 pub mod Read
 pub mod Table

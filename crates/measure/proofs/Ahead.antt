@@ -48,7 +48,7 @@ use Rattle.arclen.specs.declared.ArclenFunctor.{ArclenFunctor}
 use Rattle.arclen.proofs.Laws.{is-longer, length-whole}
 use Rattle.geometry.specs.declared.Quad.{Quad}
 use Rattle.measure.specs.Measure.{alongSamples, stretchOf, measureFunctorOf}
-use Rattle.measure.specs.NotNegative.{Measurable}
+use Rattle.measure.specs.Early.{Shows}
 use Rattle.measure.specs.Ahead.{leastGap, mostGap, WellBefore}
 use Rattle.measure.proofs.Signs.{
   NotNegative,
@@ -65,7 +65,7 @@ use Rattle.measure.proofs.Signs.{
   grown-plus,
 }
 use Rattle.measure.proofs.Climb.{adding}
-use Rattle.measure.proofs.Sure.{place-inside, answered, measurable}
+use Rattle.measure.proofs.Sure.{place-inside, answered}
 use Rattle.measure.proofs.Nearly.{
   Near,
   grain,
@@ -169,11 +169,11 @@ half-is : Ratio (halfOf tenth) 3602879701896397 72057594037927936
 unfolding ofBits div mul round
 half-is = ratio 3602879701896397 (negsuc 55) (pow-pos 56) refl
 
-sixth-is : Ratio (div binary64 tenth six) 4803839602528529 288230376151711744
+pub sixth-is : Ratio (div binary64 tenth six) 4803839602528529 288230376151711744
 unfolding ofBits div round
 sixth-is = ratio 4803839602528529 (negsuc 57) (pow-pos 58) refl
 
-two-is : Ratio two 2 1
+pub two-is : Ratio two 2 1
 unfolding ofBits
 two-is = ratio 1 (pos 1) (pow-pos 0) refl
 
@@ -449,11 +449,11 @@ not-close {x} {l} r f h =
     less-digits grain l (less-false (level-ratio (plus-zero x f (ratio-finite r) (minus-zero (is-zero false))) r) tiny-is h)
 
 -- ---- how far s1 is ahead of s0
-record Gap (x : Float) : Type 0 where
-  size : ℕ
-  value : Ratio x size grain
-  least : grain ≤ size * 1024
-  most : size ≤ 16777216 * grain
+pub record Gap (x : Float) : Type 0 where
+  pub size : ℕ
+  pub value : Ratio x size grain
+  pub least : grain ≤ size * 1024
+  pub most : size ≤ 16777216 * grain
 
 pub least-is : Ratio leastGap 1 1024
 unfolding ofBits
@@ -469,7 +469,7 @@ gap-of s h k =
     let less = less-true (s .value) most-is k in
     record { size = s .size; value = s .value; least = omega arith; most = omega arith }
 
-gap : (x : Float) → T (fits binary64 x) → lt leastGap x ≡ true → lt x mostGap ≡ true → Gap x
+pub gap : (x : Float) → T (fits binary64 x) → lt leastGap x ≡ true → lt x mostGap ≡ true → Gap x
 gap nan f h k = absurd (unfold lt in false≢true k)
 gap (inf true) f h k = absurd (unfold lt ofBits in false≢true h)
 gap (inf false) f h k = absurd (unfold lt ofBits in false≢true k)
@@ -725,11 +725,11 @@ module _ {row : List (List Float)} {s0 s1 factor : Float} (w : WellBefore row s0
       let f = arclenFunctorOf q in
       rw (stages-written f .is j less, ← length-whole q f (lengthAt f 10) refl refl) (place (product-plus f j between) (stage-short f k shares j less between))
 
-  pub seen-by : (q : Quad) → Shares (arclenFunctorOf q) E → Measurable row s0 s1 q
+  pub seen-by : (q : Quad) → Shares (arclenFunctorOf q) E → Shows row s0 s1 q
   seen-by q shares =
-      measurable row s0 s1 q (measureFunctorOf s0 s1 q) (stages-of (arclenFunctorOf q)) refl (stages-written (arclenFunctorOf q))
-      (answered row (measureFunctorOf s0 s1 q) (stages-of (arclenFunctorOf q)) (along q shares))
+      let stages = stages-of (arclenFunctorOf q) in
+      record { stages = stages; written = stages-written (arclenFunctorOf q); shown = answered row (measureFunctorOf s0 s1 q) stages (along q shares) }
 
 -- whatever the quad's shape
-pub seen-any : (row : List (List Float)) (s0 s1 : Float) (q : Quad) → WellBefore row s0 s1 thrice → Measurable row s0 s1 q
+pub seen-any : (row : List (List Float)) (s0 s1 : Float) (q : Quad) → WellBefore row s0 s1 thrice → Shows row s0 s1 q
 seen-any row s0 s1 q w = seen-by w thrice-is q (any-shares (arclenFunctorOf q))

@@ -60,7 +60,7 @@ le-lt (fin true r g) (number m e) (number n d) h k = absurd (false≢true k)
 le-lt (fin false r g) (number m e) (number n d) h k =
     lt-ltb _ _ (strictly (m * up e) (n * up d) (r * up g) (down e) (down d) (down g) (down-pos e) (at-most _ _ h) (ltb-true _ _ k))
 
-rounded : (a c : ℕ) → NotNegative (round binary64 false a c)
+pub rounded : (a c : ℕ) → NotNegative (round binary64 false a c)
 rounded a c = plus-by (round binary64 false a c) (rw (round-plus binary64 false a c) tt)
 
 -- of two fractions the larger, rounded, is less than z, and so is the other

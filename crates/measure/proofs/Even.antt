@@ -19,7 +19,7 @@ use Rattle.arclen.specs.Rk4.{halfOf}
 use Rattle.arclen.specs.Arclen.{tenth, arclenFunctorOf, speedOf}
 use Rattle.arclen.specs.Stages.{timeAt}
 use Rattle.arclen.specs.declared.ArclenFunctor.{ArclenFunctor}
-use Rattle.measure.specs.NotNegative.{Measurable}
+use Rattle.measure.specs.Early.{Shows}
 use Rattle.measure.specs.Ahead.{four, nearlyTwo, mostSquare, squareAt, WellBefore, EvenStep, Even}
 use Rattle.measure.proofs.Signs.{NotNegative, no-number, endless, number, add-plus, mul-plus, squares-plus}
 use Rattle.measure.proofs.Climb.{none-above}
@@ -60,17 +60,17 @@ most-is : Ratio mostSquare 1152921504606846976 1
 unfolding ofBits
 most-is = ratio 1 (pos 60) (pow-pos 0) refl
 
-room : 18446744073709551616 * grain ≤ top
+pub room : 18446744073709551616 * grain ≤ top
 unfolding grain top
 room = lit≤ tt
 
 -- what is less than another is a number
-less-finite : {x : Float} (z : Float) → NotNegative x → lt x z ≡ true → T (finite x)
+pub less-finite : {x : Float} (z : Float) → NotNegative x → lt x z ≡ true → T (finite x)
 less-finite z no-number h = absurd (unfold lt in false≢true h)
 less-finite z endless h = absurd (none-above z h)
 less-finite z (number m e) h = tt
 
-size-of : {x : Float} → NotNegative x → T (fits binary64 x) → T (finite x) → Sized x
+pub size-of : {x : Float} → NotNegative x → T (fits binary64 x) → T (finite x) → Sized x
 size-of no-number f h = absurd h
 size-of endless f h = absurd h
 size-of (number m e) f h = sized m e f
@@ -181,5 +181,5 @@ eighth-is : Factor 1220 eighth
 unfolding ofBits
 eighth-is = record { num = 9; den = 8; some = pow-pos 3; value = ratio 9 (negsuc 2) (pow-pos 3) refl; over = lit≤ tt }
 
-pub seen-even : (row : List (List Float)) (s0 s1 : Float) (q : Quad) → WellBefore row s0 s1 eighth → Even (arclenFunctorOf q) 10 → Measurable row s0 s1 q
+pub seen-even : (row : List (List Float)) (s0 s1 : Float) (q : Quad) → WellBefore row s0 s1 eighth → Even (arclenFunctorOf q) 10 → Shows row s0 s1 q
 seen-even row s0 s1 q w even = seen-by w eighth-is q (even-shares (arclenFunctorOf q) even)

@@ -111,6 +111,14 @@ module _ (old prev : Best) (p : Leg) (m penalty : Float) where
     unfolding combined
     combined-old e = rw (may, e) refl
 
+  -- whether a piece may be built there or not
+  pub combined-kept : isLess (totalOf prev (p .quad) m penalty) old ≡ false → combined old prev p m penalty ≡ old
+  combined-kept e = go (mayBuild (p .from) prev) refl
+    where
+      go : (may : Bool) → mayBuild (p .from) prev ≡ may → combined old prev p m penalty ≡ old
+      go true may = combined-old may e
+      go false may = combined-nothing may
+
 -- ---- a store for a pair (i, j)
 
 -- the place that is written is the newest of break j: its second, or its first where there is no second

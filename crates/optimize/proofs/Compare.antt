@@ -1,8 +1,9 @@
--- `le` and `lt` on floats that are no NaN: `le` is reflexive and transitive, and where x is not less than y, y is at most x. Assumes nothing.
+-- `le` and `lt` on floats that are no NaN: `le` is reflexive and transitive, where x is not less than y, y is at most x, and `lt` goes through both.
+-- Assumes nothing.
 use Prim.Native.Nat.{ℕ, zero, suc, _+_, _*_, _≤_, _<_}
 use mathlib.Core.Bool.{Bool, true, false, _&&_, _||_, false≢true, true≢false}
 use mathlib.Core.Logic.{_⊎_, inl, inr}
-use mathlib.Core.Path.{_≡_, refl}
+use mathlib.Core.Path.{_≡_, refl, subst}
 use native.Mathlib.Nat.{zero-lt-suc, mul-pos, eq-or-lt-of-le, eq-zero-or-pos}
 use native.Mathlib.Omega.{arith}
 use borrow.Author.Tests.{ltb-false, eq-eqb}
@@ -10,6 +11,7 @@ use lib.Dec.{T, ltb, eqb, ltb→lt, lt→ltb, eqb→eq}
 use lib.Ieee.{Float, nan, inf, fin, up, down, below, level, lt, eq, le, isNan}
 use lib.Ieee.Fits.{down-pos}
 use lib.Ieee.Positive.{through}
+use Rattle.float.proofs.Less.{not-less}
 
 or-left : (a b : Bool) → T a → T (a || b)
 or-left true b t = tt
@@ -184,3 +186,32 @@ not-lt-le (fin s m e) (inf true) a b h = tt
 not-lt-le (fin s m e) (inf false) a b h = absurd (true≢false h)
 not-lt-le (fin s m e) (fin t n d) a b h =
     le-of t s (n * up d * down e) (m * up e * down d) (not-below s t (m * up e * down d) (n * up d * down e) h)
+
+-- ---- `lt` through a third
+
+lt-right : (x y : Float) → lt x y ≡ true → isNan y ≡ false
+lt-right x y h = right-number x y (lt-le x y h)
+
+lt-not-ge : (x y : Float) → lt x y ≡ true → T (le y x) → ⊥
+lt-not-ge x y h k = subst T (not-less x y h) k
+
+pub lt-self : (x : Float) → lt x x ≡ false
+lt-self x = go (lt x x) refl
+  where
+    go : (t : Bool) → lt x x ≡ t → t ≡ false
+    go true h = absurd (lt-not-ge x x h (lt-le x x h))
+    go false h = refl
+
+lt-then-le : (x y z : Float) → lt x y ≡ true → T (le y z) → lt x z ≡ true
+lt-then-le x y z h k = go (lt x z) refl
+  where
+    go : (t : Bool) → lt x z ≡ t → t ≡ true
+    go true l = refl
+    go false l = absurd (lt-not-ge x y h (le-through y z x k (not-lt-le x z (lt-number x y h) (right-number y z k) l)))
+
+pub lt-lt : (x y z : Float) → lt x y ≡ true → lt y z ≡ true → lt x z ≡ true
+lt-lt x y z h k = lt-then-le x y z h (lt-le y z k)
+
+-- x is less than y, z is a number that is not less than y
+pub lt-beyond : (x y z : Float) → isNan z ≡ false → lt x y ≡ true → lt z y ≡ false → lt x z ≡ true
+lt-beyond x y z number h k = lt-then-le x y z h (not-lt-le z y number (lt-right x y h) k)

@@ -1,10 +1,12 @@
--- What the proofs share, leaves first: the functions over one stored answer; what a store keeps and makes;
--- one attempt; one pair; the phases; what stands at the last break; rows with no answer yet; a run with one break, which `pieces` cites.
+-- What the proofs share, leaves first: the functions over one stored answer; what a store keeps and makes; one attempt; one pair;
+-- the phases; pairs that are passed over; what stands at the last break; rows with no answer yet; a run with one break, which `pieces` cites.
 mod Leaves
 mod Held
 mod Attempt
 mod Trying
 mod Phases
+mod Idle
+mod Marking
 mod Solving
 mod Fresh
 pub mod FewFall

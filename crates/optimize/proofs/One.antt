@@ -1,7 +1,7 @@
 -- A run with one break. Assumes nothing.
 use Prim.Native.Nat.{ℕ, _+_, _-_, _≤_, _<_}
 use native.Mathlib.Omega.{arith}
-use mathlib.Core.Bool.{Bool, true, false, not, _&&_, false≢true, true≢false}
+use mathlib.Core.Bool.{true, false, false≢true, true≢false}
 use mathlib.Core.List.{List, [], _∷_}
 use mathlib.Core.Path.{_≡_, refl, sym, ap, _∙_}
 use lib.Dec.{T}
@@ -9,7 +9,7 @@ use lib.ListN.{length, set}
 use lib.Ieee.{Float, nan, inf, fin, binary64, fits, mul, lt}
 use Rattle.float.specs.Numbers.{three}
 use Rattle.float.proofs.Zeros.{plus-nan}
-use Rattle.geometry.specs.Geometry.{isLine, isWhole, roundPointOf, intersectOf}
+use Rattle.geometry.specs.Geometry.{isWhole, roundPointOf, intersectOf}
 use Rattle.geometry.specs.declared.Break.{Break}
 use Rattle.geometry.specs.declared.Crossing.{Crossing}
 use Rattle.geometry.specs.declared.Crossing.the-variants as Crossing
@@ -33,7 +33,7 @@ use Rattle.attempt.specs.Value.{bestOf, nothingAt}
 use Rattle.optimize.specs.Stored.{rowOf, Holds, Anywhere, inPlace, Spoilt, measuredOk, bendOk, bendInPlace}
 use Rattle.optimize.proofs.Held.{new-start}
 use Rattle.optimize.proofs.Solving.{optimized-by, fell-by}
-use Rattle.optimize.proofs.Trying.{quad-refused, quad-made, from-whole, from-half, fell-whole, fell-half}
+use Rattle.optimize.proofs.Trying.{quad-refused, quad-made, no-bend, from-whole, from-half, fell-whole, fell-half}
 
 -- nothing is less than a NaN, and a NaN is above nothing
 less-nan : (x : Float) → lt x nan ≡ false
@@ -43,10 +43,6 @@ less-nan (inf true) = refl
 less-nan (inf false) = refl
 less-nan (fin true m e) = refl
 less-nan (fin false m e) = refl
-
-and-false : (a : Bool) → (a && false) ≡ false
-and-false true = refl
-and-false false = refl
 
 -- an answer whose score is a NaN stays
 nan-stays : (a : Statelet) (p : Leg) (e penalty : Float) → scoreOf a ≡ nan → combined (best a) (best a) p e penalty ≡ best a
@@ -71,7 +67,7 @@ module _ (samples : List (List Float)) (bs : Row) (penalty : Float) (one : lengt
   -- off whole units nothing is tried
   off : (c : Crossing) → isWhole (breakAt bs 0 .xy) ≡ false → bentAt measure bs penalty c 0 0 (none ∷ []) ≡ states (none ∷ [])
   off Crossing.Nowhere e = refl
-  off (Crossing.At p) e = rw (e, and-false (not (isLine (bentQuad measure bs penalty 0 0 p)))) refl
+  off (Crossing.At p) e = rw (no-bend none (bentQuad measure bs penalty 0 0 p) e refl) refl
 
   bent-off : isWhole (breakAt bs 0 .xy) ≡ false → bent measure bs penalty 0 0 (none ∷ []) ≡ states (none ∷ [])
   unfolding bent
@@ -80,7 +76,7 @@ module _ (samples : List (List Float)) (bs : Row) (penalty : Float) (one : lengt
   -- nor does a lookup fall
   off-fell : (c : Crossing) → isWhole (breakAt bs 0 .xy) ≡ false → fellBentAt measure fallen bs penalty c 0 0 (none ∷ []) ≡ 0
   off-fell Crossing.Nowhere e = refl
-  off-fell (Crossing.At p) e = rw (e, and-false (not (isLine (bentQuad measure bs penalty 0 0 p)))) refl
+  off-fell (Crossing.At p) e = rw (no-bend none (bentQuad measure bs penalty 0 0 p) e refl) refl
 
   bent-off-fell : isWhole (breakAt bs 0 .xy) ≡ false → fellBent measure fallen bs penalty 0 0 (none ∷ []) ≡ 0
   unfolding fellBent

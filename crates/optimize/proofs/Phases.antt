@@ -248,6 +248,21 @@ module _ {measure : Measure} {fallen : Fallen} {penalty : Float} {n : ℕ} {bs :
         };
   }
 
+  -- the first of the pairs that are left are passed over
+  pub skips : (more : List (ℕ × ℕ)) →
+      ((st : List Best) → Rep f n bs rs ls st →
+      _≡_ {A = States × ℕ} (tryAll measure bs penalty rest (states st), fellAll measure fallen bs penalty rest (states st))
+      (tryAll measure bs penalty more (states st), fellAll measure fallen bs penalty more (states st))) →
+      Reaching measure fallen penalty n bs f₀ rs₀ ls₀ all f rs ls so-far more
+  skips more same = record {
+    same-rs = x .same-rs;
+    same-ls = x .same-ls;
+    reach = λ st rep.
+        let t = x .reach st rep in
+        let e = same (t .now) (t .rep) in
+        record { now = t .now; rep = t .rep; left = t .left ∙ ap (λ (y : States × ℕ). y .0) e; fell = t .fell ∙ ap (λ (y : States × ℕ). so-far + y .1) e };
+  }
+
   -- the count so far, and with one call more, is at most that of all pairs
   pub counts : (ps more : List (ℕ × ℕ)) {g : Phase} {rs' : List (List Float)} {ls' : List ℕ} {r : Trial} → ((i j : ℕ) (q : Quad) → fallen i j q ≤ 80) →
       rest ≡ ps ++ more → Calls g rs' ls' ps r → r .ok ≡ true → Holding f₀ n bs rs₀ ls₀ → so-far + r .fallen ≤ 160 * length all
@@ -285,6 +300,26 @@ pub alone : (measure : Measure) (fallen : Fallen) (penalty : Float) (bs : Row) (
     Becomes f n bs rs' ls' (tryAll measure bs penalty ((i, j) ∷ []) (states st)) (fellAll measure fallen bs penalty ((i, j) ∷ []) (states st)) r
 alone measure fallen penalty bs i j {f = f} {n = n} room into call st rep =
     rw (all-one measure bs penalty i j [] st ∙ all-none measure bs penalty (tryLineQuad measure bs penalty i j st), fell-one measure fallen bs penalty i j st) (call f n st room into rep)
+
+-- the next pair of the search into break i
+module _ {measure : Measure} {fallen : Fallen} {penalty : Float} {n : ℕ} {bs : Row} {f₀ : Phase} {rs₀ rs rs' : List (List Float)} {ls₀ ls ls' : List ℕ} {all : List (ℕ × ℕ)}
+    {i j so-far : ℕ} {r : Trial} (x : Reaching measure fallen penalty n bs f₀ rs₀ ls₀ all (late i) rs ls so-far (falling j i)) (h : Holding f₀ n bs rs₀ ls₀)
+    (more : 0 < j) (low : j ≤ i) (upto : i ≤ n)
+    (call : (f : Phase) (n : ℕ) (st : List Best) → Room n bs rs ls → Into f n (j - 1) i (2 * i + 1) → Rep f n bs rs ls st →
+    Becomes f n bs rs' ls' (tryLineQuad measure bs penalty (j - 1) i st) (fellPair measure fallen bs penalty (j - 1) i st) r) where
+  this : Calls x (late i) rs' ls' ((j - 1, i) ∷ []) r
+  this = alone measure fallen penalty bs (j - 1) i (holding x h .room) (into-search (j - 1) i n (omega arith) upto) call
+
+  pub next-moves : length rs' ≡ length rs → length ls' ≡ length ls → r .ok ≡ true →
+      Reaching measure fallen penalty n bs f₀ rs₀ ls₀ all (late i) rs' ls' (so-far + r .fallen) (falling (j - 1) i)
+  next-moves e e' ok = moves x ((j - 1, i) ∷ []) (falling (j - 1) i) (fall-more j i more) e e' this ok
+
+  pub next-counts : ((i j : ℕ) (q : Quad) → fallen i j q ≤ 80) → r .ok ≡ true → so-far + r .fallen ≤ 160 * length all
+  next-counts few ok = counts x ((j - 1, i) ∷ []) (falling (j - 1) i) few (fall-more j i more) this ok h
+
+  pub next-breaks-off : r .ok ≡ false → (st : List Best) → Rep f₀ n bs rs₀ ls₀ st →
+      Becomes (late i) n bs rs' ls' (tryAll measure bs penalty all (states st)) (fellAll measure fallen bs penalty all (states st)) r
+  next-breaks-off bad = breaks-off x ((j - 1, i) ∷ []) (falling (j - 1) i) (late i) (fall-more j i more) this bad
 
 pub ready : {f : Phase} {n i j k : ℕ} {bs : Row} {rs : List (List Float)} {ls : List ℕ} → Holding f n bs rs ls → Into f n i j k → Ready bs rs ls i j k
 ready {f} {n} h into = record { phase = f; last = n; st = h .st; room = h .room; into = into; rep = h .rep }

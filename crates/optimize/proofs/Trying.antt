@@ -1,12 +1,12 @@
 -- The steps of a pair, as the code takes them. Assumes nothing.
 use Prim.Native.Nat.{ℕ, _+_, _*_, _≤_, _<_}
 use native.Mathlib.Omega.{arith}
-use mathlib.Core.Bool.{Bool, true, false, false≢true, true≢false}
+use mathlib.Core.Bool.{Bool, true, false, not, _&&_, false≢true, true≢false}
 use mathlib.Core.List.{List}
-use mathlib.Core.Path.{_≡_, refl, sym, _∙_}
+use mathlib.Core.Path.{_≡_, refl, sym, ap, subst, _∙_}
 use lib.ListN.{length, set}
 use lib.Ieee.{Float}
-use Rattle.geometry.specs.Geometry.{isWhole, lineQuad, intersectOf}
+use Rattle.geometry.specs.Geometry.{isLine, isWhole, lineQuad, roundPointOf, intersectOf}
 use Rattle.geometry.specs.declared.Crossing.{Crossing}
 use Rattle.geometry.specs.declared.Crossing.the-variants as Crossing
 use Rattle.geometry.specs.declared.Break.{Break}
@@ -17,11 +17,15 @@ use Rattle.measure.specs.declared.Measure as M
 use Rattle.breaks.specs.Breaks.{Row, breakAt}
 use Rattle.attempt.specs.declared.answer.Answer as A
 use Rattle.optimize.specs.declared.Trial.{Trial}
-use Rattle.attempt.specs.Answers.{Best, okForHalf, combined}
-use Rattle.optimize.specs.Optimize.{Measure, bestAt, States, refused, states, tryQuad, bentQuad, bent, thenBent, tryLineQuad}
-use Rattle.optimize.specs.Fallen.{Fallen, fellBent, fellThenBent, fellPair}
+use Rattle.attempt.specs.Answers.{Best, none, best, isCurve, okForHalf, combined}
+use Rattle.optimize.specs.Optimize.{Measure, bestAt, States, refused, states, tryQuad, tryIf, bentQuad, bentAt, bent, thenBent, tryLineQuad}
+use Rattle.optimize.specs.Fallen.{Fallen, fellIf, fellBentAt, fellBent, fellThenBent, fellPair}
+use Rattle.optimize.specs.declared.Bend.{Bend}
+use Rattle.optimize.specs.declared.Bend.the-variants as Bending
+use Rattle.optimize.specs.Marks.{bendIf, bendAt, bendOf, Reads}
 use Rattle.attempt.specs.Value.{bestOf, combineOf}
 use Rattle.optimize.specs.Stored.{slotAt, loaded, standingAt, rowOf, Inside, Phase, Room, Into, Rep, Ready, Becomes, stops, goes}
+use Rattle.optimize.proofs.Held.{slot-break}
 use Rattle.optimize.proofs.Attempt.{readable, attempted}
 
 -- ---- one attempt
@@ -53,40 +57,105 @@ quad-of e f g = rw (e, f, g) refl
 pub half-of : {x y : A.Answer} {q r : Quad} → x ≡ y → q ≡ r → okForHalf (bestOf x) q ≡ okForHalf (bestOf y) r
 half-of e f = rw (e, f) refl
 
-module _ (measure : Measure) (breaks : Row) (penalty : Float) (i j : ℕ) (st : List Best) where
+-- off whole units none is built on what is no curve
+pub no-bend : (t : Best) (q : Quad) → isWhole (q .p0) ≡ false → isCurve t ≡ false → okForHalf t q ≡ false
+no-bend t q off plain = go t plain
+  where
+    neither : (b : Bool) → (b && false) ≡ false
+    neither true = refl
+    neither false = refl
+
+    go : (t : Best) → isCurve t ≡ false → okForHalf t q ≡ false
+    go none plain = rw off (neither (not (isLine q)))
+    go (best a) plain = rw (off, plain) (neither (not (isLine q)))
+
+module _ (breaks : Row) (previous : Best) (i j : ℕ) where
   abbrev crossing : Crossing
   crossing = intersectOf (breakAt breaks i .xy) (breakAt breaks i .dir) (breakAt breaks j .xy) (breakAt breaks j .dir)
 
-  pub bent-nowhere : Crossing.Nowhere ≡ crossing → bent measure breaks penalty i j st ≡ states st
-  unfolding bent
-  bent-nowhere e = rw (← e) refl
+  pub bend-nowhere : Crossing.Nowhere ≡ crossing → Bending.Nowhere ≡ bendOf breaks previous i j
+  unfolding bendOf
+  bend-nowhere e = rw (← e) refl
 
-  module _ (p : Point) (e : Crossing.At p ≡ crossing) where
-    pub bent-allowed : okForHalf (bestAt st i) (bentQuad measure breaks penalty i j p) ≡ true → bent measure breaks penalty i j st ≡ tryQuad measure breaks penalty i j (bentQuad measure breaks penalty i j p) st
-    unfolding bent
-    bent-allowed ok = rw (← e, ok) refl
+  module _ (p : Point) (q : Quad) (e : Crossing.At p ≡ crossing) (is : q ≡ record { p0 = breakAt breaks i .xy; p1 = roundPointOf p; p2 = breakAt breaks j .xy }) where
+    bend-at : bendIf (okForHalf previous q) q ≡ bendOf breaks previous i j
+    unfolding bendOf
+    bend-at = rw (is, ← e) refl
 
-    pub bent-not-allowed : okForHalf (bestAt st i) (bentQuad measure breaks penalty i j p) ≡ false → bent measure breaks penalty i j st ≡ states st
-    unfolding bent
-    bent-not-allowed bad = rw (← e, bad) refl
+    pub bend-allowed : okForHalf previous q ≡ true → Bending.At q ≡ bendOf breaks previous i j
+    bend-allowed ok = ap (λ (t : Bool). bendIf t q) (sym ok) ∙ bend-at
 
--- how many lookups of it fell
+    pub bend-not-allowed : okForHalf previous q ≡ false → Bending.Nowhere ≡ bendOf breaks previous i j
+    bend-not-allowed bad = ap (λ (t : Bool). bendIf t q) (sym bad) ∙ bend-at
+
+  -- it goes from break to break
+  abbrev Ends : Bend → Type 0
+  Ends (Bending.At q) = (q .p0 ≡ breakAt breaks i .xy) × (q .p2 ≡ breakAt breaks j .xy)
+  Ends Bending.Nowhere = Unit
+
+  bend-goes : Ends (bendOf breaks previous i j)
+  unfolding bendOf
+  bend-goes = by crossing
+    where
+      if : (t : Bool) (p : Point) → Ends (bendIf t (record { p0 = breakAt breaks i .xy; p1 = p; p2 = breakAt breaks j .xy }))
+      if true p = (refl, refl)
+      if false p = tt
+
+      by : (c : Crossing) → Ends (bendAt breaks previous i j c)
+      by Crossing.Nowhere = tt
+      by (Crossing.At p) = if (okForHalf previous (record { p0 = breakAt breaks i .xy; p1 = roundPointOf p; p2 = breakAt breaks j .xy })) (roundPointOf p)
+
+  pub bend-ends : {r : Bend} → r ≡ bendOf breaks previous i j → Ends r
+  bend-ends e = subst Ends (sym e) bend-goes
+
+-- the attempt with it, and how many lookups of it fell
 module _ (measure : Measure) (fallen : Fallen) (breaks : Row) (penalty : Float) (i j : ℕ) (st : List Best) where
-  pub fell-nowhere : Crossing.Nowhere ≡ crossing measure breaks penalty i j st → fellBent measure fallen breaks penalty i j st ≡ 0
-  unfolding fellBent
-  fell-nowhere e = rw (← e) refl
+  abbrev tryBend : Bend → States
+  tryBend (Bending.At q) = tryQuad measure breaks penalty i j q st
+  tryBend Bending.Nowhere = states st
 
-  module _ (p : Point) (e : Crossing.At p ≡ crossing measure breaks penalty i j st) where
-    pub fell-allowed : okForHalf (bestAt st i) (bentQuad measure breaks penalty i j p) ≡ true →
-        fellBent measure fallen breaks penalty i j st ≡ fallen i j (bentQuad measure breaks penalty i j p)
-    unfolding fellBent
-    fell-allowed ok = rw (← e, ok) refl
+  abbrev fellBend : Bend → ℕ
+  fellBend (Bending.At q) = fallen i j q
+  fellBend Bending.Nowhere = 0
 
-    pub fell-not-allowed : okForHalf (bestAt st i) (bentQuad measure breaks penalty i j p) ≡ false → fellBent measure fallen breaks penalty i j st ≡ 0
-    unfolding fellBent
-    fell-not-allowed bad = rw (← e, bad) refl
+  bent-by : bent measure breaks penalty i j st ≡ tryBend (bendOf breaks (bestAt st i) i j)
+  unfolding bent bendOf
+  bent-by = by (crossing breaks (bestAt st i) i j)
+    where
+      if : (t : Bool) (q : Quad) → tryIf measure breaks penalty t i j q st ≡ tryBend (bendIf t q)
+      if true q = refl
+      if false q = refl
+
+      by : (c : Crossing) → bentAt measure breaks penalty c i j st ≡ tryBend (bendAt breaks (bestAt st i) i j c)
+      by Crossing.Nowhere = refl
+      by (Crossing.At p) = if (okForHalf (bestAt st i) (bentQuad measure breaks penalty i j p)) (bentQuad measure breaks penalty i j p)
+
+  fell-by : fellBent measure fallen breaks penalty i j st ≡ fellBend (bendOf breaks (bestAt st i) i j)
+  unfolding fellBent bendOf
+  fell-by = by (crossing breaks (bestAt st i) i j)
+    where
+      if : (t : Bool) (q : Quad) → fellIf measure fallen breaks penalty t i j q ≡ fellBend (bendIf t q)
+      if true q = refl
+      if false q = refl
+
+      by : (c : Crossing) → fellBentAt measure fallen breaks penalty c i j st ≡ fellBend (bendAt breaks (bestAt st i) i j c)
+      by Crossing.Nowhere = refl
+      by (Crossing.At p) = if (okForHalf (bestAt st i) (bentQuad measure breaks penalty i j p)) (bentQuad measure breaks penalty i j p)
+
+  module _ {r : Bend} (e : r ≡ bendOf breaks (bestAt st i) i j) where
+    pub bent-is : bent measure breaks penalty i j st ≡ tryBend r
+    bent-is = bent-by ∙ ap tryBend (sym e)
+
+    pub fell-is : fellBent measure fallen breaks penalty i j st ≡ fellBend r
+    fell-is = fell-by ∙ ap fellBend (sym e)
 
 -- ---- what may be read
+pub from-upto : {f : Phase} {n i j k : ℕ} → Into f n i j k → i ≤ n
+from-upto into = omega (arith, into .rising, into .upto)
+
+pub break-of : {bs : Row} {rs : List (List Float)} {ls : List ℕ} (j : ℕ) → Inside bs rs ls (slotAt ls j) → (j < length bs) × (j < 2048)
+break-of {ls = ls} j inside = (omega (arith, inside .to, slot-break ls j), omega (arith, inside .few, slot-break ls j))
+
 module _ {bs : Row} {rs : List (List Float)} {ls : List ℕ} {i j k : ℕ} (r : Ready bs rs ls i j k) where
   pub break-to : j < length bs
   break-to = omega (arith, r .room .all-breaks, r .into .upto)
@@ -104,6 +173,9 @@ module _ {bs : Row} {rs : List (List Float)} {ls : List ℕ} {i j k : ℕ} (r : 
 
   pub room-from : 2 * i + 1 < length ls
   room-from = omega (arith, r .room .in-links, r .into .rising, r .into .upto)
+
+  pub reads-both : Reads bs rs ls i j
+  reads-both = record { from = break-from; to = break-to; links-of = room-from; stands = readable-from }
 
 -- ---- after an attempt
 pub record Went (f : Phase) (n : ℕ) (bs : Row) (rs : List (List Float)) (ls : List ℕ) (s : States) (c : ℕ) (r : Trial) : Type 0 where

@@ -1,19 +1,24 @@
 -- What the functions of the optimiser promise of the rows that they are lent, for any states that these stand for: for the contracts of the functions
 -- that are not public. Definitions only.
-use Prim.Native.Nat.{ℕ, _+_}
+use Prim.Native.Nat.{ℕ, _+_, _≤_}
+use mathlib.Core.Bool.{false}
 use mathlib.Core.List.{List}
-use lib.Ieee.{Float}
+use mathlib.Core.Path.{_≡_}
+use lib.Dec.{T}
+use lib.Ieee.{Float, lt}
 use Rattle.rows.specs.Lent.{Lent, before, after}
-use Rattle.geometry.specs.Geometry.{lineQuad}
+use Rattle.geometry.specs.Geometry.{isWhole, lineQuad}
 use Rattle.geometry.specs.declared.Quad.{Quad}
+use Rattle.measure.specs.NotNegative.{notNegative, Measurable}
 use Rattle.breaks.specs.Breaks.{Row, breakAt}
 use Rattle.optimize.specs.declared.Trial.{Trial}
 use Rattle.optimize.specs.declared.Solved.{Solved}
-use Rattle.attempt.specs.Answers.{Best}
+use Rattle.attempt.specs.Answers.{Best, isCurve, totalOf}
+use Rattle.attempt.specs.Value.{bestOf}
 use Rattle.optimize.specs.Optimize.{Measure, measureBy, States, states, tryQuad, bent, thenBent, tryLineQuad, tryAll}
 use Rattle.optimize.specs.Optimize.{Optimised, tried, splitted, optimizeOf}
 use Rattle.optimize.specs.Fallen.{Fallen, fallenBetween, fellBent, fellThenBent, fellPair, fellAll, fellAfterSplits, fellAfterFirst, fellOf}
-use Rattle.optimize.specs.Stored.{Phase, Room, Into, Rep, Becomes, Solves}
+use Rattle.optimize.specs.Stored.{standingAt, Phase, Room, Into, Rep, Becomes, Solves}
 
 -- the states after a step, and how many lookups fell in it
 abbrev pub Step : Type 0
@@ -71,3 +76,17 @@ Leads f g n breaks answers links next r =
 abbrev pub Ends : Phase → ℕ → Row → Lent (List Float) → Lent ℕ → (List Best → Optimised × ℕ) → Solved → Type 0
 Ends f n breaks answers links end r =
     (st : List Best) → Rep f n breaks (before answers) (before links) st → Solves breaks (after answers) (after links) (end st .0) (end st .1) r
+
+-- ---- pairs that are passed over
+
+-- why no piece from break j changes an answer with the score `limit` at the length s1: each is measured with no lookup that falls, and none that is
+-- built on what stands at j scores less; or none is tried, since the break is off whole units and what stands there is no curve
+pub data Idle (samples : List (List Float)) (breaks : Row) (answers : List (List Float)) (links : List ℕ) (penalty : Float) (j : ℕ) (s1 limit : Float) : Type 0 where
+  beaten : ((q : Quad) → Measurable samples (breakAt breaks j .s) s1 q) →
+      ((q : Quad) (error : Float) → T (notNegative error) → lt (totalOf (bestOf (standingAt breaks answers links j)) q error penalty) limit ≡ false) →
+      Idle samples breaks answers links penalty j s1 limit
+  untried : isWhole (breakAt breaks j .xy) ≡ false → isCurve (bestOf (standingAt breaks answers links j)) ≡ false → Idle samples breaks answers links penalty j s1 limit
+
+-- a step into break i and what is left of it do the same, from any states that the rows stand for
+abbrev pub Skips : Row → List (List Float) → List ℕ → ℕ → Step → Step → Type 0
+Skips breaks answers links i next rest = (f : Phase) (n : ℕ) (st : List Best) → i ≤ n → Rep f n breaks answers links st → next st ≡ rest st

@@ -1,13 +1,18 @@
 -- The corners listed, one mark after the other; and run k between listed corners. Assumes nothing.
-use Prim.Native.Nat.{ℕ, zero, suc, _+_, _-_, _≤_, _<_}
+use Prim.Native.Nat.{ℕ, zero, suc, _+_, _-_, _≤_, _<_, min}
 use native.Mathlib.Numerals.{add-one}
 use native.Mathlib.Omega.{arith}
-use mathlib.Core.Bool.{Bool, true, false}
+use native.Mathlib.Decide.{decLt}
+use mathlib.Core.Bool.{Bool, true, false, true≢false}
 use mathlib.Core.List.{List, [], _∷_, _++_, append-assoc, append-nil}
 use mathlib.Core.Path.{_≡_, refl, sym, ap, _∙_}
+use lib.IntN.{ℤ}
 use lib.ListN.{length, getD, take, drop, set, length-set, drop-of-length-le}
-use lib.Seq.{drop-cons, take-suc-set}
-use Rattle.runs.specs.Runs.{marksFrom, goingRound, between, runAt, Listed}
+use lib.Seq.{drop-cons, take-all, take-suc-set}
+use Rattle.outline.specs.Segments.{countOf}
+use Rattle.corners.specs.Corners.{cornersOf}
+use Rattle.corners.proofs.Reasons.{no-corner-past}
+use Rattle.runs.specs.Runs.{marksFrom, cornerList, goingRound, between, runAt, Listed}
 use Rattle.runs.specs.declared.Run.the-variants.{Between, Nothing}
 
 -- what is listed after i marks, of which n were set, and what is left to list
@@ -55,6 +60,32 @@ module _ (marks : List Bool) where
 
     pub listed-few : length marks ≤ long → n ≤ length marks
     listed-few fits = omega (arith, now .few, now .upto)
+
+-- where no place from k on is marked, the marks of the first k are all
+pub marks-taken : (marks : List Bool) (k i : ℕ) → ((j : ℕ) → k ≤ j → getD marks j false ≡ false) → marksFrom (take k marks) i ≡ marksFrom marks i
+unfolding marksFrom
+marks-taken [] zero i off = refl
+marks-taken [] (suc k) i off = refl
+marks-taken (true ∷ marks) zero i off = absurd (true≢false (off 0 (omega arith)))
+marks-taken (false ∷ marks) zero i off = marks-taken marks zero (i + 1) (λ j p. off (suc j) (omega arith))
+marks-taken (true ∷ marks) (suc k) i off = ap (λ (l : List ℕ). i ∷ l) (marks-taken marks k (i + 1) (λ j p. off (suc j) (omega arith)))
+marks-taken (false ∷ marks) (suc k) i off = marks-taken marks k (i + 1) (λ j p. off (suc j) (omega arith))
+
+-- past the last segment no place is marked
+pub corners-taken : (xs ys : List ℤ) (fs : List ℕ) (marks : List Bool) (m count : ℕ) → marks ≡ cornersOf xs ys fs 1024 → length marks ≡ 1024 → count ≡ countOf fs →
+    m ≡ min count 1024 → marksFrom (take m marks) 0 ≡ cornerList xs ys fs
+unfolding cornerList
+corners-taken xs ys fs marks m count is long counted least = rw (← is) (by (decLt count 1024))
+  where
+    by : Dec (count < 1024) → marksFrom (take m marks) 0 ≡ marksFrom marks 0
+    by (yes few) =
+        marks-taken marks m 0
+        (λ j p.
+        let past : countOf fs ≤ j = omega (arith, counted, least) in
+        rw is (no-corner-past xs ys fs 1024 j past))
+    by (no many) =
+        let all : length marks ≤ m = omega (arith, long, least) in
+        rw (take-all m marks all) refl
 
 -- no index listed is past the marks
 marks-low : (marks : List Bool) (i j : ℕ) → getD (marksFrom marks i) j 0 ≤ i + length marks

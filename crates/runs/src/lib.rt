@@ -29,7 +29,8 @@ fn list_marks(marks: &[bool], list: &mut [usize]) -> usize
     n
 }
 
-// The corners of a contour, in the first places of the row.
+// The corners of a contour, in the first places of the row. Past the last segment there is no mark, so
+// that the marks of the segments alone are looked at.
 fn list_corners(xs: &[i16], ys: &[i16], flags: &[u8], list: &mut [usize]) -> usize
     requires { ⌜ 1024 ≤ length (now list) ⌝ }
     ensures listed { λ r. ⌜ Listed (now (list .exit)) r (cornerList (now (xs .entry)) (now (ys .entry)) (now (flags .entry))) ⌝ }
@@ -37,8 +38,8 @@ fn list_corners(xs: &[i16], ys: &[i16], flags: &[u8], list: &mut [usize]) -> usi
     ensures low { λ r. ⌜ (0 < r → getD (now (list .exit)) 0 0 ≤ 1024) ⌝ }
 {
     let mut marks = [false; 1024];
-    corners::segment_sp(xs, ys, flags, &mut marks);
-    list_marks(&marks, list)
+    let m = rows::least(corners::segment_sp(xs, ys, flags, &mut marks), 1024);
+    list_marks(&marks[..m], list)
 }
 
 // Where the runs begin and end: the corners; in closed mode the first once more, going round.

@@ -1,20 +1,22 @@
 -- One turn of each walk of specs/Samples.antt, as the code takes it. Assumes nothing.
-use Prim.Native.Nat.{ℕ, zero, suc, _+_, _-_, _≤_, _<_}
+use Prim.Native.Nat.{ℕ, zero, suc, _+_, _-_, _*_, _%_, _≤_, _<_}
 use native.Mathlib.Numerals.{add-one}
 use native.Mathlib.Omega.{arith}
 use mathlib.Core.Bool.{true, false}
 use mathlib.Core.List.{List, [], _∷_}
 use mathlib.Core.Path.{_≡_, refl, sym, _∙_}
 use lib.IntN.{ℤ}
-use lib.ListN.{length, take, set, length-set}
+use lib.ListN.{length, getD, take, set, length-set}
 use lib.Seq.{length-take-le, take-suc-set}
-use lib.Ieee.{Float, binary64, add, le}
+use lib.Ieee.{Float, nan, binary64, add, le}
 use Rattle.float.specs.Numbers.{nought, one}
 use Rattle.geometry.specs.declared.Quad.{Quad}
 use Rattle.arclen.specs.Arclen.{hundredth, arclenFunctorOf, rk4One}
-use Rattle.arclen.specs.Stages.{paceOf, reachedBy}
+use Rattle.arclen.specs.Rk4.{grownBy}
+use Rattle.arclen.specs.Stages.{Ready}
 use Rattle.arclen.specs.declared.ArclenFunctor.{ArclenFunctor}
-use Rattle.arclen.specs.declared.Reached.{Reached}
+use Rattle.arclen.proofs.Laws.{is-longer}
+use Rattle.arclen.proofs.Filling.{speed-first, speed-middle, speed-last, ready-next}
 use Rattle.outline.specs.Segments.{endOf, segFrom}
 use Rattle.samples.specs.Samples.{Sample, Walked, full, at, sampleAt, fillFrom, fillTo, filled, movedTo, stepAt, sweepFrom, lengthFrom, lengthAfter, sweepAll, lengthAll, lastOf, nowhere, begun, start, walkedIn, quadOf, quadsFrom, refused, finished, thetasOf}
 use Rattle.samples.specs.declared.Step.{Step}
@@ -66,20 +68,24 @@ all-more : (room : ℕ) (q : Quad) (qs : List Quad) (y : Float) (w : Walked) →
 unfolding sweepAll
 all-more room q qs y w = refl
 
--- ---- 100 steps over a quad, of which k are done
-pub record Sweeping (q : Quad) (f : ArclenFunctor) (row₀ : List Sample) (n₀ : ℕ) (ix₀ : Float) (last₀ : Step) (y₀ : Float) (row : List Sample) (n : ℕ) (ix : Float) (last : Step) (t : Float) (to : Reached) (k : ℕ) : Type 0 where
+-- ---- 100 steps over a quad, of which k are done. The speeds of ten steps are known, from that of the first of them on
+pub record Sweeping (q : Quad) (f : ArclenFunctor) (row₀ : List Sample) (n₀ : ℕ) (ix₀ : Float) (last₀ : Step) (y₀ : Float) (row : List Sample) (n : ℕ) (ix : Float) (last : Step) (t y : Float) (v : List Float) (k : ℕ) : Type 0 where
   pub functor : f ≡ arclenFunctorOf q
-  pub pace : to .pace ≡ paceOf f t
+  pub ready : (k % 10 ≡ 0 → ⊥) → Ready f hundredth t v (k % 10)
   pub long : length row ≡ length row₀
   pub inside : n ≤ length row₀
-  pub rows : sweepFrom 100 (length row₀) q nought y₀ (at (take n₀ row₀) ix₀ last₀) ≡ sweepFrom (100 - k) (length row₀) q t (to .length) (at (take n row) ix last)
-  pub len : lengthFrom 100 (arclenFunctorOf q) nought y₀ ≡ lengthFrom (100 - k) (arclenFunctorOf q) t (to .length)
+  pub rows : sweepFrom 100 (length row₀) q nought y₀ (at (take n₀ row₀) ix₀ last₀) ≡ sweepFrom (100 - k) (length row₀) q t y (at (take n row) ix last)
+  pub len : lengthFrom 100 (arclenFunctorOf q) nought y₀ ≡ lengthFrom (100 - k) (arclenFunctorOf q) t y
 
-module _ {q : Quad} {f : ArclenFunctor} {row₀ : List Sample} {n₀ : ℕ} {ix₀ : Float} {last₀ : Step} {y₀ : Float} {row : List Sample} {n : ℕ} {ix : Float} {last : Step} {t : Float} {to : Reached} {k : ℕ}
-    (s : Sweeping q f row₀ n₀ ix₀ last₀ y₀ row n ix last t to k) where
-  abbrev y : Float
-  y = to .length
+-- the speeds serve the next step, unless that starts ten others
+next-ready : {f : ArclenFunctor} {t : Float} {v : List Float} (k : ℕ) → Ready f hundredth t v (k % 10) → ((k + 1) % 10 ≡ 0 → ⊥) →
+    Ready f hundredth (add binary64 t hundredth) v ((k + 1) % 10)
+next-ready k now more =
+    let same : (k + 1) % 10 ≡ k % 10 + 1 = omega arith in
+    rw same (ready-next now)
 
+module _ {q : Quad} {f : ArclenFunctor} {row₀ : List Sample} {n₀ : ℕ} {ix₀ : Float} {last₀ : Step} {y₀ : Float} {row : List Sample} {n : ℕ} {ix : Float} {last : Step} {t y : Float} {v : List Float} {k : ℕ}
+    (s : Sweeping q f row₀ n₀ ix₀ last₀ y₀ row n ix last t y v k) where
   -- one step more
   turn : k < 100 → sweepFrom (100 - k) (length row₀) q t y (at (take n row) ix last)
       ≡ sweepFrom (100 - (k + 1)) (length row₀) q (add binary64 t hundredth) (rk4One (arclenFunctorOf q) hundredth t y)
@@ -89,15 +95,19 @@ module _ {q : Quad} {f : ArclenFunctor} {row₀ : List Sample} {n₀ : ℕ} {ix�
       let one-less : 100 - k ≡ suc (100 - (k + 1)) = omega arith in
       rw one-less
 
-  pub sweeps : {row' : List Sample} {m : ℕ} {x : Float} {this : Step} {to' : Reached} → k < 100 → this ≡ stepAt q t y →
+  pub sweeps : {row' : List Sample} {m : ℕ} {x : Float} {this : Step} {v' : List Float} {y' : Float} → k < 100 → this ≡ stepAt q t y →
       fillTo (length row) this y (take n row) ix last ≡ at (take m row') x last → length row' ≡ length row → m ≤ length row →
-      to' ≡ reachedBy f hundredth t y → Sweeping q f row₀ n₀ ix₀ last₀ y₀ row' m x this (add binary64 t hundredth) to' (k + 1)
+      Ready f hundredth t v' (k % 10) →
+      y' ≡ grownBy hundredth y (getD v' (2 * (k % 10)) nan) (getD v' (2 * (k % 10) + 1) nan) (getD v' (2 * (k % 10) + 1) nan) (getD v' (2 * (k % 10) + 2) nan) →
+      Sweeping q f row₀ n₀ ix₀ last₀ y₀ row' m x this (add binary64 t hundredth) y' v' (k + 1)
   unfolding movedTo lengthFrom
-  sweeps {row'} {m} {x} {this} {to'} h is fills same few reached =
+  sweeps {row'} {m} {x} {this} {v'} {y'} h is fills same few now grows =
       let one-less : 100 - k ≡ suc (100 - (k + 1)) = omega arith in
+      let low : k % 10 < 10 = omega arith in
+      let reached : y' ≡ rk4One f hundredth t y = grows ∙ rw (speed-first now low, speed-middle now low, speed-last now low) (sym (is-longer f hundredth t y)) in
       record {
         functor = s .functor;
-        pace = rw reached refl;
+        ready = next-ready k now;
         long = same ∙ s .long;
         inside = omega (arith, s .long);
         rows = s .rows ∙ turn h ∙ rw (← is, ← s .long, fills, reached, s .functor) refl;
@@ -115,7 +125,7 @@ module _ {q : Quad} {f : ArclenFunctor} {row₀ : List Sample} {n₀ : ℕ} {ix�
       let none : 100 - k ≡ 0 = omega arith in
       s .rows ∙ rw none
 
-  pub length-all : 100 ≤ k → to .length ≡ lengthAfter q y₀
+  pub length-all : 100 ≤ k → y ≡ lengthAfter q y₀
   unfolding lengthFrom
   length-all h =
       let none : 100 - k ≡ 0 = omega arith in

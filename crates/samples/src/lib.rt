@@ -1,8 +1,6 @@
 // Module 5: the samples of a run, a row of [x, y, dx, dy] at each whole arc length. Each contract
 // equates what is left in the row with a definition of specs/Samples.antt.
 use arclen::ArclenFunctor;
-use arclen::Pace;
-use arclen::Reached;
 use geometry::Point;
 use geometry::Quad;
 use outline::Seg;
@@ -107,7 +105,7 @@ fn step_at(q: Quad, f: ArclenFunctor, t: f64, y: f64) -> Step
     Step { xy, d, s: y }
 }
 
-// 100 steps over one quad.
+// 100 steps over one quad, with the speeds of ten at a time.
 fn sweep(row: &mut [[f64; 4]], from: Walk, q: Quad) -> Swept
     requires { ⌜ from .n ≤ length (now row) ⌝ }
     ensures row { λ r. ⌜ sweepFrom 100 (length (now (row .entry))) q nought (from .len) (walkedIn (now (row .entry)) from) ≡ sweptIn (now (row .exit)) r ⌝ }
@@ -120,27 +118,25 @@ fn sweep(row: &mut [[f64; 4]], from: Walk, q: Quad) -> Swept
     let mut ix = from.ix;
     let mut last = from.last;
     let mut t = 0.0;
-    let mut at = Reached {
-        length: from.len,
-        pace: f.pace(t, Pace::still()),
-    };
+    let mut len = from.len;
+    let mut v = [0.0; 21];
     for k in 0..100usize {
-        let this = step_at(q, f, t, at.length);
-        let Filled::At(m, x) = fill(row, n, ix, last, this, at.length) else {
+        if k % 10 == 0 {
+            v = arclen::speeds(f, h, t);
+        }
+        let this = step_at(q, f, t, len);
+        let Filled::At(m, x) = fill(row, n, ix, last, this, len) else {
             return Swept::Full;
         };
         n = m;
         ix = x;
         last = this;
-        at = arclen::rk4(f, h, t, at);
+        let i = 2 * (k % 10);
+        let middle = v[i + 1];
+        len = arclen::grown(h, len, v[i], middle, middle, v[i + 2]);
         t = t + h;
     }
-    Swept::At(Walk {
-        n,
-        ix,
-        last,
-        len: at.length,
-    })
+    Swept::At(Walk { n, ix, last, len })
 }
 
 // The samples after the last step, up to the length + 2.

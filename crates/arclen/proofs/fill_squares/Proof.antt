@@ -3,20 +3,19 @@ use Prim.Native.Nat.{_*_, _≤_, _-_}
 use mathlib.Core.Path.{_≡_, refl}
 use native.Mathlib.Numerals.{add-one}
 use native.Mathlib.Omega.{arith}
-use Rattle.arclen.specs.Arclen.{tenth}
-use Rattle.arclen.specs.Stages.{timeAt, Squares}
-use Rattle.arclen.proofs.Filling.{no-squares, two-more, last-square}
+use Rattle.arclen.specs.Stages.{timeFrom, Squares}
+use Rattle.arclen.proofs.Filling.{time-next, no-squares, two-more, last-square}
 use Rattle.arclen.proofs.fill_squares.Statement.{statement}
 use Rattle.arclen.proofs.fill_squares.Tie as tie
 
 abbrev Inv-loop : tie.InvT-loop
-Inv-loop f v₀ h time₀ i₀ v time i = (i ≤ 10) × (time ≡ timeAt tenth i) × Squares f v (2 * i)
+Inv-loop f h t v₀ time₀ i₀ v time i = (i ≤ 10) × (time ≡ timeFrom h t i) × Squares f h t v (2 * i)
 
 abbrev μ-loop : tie.MeasureT-loop
-μ-loop f v₀ h time₀ i₀ v time i = 10 - i
+μ-loop f h t v₀ time₀ i₀ v time i = 10 - i
 
 loop-holds : tie.Need-loop-holds Inv-loop μ-loop
-unfolding timeAt
+unfolding timeFrom
 loop-holds c = (omega arith, refl, no-squares (c .pre))
 
 square-requires : tie.Need-square-requires Inv-loop μ-loop
@@ -53,13 +52,12 @@ loop-less : tie.Need-loop-less Inv-loop μ-loop
 loop-less c = omega arith
 
 loop-again : tie.Need-loop-again Inv-loop μ-loop
-unfolding timeAt
 loop-again c =
     let turn = c .before .before in
     let inv = turn .before .loop .inv in (
       omega arith,
-      rw (inv .1, add-one (turn .before .loop .i)),
-      two-more _ _ _ _ _ _ (turn .loop-test .taken) (inv .1) (inv .2) (c .before .square .ensures) (c .square2 .ensures),
+      rw (inv .1, add-one (turn .before .loop .i), time-next),
+      two-more _ _ _ _ _ _ _ _ (turn .loop-test .taken) (inv .1) (inv .2) (c .before .square .ensures) (c .square2 .ensures),
     )
 
 square-requires-3 : tie.Need-square-requires-3 Inv-loop μ-loop
@@ -72,7 +70,7 @@ returns : tie.Need-returns Inv-loop μ-loop
 returns c =
     let inv = c .before .before .loop .inv in
     let end : c .before .before .loop .i ≡ 10 = omega arith in
-    last-square _ _ _ _ (rw end at (inv .1)) (rw end at (inv .2)) (c .square3 .ensures)
+    last-square _ _ _ _ _ _ (rw end at (inv .1)) (rw end at (inv .2)) (c .square3 .ensures)
 
 pub fill-squares-spec : {M : Type 1} → statement M
 fill-squares-spec =

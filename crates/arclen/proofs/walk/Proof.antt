@@ -1,28 +1,28 @@
 -- `arclen::walk` meets its contract. The invariant is `Walking`, for whichever quad has the speeds. Assumes nothing.
 use Prim.Native.Nat.{_≤_, _-_}
-use mathlib.Core.Path.{_≡_, refl}
+use mathlib.Core.Path.{_≡_}
 use native.Mathlib.Omega.{arith}
 use lib.ListN.{length, length-set}
+use Rattle.float.specs.Numbers.{nought}
+use Rattle.arclen.specs.Arclen.{tenth}
+use Rattle.arclen.specs.Stages.{Ready}
 use Rattle.arclen.specs.declared.ArclenFunctor.{ArclenFunctor}
-use Rattle.arclen.proofs.Filling.{Speeds, speeds, speed-first, speed-middle, speed-last}
+use Rattle.arclen.proofs.Filling.{speed-first, speed-middle, speed-last, ready-next}
 use Rattle.arclen.proofs.Walking.{Walking, none, more, all}
 use Rattle.arclen.proofs.walk.Statement.{statement}
 use Rattle.arclen.proofs.walk.Tie as tie
 
 abbrev Inv-loop : tie.InvT-loop
-Inv-loop stages₀ h v t₀ y₀ i₀ stages t y i = (length stages ≡ 40) × (i ≤ 10) × ((f : ArclenFunctor) → Speeds f v → Walking f stages t y i)
+Inv-loop stages₀ h v t₀ y₀ i₀ stages t y i = (length stages ≡ 40) × (i ≤ 10) × ((f : ArclenFunctor) → Ready f tenth nought v 0 → Walking f stages t y i × Ready f tenth t v i)
 
 abbrev μ-loop : tie.MeasureT-loop
 μ-loop stages₀ h v t₀ y₀ i₀ stages t y i = 10 - i
 
-fill-squares-requires : tie.Need-fill-squares-requires Inv-loop μ-loop
-fill-squares-requires c κs = refl
-
-fill-speeds-requires : tie.Need-fill-speeds-requires Inv-loop μ-loop
-fill-speeds-requires c κs = (c .before .before .fill-squares .ensures .long, refl)
+speeds-requires : tie.Need-speeds-requires Inv-loop μ-loop
+speeds-requires c κs = tt
 
 loop-holds : tie.Need-loop-holds Inv-loop μ-loop
-loop-holds c = (c .before .before .before .before .before .pre, omega arith, λ f s. none (c .before .before .before .before .before .pre))
+loop-holds c = (c .before .pre, omega arith, λ f s. (none (c .before .pre), s))
 
 mul-a : tie.Need-mul-a Inv-loop μ-loop
 mul-a c = omega arith
@@ -90,14 +90,14 @@ mul-stages-6 c = omega arith
 element-set-from-stages-3 : tie.Need-element-set-from-stages-3 Inv-loop μ-loop
 element-set-from-stages-3 c = omega arith
 
-mul-t17 : tie.Need-mul-t17 Inv-loop μ-loop
-mul-t17 c = omega arith
+mul-t13 : tie.Need-mul-t13 Inv-loop μ-loop
+mul-t13 c = omega arith
 
-add-t18 : tie.Need-add-t18 Inv-loop μ-loop
-add-t18 c = omega arith
+add-t14 : tie.Need-add-t14 Inv-loop μ-loop
+add-t14 c = omega arith
 
-mul-t22 : tie.Need-mul-t22 Inv-loop μ-loop
-mul-t22 c = omega arith
+mul-t18 : tie.Need-mul-t18 Inv-loop μ-loop
+mul-t18 c = omega arith
 
 element-set-from-stages-4 : tie.Need-element-set-from-stages-4 Inv-loop μ-loop
 element-set-from-stages-4 c = omega arith
@@ -119,13 +119,12 @@ loop-again c =
       simp length-set (inv .0),
       omega arith,
       λ f s. let w = inv .2 f s in
-          more w less (speed-first s _ _ less (w .time)) (speed-middle s _ _ less (w .time)) (speed-last s _ _ less (w .time)) (c .grown .ensures),
+          (more (w .0) less (speed-first (w .1) less) (speed-middle (w .1) less) (speed-last (w .1) less) (c .grown .ensures), ready-next (w .1)),
     )
 
 returns : tie.Need-returns Inv-loop μ-loop
 returns c =
-    let filled = c .before .before in
-    all (c .before .loop .inv .2 _ (speeds (filled .before .before .before .fill-squares .ensures) (filled .fill-speeds .ensures))) (c .loop-test .left)
+    all (c .before .loop .inv .2 _ (c .before .before .speeds .ensures) .0) (c .loop-test .left)
 
 pub walk-spec : {M : Type 1} → statement M
 walk-spec =
@@ -133,8 +132,7 @@ walk-spec =
     (tie.spec
     Inv-loop
     μ-loop
-    fill-squares-requires
-    fill-speeds-requires
+    speeds-requires
     loop-holds
     mul-a
     mul-a-2
@@ -158,9 +156,9 @@ walk-spec =
     add-stages-2
     mul-stages-6
     element-set-from-stages-3
-    mul-t17
-    add-t18
-    mul-t22
+    mul-t13
+    add-t14
+    mul-t18
     element-set-from-stages-4
     grown-requires
     add-i

@@ -4,7 +4,8 @@ use native.Mathlib.Omega.{arith}
 use mathlib.Core.Path.{refl, _∙_}
 use lib.Dec.{T, le→leb}
 use lib.IntN.{pos}
-use lib.Ieee.{binary64, inFloat}
+use lib.Ieee.{binary64, inFloat, ofBits}
+use Rattle.float.specs.Float.{rootOf}
 use Rattle.breaks.specs.Breaks.{full, last, past}
 use Rattle.breaks.proofs.Laws.{capped, Seeking, seek, seeks, seeks-no-more, sought}
 use Rattle.breaks.proofs.find_breaks.Statement.{statement}
@@ -28,6 +29,7 @@ places-requires : tie.Need-places-requires Inv-loop μ-loop
 places-requires c κs = tt
 
 loop-holds : tie.Need-loop-holds Inv-loop μ-loop
+unfolding ofBits rootOf
 loop-holds c = seek _ _ _ _ _ _ (c .places .ensures) refl refl
 
 int-to-float-place : tie.Need-int-to-float-place Inv-loop μ-loop

@@ -35,14 +35,14 @@ returns-2 c =
 point-requires : tie.Need-point-requires
 point-requires c κs = search needs
 
-distance-requires : tie.Need-distance-requires
-distance-requires c κs = search needs
+square-distance-requires : tie.Need-square-distance-requires
+square-distance-requires c κs = search needs
 
 returns-3 : tie.Need-returns-3
 returns-3 c =
     let found = c .before .before .before .before .before in
     let looking = found .before .before in
-    rw (c .distance .ensures, c .before .point .ensures)
+    rw (c .square-distance .ensures, c .before .point .ensures)
     (sym (place-found _ _ _ (inside (looking .before)) _ (sym (found .c .given .1) ∙ looking .lookup .ensures)))
 
 pub place-spec : {M : Type 1} → statement M
@@ -56,5 +56,5 @@ place-spec =
     enum-told
     returns-2
     point-requires
-    distance-requires
+    square-distance-requires
     returns-3)

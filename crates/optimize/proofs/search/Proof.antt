@@ -22,23 +22,23 @@ abbrev μ-loop : tie.MeasureT-loop
 loop-holds : tie.Need-loop-holds Inv-loop μ-loop
 loop-holds c = (omega arith, omega arith, (let e : c .before .args .n + 1 - 1 ≡ c .before .args .n = omega arith in rw e sets-out))
 
-search-into-requires : tie.Need-search-into-requires Inv-loop μ-loop
-search-into-requires c κs =
+search-from-mark-requires : tie.Need-search-from-mark-requires Inv-loop μ-loop
+search-from-mark-requires c κs =
     let head = c .before .before .before in
     let inv = head .loop .inv in
     (inv .0, c .before .before .loop-test .taken, holding (inv .2) (c .before .before .before .before .before .pre .1))
 
 same-length : tie.Need-same-length Inv-loop μ-loop
-same-length c = c .before .before .before .before .before .search-into .kept .1 .1 .0 ∙ c .before .before .before .before .before .before .before .before .before .loop .inv .2 .same-rs
+same-length c = c .before .before .before .before .before .search-from-mark .kept .1 .1 .0 ∙ c .before .before .before .before .before .before .before .before .before .loop .inv .2 .same-rs
 
 same-length-2 : tie.Need-same-length-2 Inv-loop μ-loop
-same-length-2 c = c .before .before .before .before .before .search-into .kept .1 .1 .1 .0 ∙ c .before .before .before .before .before .before .before .before .before .loop .inv .2 .same-ls
+same-length-2 c = c .before .before .before .before .before .search-from-mark .kept .1 .1 .1 .0 ∙ c .before .before .before .before .before .before .before .before .before .loop .inv .2 .same-ls
 
 returns : tie.Need-returns Inv-loop μ-loop
 returns c =
     let call = c .before .before .before .before .before in
     let turning = c .before .before .before .before .before .before .before .before in
-    breaks-off (c .before .before .before .before .before .before .before .before .before .loop .inv .2) _ _ _ (search-more _ _ (turning .loop-test .taken)) (call .search-into .ensures) (not-true _ (c .if1 .taken))
+    breaks-off (c .before .before .before .before .before .before .before .before .before .loop .inv .2) _ _ _ (search-more _ _ (turning .loop-test .taken)) (call .search-from-mark .ensures) (not-true _ (c .if1 .taken))
 
 add-fallen : tie.Need-add-fallen Inv-loop μ-loop
 add-fallen c =
@@ -49,7 +49,7 @@ add-fallen c =
     let few = between-most (args .samples .now) (args .breaks .now) in
     omega (
       arith,
-      counts (c .before .before .before .before .before .before .before .before .before .before .loop .inv .2) _ _ few (search-more _ _ (turning .loop-test .taken)) (call .search-into .ensures) (not-false _ (c .before .if1 .left)) (start .pre .1),
+      counts (c .before .before .before .before .before .before .before .before .before .before .loop .inv .2) _ _ few (search-more _ _ (turning .loop-test .taken)) (call .search-from-mark .ensures) (not-false _ (c .before .if1 .left)) (start .pre .1),
       few-pairs (args .n) (start .pre .1 .room .few),
     )
 
@@ -66,8 +66,8 @@ loop-again c =
     let inv = c .before .before .before .before .before .before .before .before .before .before .loop .inv in (
       omega (arith, inv .0),
       omega arith,
-      moves (inv .2) _ _ (search-more _ _ (turning .loop-test .taken)) (call .search-into .kept .1 .1 .0) (call .search-into .kept .1 .1 .1 .0)
-          (λ st rep. rephased (λ st. next-search (c .before .before .before .before .before .before .before .before .before .before .loop .i)) (call .search-into .ensures st rep)) (not-false _ (c .before .if1 .left)),
+      moves (inv .2) _ _ (search-more _ _ (turning .loop-test .taken)) (call .search-from-mark .kept .1 .1 .0) (call .search-from-mark .kept .1 .1 .1 .0)
+          (λ st rep. rephased (λ st. next-search (c .before .before .before .before .before .before .before .before .before .before .loop .i)) (call .search-from-mark .ensures st rep)) (not-false _ (c .before .if1 .left)),
     )
 
 same-length-3 : tie.Need-same-length-3 Inv-loop μ-loop
@@ -89,7 +89,7 @@ search-spec =
     Inv-loop
     μ-loop
     loop-holds
-    search-into-requires
+    search-from-mark-requires
     same-length
     same-length-2
     returns

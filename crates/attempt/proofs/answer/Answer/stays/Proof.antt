@@ -1,8 +1,7 @@
 -- `attempt::answer::Answer::stays` meets its contract. Assumes nothing.
-use borrow.Author.Needs.{needs}
-use borrow.Author.Tests.{not-true}
 use mathlib.Core.Bool.{false≢true}
-use Rattle.attempt.proofs.Against.{remains}
+use mathlib.Core.Path.{sym}
+use Rattle.attempt.proofs.Against.{kept}
 use Rattle.attempt.proofs.answer.Answer.stays.Statement.{statement}
 use Rattle.attempt.proofs.answer.Answer.stays.Tie as tie
 
@@ -10,15 +9,15 @@ returns : tie.Need-returns
 returns c = λ e. absurd (false≢true e)
 
 total-requires : tie.Need-total-requires
-total-requires c κs = search needs
+total-requires c κs = tt
+
+out-of-reach-requires : tie.Need-out-of-reach-requires
+out-of-reach-requires c κs = tt
 
 returns-2 : tie.Need-returns-2
-returns-2 c = λ kept.
-    let summed = c .before .before in
-    remains _ _ _ _ _ (summed .total .ensures) (c .before .if2 .taken) (not-true _ kept) (summed .before .if1 .left)
-
-returns-3 : tie.Need-returns-3
-returns-3 c = λ e. absurd (false≢true e)
+returns-2 c = λ far measure p.
+    let summed = c .before in
+    sym (kept _ _ measure _ _ (summed .before .if1 .left) (c .out-of-reach .ensures far _ measure (summed .total .ensures) p))
 
 pub stays-spec : {M : Type 1} → statement M
-stays-spec = tie.close (tie.spec returns total-requires returns-2 returns-3)
+stays-spec = tie.close (tie.spec returns total-requires out-of-reach-requires returns-2)
