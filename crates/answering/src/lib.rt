@@ -148,7 +148,7 @@ fn put_lent(
     Fit::Put(put_outcome(text, at, told, c, ox, oy, of))
 }
 
-// In rows of three sizes, which are cleared in a fraction of the time: 5 KiB in all.
+// In rows of three sizes, which are cleared in a fraction of the time: 3 KiB in all.
 fn put_tiny(
     text: &mut [u8],
     at: usize,
@@ -160,14 +160,14 @@ fn put_tiny(
 ) -> Fit
     ensures { λ r. ⌜ Tries (now (text .entry)) at (answerText settings told (now (xs .entry)) (now (ys .entry)) (now (flags .entry))) (now (text .exit)) r ⌝ }
 {
-    let mut ox = [0i16; 64];
-    let mut oy = [0i16; 64];
-    let mut of = [0u8; 64];
-    let mut samples = [[0.0; 4]; 24];
-    let mut breaks = [[0.0; 6]; 32];
-    let mut answers = [[0.0; 3]; 64];
-    let mut links = [0u32; 64];
-    let mut points = [[0i16; 3]; 64];
+    let mut ox = [0i16; 32];
+    let mut oy = [0i16; 32];
+    let mut of = [0u8; 32];
+    let mut samples = [[0.0; 4]; 20];
+    let mut breaks = [[0.0; 6]; 20];
+    let mut answers = [[0.0; 3]; 40];
+    let mut links = [0u32; 40];
+    let mut points = [[0i16; 3]; 32];
     put_lent(
         text,
         at,
@@ -303,7 +303,7 @@ fn put_short(
 ) -> Fit
     ensures { λ r. ⌜ Tries (now (text .entry)) at (answerText settings told (now (xs .entry)) (now (ys .entry)) (now (flags .entry))) (now (text .exit)) r ⌝ }
 {
-    if far <= 20.0 {
+    if far <= 16.0 {
         return put_tiny(text, at, xs, ys, flags, settings, told);
     }
     put_small(text, at, xs, ys, flags, settings, told)
