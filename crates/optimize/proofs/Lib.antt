@@ -1,5 +1,5 @@
 -- What the proofs share, leaves first: the functions over one stored answer; what a store keeps and makes; one attempt; one pair;
--- the phases; pairs that are passed over; what stands at the last break; rows with no answer yet; a run with one break, which `pieces` cites.
+-- the phases; pairs that are passed over; marks; what stands at the last break; rows with no answer yet; a run with one break, which `pieces` cites.
 mod Leaves
 mod Held
 mod Attempt
