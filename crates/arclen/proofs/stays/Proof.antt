@@ -1,8 +1,8 @@
--- `measure::stays` meets its contract. Assumes nothing.
+-- `arclen::stays` meets its contract. Assumes nothing.
 use mathlib.Core.Path.{sym, subst}
 use lib.Dec.{T}
-use Rattle.measure.proofs.stays.Statement.{statement}
-use Rattle.measure.proofs.stays.Tie as tie
+use Rattle.arclen.proofs.stays.Statement.{statement}
+use Rattle.arclen.proofs.stays.Tie as tie
 
 returns : tie.Need-returns
 returns c h = record { whole = subst T (sym (c .good .0 .1)) tt; none = h }

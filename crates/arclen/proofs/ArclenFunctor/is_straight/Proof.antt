@@ -1,7 +1,7 @@
--- `measure::is_straight` meets its contract. Assumes nothing.
+-- `arclen::ArclenFunctor::is_straight` meets its contract. Assumes nothing.
 use mathlib.Core.Bool.{false≢true}
-use Rattle.measure.proofs.is_straight.Statement.{statement}
-use Rattle.measure.proofs.is_straight.Tie as tie
+use Rattle.arclen.proofs.ArclenFunctor.is_straight.Statement.{statement}
+use Rattle.arclen.proofs.ArclenFunctor.is_straight.Tie as tie
 
 stays-requires : tie.Need-stays-requires
 stays-requires c κs = tt
