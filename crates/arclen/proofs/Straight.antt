@@ -1,32 +1,22 @@
 -- The speeds of a straight piece have one square at all times that are numbers, as those of ten steps are. Assumes nothing.
 use Prim.Native.Nat.{ℕ, _*_, _<_}
-use mathlib.Core.Bool.{true, false, false≢true}
-use mathlib.Core.Path.{_≡_, refl, sym, _∙_, subst}
+use mathlib.Core.Bool.{true, false}
+use mathlib.Core.Path.{_≡_, refl, sym, _∙_}
 use native.Mathlib.Nat.{mul-mul-mul-comm, mul-pos}
-use lib.Dec.{T, eqb, eqb→eq}
-use lib.IntN.{ℤ, pos}
-use lib.Ieee.{Float, nan, inf, fin, binary64, up, down, fits, round, add, sub, mul, eq, ofBits}
-use lib.Ieee.Fits.{and-l, down-pos, sub-fits}
-use lib.Ieee.Back.{whole-unique}
+use lib.Dec.{T}
+use lib.IntN.{ℤ}
+use lib.Ieee.{Float, nan, inf, fin, binary64, up, down, fits, round, add, sub, mul, ofBits}
+use lib.Ieee.Fits.{down-pos, sub-fits}
 use lib.Ieee.Scale.{finite, round-same}
 use Rattle.float.specs.Numbers.{nought}
 use Rattle.float.specs.Float.{rootOf}
-use Rattle.float.proofs.Zeros.{IsZero, is-zero, times-zero, Level, one-sign, zeros, plus-zero}
+use Rattle.float.proofs.Zeros.{IsZero, is-zero, is-nought, times-zero, Level, one-sign, zeros, plus-zero}
 use Rattle.geometry.specs.Geometry.{alongOf, squares, squareNormOf}
 use Rattle.arclen.specs.Arclen.{tenth, derivOf, speedOf}
 use Rattle.arclen.specs.Stages.{timeAt}
 use Rattle.arclen.specs.Straight.{Stays, Straight}
 use Rattle.arclen.specs.declared.ArclenFunctor.{ArclenFunctor}
 use Rattle.arclen.proofs.Times.{middle, end, times}
-
--- what equals 0 is a zero
-is-nought : (x : Float) → T (fits binary64 x) → eq x nought ≡ true → IsZero x
-unfolding eq ofBits fits
-is-nought nan f h = absurd (false≢true h)
-is-nought (inf s) f h = absurd (false≢true h)
-is-nought (fin s m e) f h =
-    let none : m * up e * 1 ≡ 0 * down e = eqb→eq (m * up e * 1) (0 * down e) (and-l (eqb (m * up e * 1) (0 * down e)) _ (subst T (sym h) tt)) in
-    subst IsZero (whole-unique binary64 (fin s 0 (pos 0)) (fin s m e) s 0 tt f (refl, refl) (refl, none)) (is-zero s)
 
 -- ---- a value and a zero have the square of the value
 crossed : (M E N D : ℕ) → M * D ≡ N * E → M * M * (D * D) ≡ N * N * (E * E)
