@@ -14,7 +14,7 @@ use Rattle.float.proofs.Zeros.{IsZero, is-zero, is-nought, times-zero, Level, o
 use Rattle.geometry.specs.Geometry.{alongOf, squares, squareNormOf}
 use Rattle.arclen.specs.Arclen.{tenth, derivOf, speedOf}
 use Rattle.arclen.specs.Stages.{timeAt}
-use Rattle.arclen.specs.Straight.{Stays, Straight}
+use Rattle.arclen.specs.Straight.{Unmoved, Straight}
 use Rattle.arclen.specs.declared.ArclenFunctor.{ArclenFunctor}
 use Rattle.arclen.proofs.Times.{middle, end, times}
 
@@ -42,12 +42,12 @@ more-square nan f z = unfold add in refl
 more-square (inf s) f (is-zero t) = unfold add in refl
 more-square (fin s m e) f z = level-square (plus-zero (fin s m e) f tt z)
 
-stays-square : {a b : Float} (t : Float) → Stays a b → T (finite t) → mul binary64 (alongOf a b t) (alongOf a b t) ≡ mul binary64 a a
-stays-square {a} {b} t s h = more-square a (s .whole) (times-zero t h (is-nought (sub binary64 b a) (sub-fits binary64 b a) (s .none)))
+unmoved-square : {a b : Float} (t : Float) → Unmoved a b → T (finite t) → mul binary64 (alongOf a b t) (alongOf a b t) ≡ mul binary64 a a
+unmoved-square {a} {b} t s h = more-square a (s .whole) (times-zero t h (is-nought (sub binary64 b a) (sub-fits binary64 b a) (s .none)))
 
 same-square : (f : ArclenFunctor) (t : Float) → Straight f → T (finite t) → squareNormOf (derivOf f t) ≡ squares (f .dx0) (f .dy0)
 unfolding derivOf
-same-square f t s h = rw (stays-square t (s .across) h, stays-square t (s .upward) h)
+same-square f t s h = rw (unmoved-square t (s .across) h, unmoved-square t (s .upward) h)
 
 -- ---- so in each of ten steps one square, and one root, serves its start, middle and end
 abbrev squareAt : ArclenFunctor → Float → Float

@@ -6,12 +6,12 @@ use lib.Ieee.{Float, binary64, fits, sub, eq}
 use Rattle.float.specs.Numbers.{nought}
 use Rattle.arclen.specs.declared.ArclenFunctor.{ArclenFunctor}
 
--- what goes from a to b stays where it is
-pub record Stays (a b : Float) : Type 0 where
+-- what goes from a to b does not move
+pub record Unmoved (a b : Float) : Type 0 where
   pub whole : T (fits binary64 a)
   pub none : eq (sub binary64 b a) nought ≡ true
 
--- so does the derivative
+-- nor does the derivative
 pub record Straight (f : ArclenFunctor) : Type 0 where
-  pub across : Stays (f .dx0) (f .dx1)
-  pub upward : Stays (f .dy0) (f .dy1)
+  pub across : Unmoved (f .dx0) (f .dx1)
+  pub upward : Unmoved (f .dy0) (f .dy1)

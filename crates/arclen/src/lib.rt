@@ -8,7 +8,7 @@ ghost use Prim.Native.Nat.{_<_};
 ghost use lib.ListN.{length};
 ghost use Rattle.arclen.specs.Rk4.{grownBy};
 ghost use Rattle.arclen.specs.Arclen.{tenth, arclenFunctorOf, derivOf, arclenOf};
-ghost use Rattle.arclen.specs.Straight.{Stays, Straight};
+ghost use Rattle.arclen.specs.Straight.{Unmoved, Straight};
 ghost use Rattle.arclen.specs.Stages.{Paced, paceWith, paceOf, reachedBy, Squares, Ready, Roots, withStep, Walked};
 ghost use Rattle.geometry.specs.Geometry.{squareNormOf};
 use geometry::Point;
@@ -66,9 +66,9 @@ impl Pace {
     }
 }
 
-// Whether what goes from a to b stays where it is.
-fn stays(a: f64, b: f64) -> bool
-    ensures { λ r. ⌜ (r ≡ true → Stays a b) ⌝ }
+// Whether what goes from a to b does not move.
+fn unmoved(a: f64, b: f64) -> bool
+    ensures { λ r. ⌜ (r ≡ true → Unmoved a b) ⌝ }
 {
     b - a == 0.0
 }
@@ -98,8 +98,8 @@ impl ArclenFunctor {
     pub fn is_straight(self) -> bool
         ensures { λ r. ⌜ (r ≡ true → Straight self) ⌝ }
     {
-        if stays(self.dx0, self.dx1) {
-            return stays(self.dy0, self.dy1);
+        if unmoved(self.dx0, self.dx1) {
+            return unmoved(self.dy0, self.dy1);
         }
         false
     }
