@@ -3,4 +3,6 @@ pub mod Laws
 pub mod Again
 mod Walking
 pub mod Filling
+pub mod Times
+pub mod Straight
 mod Values

@@ -1,17 +1,17 @@
--- The loop of `walk`: its invariant, that it holds at first, after one more turn, and what it gives at the end. Assumes nothing.
+-- The loops of `walk_straight` and `walk_bent`: their invariant, that it holds at first, after one more turn, and what it gives at the end. Assumes nothing.
 use Prim.Native.Nat.{ℕ, _+_, _*_, _≤_, _<_}
 use mathlib.Core.Path.{_≡_, refl, _∙_}
-use mathlib.Core.List.{List, [], _∷_}
+use mathlib.Core.List.{List, []}
 use native.Mathlib.Numerals.{add-one}
 use native.Mathlib.Omega.{arith}
 use borrow.Author.Count.{below-more}
 use lib.ListN.{length, set, getD, length-set}
 use lib.Seq.{getD-set-same, getD-set-other}
-use lib.Ieee.{Float, binary64, add, mul}
+use lib.Ieee.{Float, binary64, add}
 use Rattle.float.specs.Numbers.{nought}
 use Rattle.arclen.specs.Rk4.{halfOf, grownBy}
 use Rattle.arclen.specs.Arclen.{tenth, speedOf}
-use Rattle.arclen.specs.Stages.{timeAt, lengthAt, stageOf, stageAt, Walked}
+use Rattle.arclen.specs.Stages.{timeAt, lengthAt, stageOf, stageAt, withStep, Walked}
 use Rattle.arclen.specs.declared.ArclenFunctor.{ArclenFunctor}
 use Rattle.arclen.proofs.Laws.{is-longer, stage-first, stage-next}
 
@@ -46,17 +46,10 @@ pub record Walking (f : ArclenFunctor) (stages : List (List Float)) (t y : Float
   pub long : y ≡ lengthAt f i
   pub done : (k : ℕ) → k < 4 * i → getD stages k [] ≡ stageAt f k
 
--- the four stages of a step, with the speeds a, b and d
-abbrev four : List (List Float) → ℕ → Float → Float → Float → Float → Float → List (List Float)
-four stages i t y a b d =
-    set
-    (set
-    (set (set stages (4 * i) (t ∷ a ∷ y ∷ [])) (4 * i + 1)
-    (add binary64 t (halfOf tenth) ∷ b ∷ add binary64 y (mul binary64 (halfOf tenth) a) ∷ []))
-    (4 * i + 2)
-    (add binary64 t (halfOf tenth) ∷ b ∷ add binary64 y (mul binary64 (halfOf tenth) b) ∷ []))
-    (4 * i + 3)
-    (add binary64 t tenth ∷ d ∷ add binary64 y (mul binary64 tenth b) ∷ [])
+-- a step more leaves as many places
+pub as-long : (stages : List (List Float)) (i : ℕ) (t y a b d : Float) → length (withStep stages i t y a b d) ≡ length stages
+unfolding withStep
+as-long stages i t y a b d = simp length-set
 
 module _ {f : ArclenFunctor} {stages : List (List Float)} where
   pub none : length stages ≡ 40 → Walking f stages nought nought 0
@@ -70,13 +63,13 @@ module _ {f : ArclenFunctor} {stages : List (List Float)} where
         done = λ k less. absurd (omega arith);
       }
 
-  pub more : {t y z a b d : Float} {i : ℕ} → Walking f stages t y i → i < 10 →
-      a ≡ speedOf f t → b ≡ speedOf f (add binary64 t (halfOf tenth)) → d ≡ speedOf f (add binary64 t tenth) → z ≡ grownBy tenth y a b b d →
-      Walking f (four stages i t y a b d) (add binary64 t tenth) z (i + 1)
-  unfolding timeAt lengthAt stageOf
-  more {t} {y} {z} {a} {b} {d} {i} w less first middle end grows =
+  pub more : {after : List (List Float)} {t y z a b d : Float} {i : ℕ} → Walking f stages t y i → i < 10 →
+      a ≡ speedOf f t → b ≡ speedOf f (add binary64 t (halfOf tenth)) → d ≡ speedOf f (add binary64 t tenth) →
+      (after ≡ withStep stages i t y a b d) × (z ≡ grownBy tenth y a b b d) → Walking f after (add binary64 t tenth) z (i + 1)
+  unfolding timeAt lengthAt stageOf withStep
+  more {t = t} {y} {z} {a} {b} {d} {i} w less first middle end (written, grows) = rw written
       record {
-        forty = simp length-set (w .forty);
+        forty = as-long stages i t y a b d ∙ w .forty;
         within = omega arith;
         time = rw (add-one, w .time);
         long = rw (grows, first, middle, end, w .long, w .time, add-one i, is-longer);

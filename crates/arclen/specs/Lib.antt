@@ -1,4 +1,5 @@
--- Stages is for contracts inside the product alone: no promise of an entry and no statement for a reader speaks of it.
+-- Stages and Straight are for contracts inside the product alone: no promise of an entry and no statement for a reader speaks of them.
 pub mod Rk4
 pub mod Arclen
 pub mod Stages
+pub mod Straight

@@ -3,7 +3,7 @@
 use Prim.Native.Nat.{ℕ, zero, suc, _+_, _*_, _/_, _%_, _<_}
 use mathlib.Core.Path.{_≡_}
 use mathlib.Core.List.{List, [], _∷_}
-use lib.ListN.{length, getD}
+use lib.ListN.{length, set, getD}
 use lib.Ieee.{Float, nan, binary64, add, mul}
 use Rattle.float.specs.Numbers.{nought}
 use Rattle.float.specs.Float.{rootOf}
@@ -81,6 +81,18 @@ stageOf f h t y (suc (suc (suc j))) = stage f (add binary64 t h) (ahead f y h (a
 -- the stage k of ten steps
 unfoldable pub stageAt : ArclenFunctor → ℕ → List Float
 stageAt f k = stageOf f tenth (timeAt tenth (k / 4)) (lengthAt f (k / 4)) (k % 4)
+
+-- the row with the four stages of the step i, from the length y at t on, with the speeds a, b and d
+unfoldable pub withStep : List (List Float) → ℕ → Float → Float → Float → Float → Float → List (List Float)
+withStep stages i t y a b d =
+    set
+    (set
+    (set (set stages (4 * i) (t ∷ a ∷ y ∷ [])) (4 * i + 1)
+    (add binary64 t (halfOf tenth) ∷ b ∷ add binary64 y (mul binary64 (halfOf tenth) a) ∷ []))
+    (4 * i + 2)
+    (add binary64 t (halfOf tenth) ∷ b ∷ add binary64 y (mul binary64 (halfOf tenth) b) ∷ []))
+    (4 * i + 3)
+    (add binary64 t tenth ∷ d ∷ add binary64 y (mul binary64 tenth b) ∷ [])
 
 -- all stages are written
 pub record Written (f : ArclenFunctor) (stages : List (List Float)) : Type 0 where

@@ -1,12 +1,15 @@
 // Module 4: the derivative of a quad, and its length by RK4. The rate of the length does not look at the
 // length, so that the two middle rates of a step are one, and a step's last rate is the next one's first:
 // 21 speeds serve ten steps. Their roots are guessed in a loop of their own, which is compiled to take
-// several at a time, and taken by these guesses in another, where they overlap.
+// several at a time, and taken by these guesses in another, where they overlap. Of a straight piece all speeds are one.
+ghost use mathlib.Core.Bool.{true};
 ghost use mathlib.Core.Path.{_≡_};
+ghost use Prim.Native.Nat.{_<_};
 ghost use lib.ListN.{length};
 ghost use Rattle.arclen.specs.Rk4.{grownBy};
-ghost use Rattle.arclen.specs.Arclen.{arclenFunctorOf, derivOf, arclenOf};
-ghost use Rattle.arclen.specs.Stages.{Paced, paceWith, paceOf, reachedBy, Squares, Ready, Roots, Walked};
+ghost use Rattle.arclen.specs.Arclen.{tenth, arclenFunctorOf, derivOf, arclenOf};
+ghost use Rattle.arclen.specs.Straight.{Unmoved, Straight};
+ghost use Rattle.arclen.specs.Stages.{Paced, paceWith, paceOf, reachedBy, Squares, Ready, Roots, withStep, Walked};
 ghost use Rattle.geometry.specs.Geometry.{squareNormOf};
 use geometry::Point;
 use geometry::Quad;
@@ -63,6 +66,13 @@ impl Pace {
     }
 }
 
+// Whether what goes from a to b does not move.
+fn unmoved(a: f64, b: f64) -> bool
+    ensures { λ r. ⌜ (r ≡ true → Unmoved a b) ⌝ }
+{
+    b - a == 0.0
+}
+
 impl ArclenFunctor {
     pub fn new(q: Quad) -> Self
         ensures { λ r. ⌜ r ≡ arclenFunctorOf q ⌝ }
@@ -82,6 +92,16 @@ impl ArclenFunctor {
             x: self.dx0 + t * (self.dx1 - self.dx0),
             y: self.dy0 + t * (self.dy1 - self.dy0),
         }
+    }
+
+    // Whether the derivative is one all along, as that of a straight piece is.
+    pub fn is_straight(self) -> bool
+        ensures { λ r. ⌜ (r ≡ true → Straight self) ⌝ }
+    {
+        if unmoved(self.dx0, self.dx1) {
+            return unmoved(self.dy0, self.dy1);
+        }
+        false
     }
 
     // The square of the speed at t.
@@ -203,9 +223,40 @@ pub fn speeds(f: ArclenFunctor, h: f64, t: f64) -> [f64; 21]
     v
 }
 
-// Ten steps along a quad: writes the 40 stages, each with its time, the speed there and the length that
-// RK4 takes to be reached there, and gives the length.
-pub fn walk(f: ArclenFunctor, stages: &mut [[f64; 3]; 40]) -> f64
+// Writes the four stages of the step i, from the length y at the time t on and with the speeds a, b and d at its start, middle and
+// end, and gives the length where it ends.
+fn write_step(i: usize, t: f64, y: f64, a: f64, b: f64, d: f64, stages: &mut [[f64; 3]; 40]) -> f64
+    requires { ⌜ (length (now stages) ≡ 40) × (i < 10) ⌝ }
+    ensures { λ r. ⌜ (now (stages .exit) ≡ withStep (now (stages .entry)) i t y a b d) × (r ≡ grownBy tenth y a b b d) ⌝ }
+{
+    let h = 1.0 / 10.0;
+    stages[4 * i] = [t, a, y];
+    stages[4 * i + 1] = [t + h * 0.5, b, y + h * 0.5 * a];
+    stages[4 * i + 2] = [t + h * 0.5, b, y + h * 0.5 * b];
+    stages[4 * i + 3] = [t + h, d, y + h * b];
+    grown(h, y, a, b, b, d)
+}
+
+// Ten steps along a straight piece: all its speeds are one, and one root serves.
+fn walk_straight(f: ArclenFunctor, stages: &mut [[f64; 3]; 40]) -> f64
+    requires { ⌜ Straight f × (length (now stages) ≡ 40) ⌝ }
+    ensures { λ r. ⌜ Walked f (now (stages .exit)) r ⌝ }
+{
+    let h = 1.0 / 10.0;
+    let v = quickroot::root(f.square(0.0));
+    let mut t = 0.0;
+    let mut y = 0.0;
+    let mut i = 0usize;
+    while i < 10 {
+        y = write_step(i, t, y, v, v, v, stages);
+        t = t + h;
+        i += 1;
+    }
+    y
+}
+
+// Ten steps along any quad.
+fn walk_bent(f: ArclenFunctor, stages: &mut [[f64; 3]; 40]) -> f64
     requires { ⌜ length (now stages) ≡ 40 ⌝ }
     ensures { λ r. ⌜ Walked f (now (stages .exit)) r ⌝ }
 {
@@ -215,18 +266,23 @@ pub fn walk(f: ArclenFunctor, stages: &mut [[f64; 3]; 40]) -> f64
     let mut y = 0.0;
     let mut i = 0usize;
     while i < 10 {
-        let a = v[2 * i];
-        let b = v[2 * i + 1];
-        let d = v[2 * i + 2];
-        stages[4 * i] = [t, a, y];
-        stages[4 * i + 1] = [t + h * 0.5, b, y + h * 0.5 * a];
-        stages[4 * i + 2] = [t + h * 0.5, b, y + h * 0.5 * b];
-        stages[4 * i + 3] = [t + h, d, y + h * b];
-        y = grown(h, y, a, b, b, d);
+        y = write_step(i, t, y, v[2 * i], v[2 * i + 1], v[2 * i + 2], stages);
         t = t + h;
         i += 1;
     }
     y
+}
+
+// Ten steps along a quad: writes the 40 stages, each with its time, the speed there and the length that
+// RK4 takes to be reached there, and gives the length.
+pub fn walk(f: ArclenFunctor, stages: &mut [[f64; 3]; 40]) -> f64
+    requires { ⌜ length (now stages) ≡ 40 ⌝ }
+    ensures { λ r. ⌜ Walked f (now (stages .exit)) r ⌝ }
+{
+    if f.is_straight() {
+        return walk_straight(f, stages);
+    }
+    walk_bent(f, stages)
 }
 
 // The length of a quad.

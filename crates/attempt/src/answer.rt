@@ -129,11 +129,15 @@ impl Answer {
     }
 
     // Whether this answer stays, whatever a piece that is built on the previous one measures: a measure
-    // is not negative, so the score of such a piece is at least the one with no error.
+    // is not negative, so the score of such a piece is at least the one with no error. Where two penalties are not enough,
+    // which most often is so, the joint need not be known.
     pub fn stays(self, previous: Answer, quad: Quad, penalty: f64) -> bool
         ensures { λ r. ⌜ (r ≡ true → (measure : Float) → T (notNegative measure) → combineOf self previous measure quad penalty ≡ self) ⌝ }
     {
         if self.link == 0 {
+            return false;
+        }
+        if previous.score + penalty * 2.0 < self.score {
             return false;
         }
         out_of_reach(previous.total(quad, 0.0, penalty), self.score)

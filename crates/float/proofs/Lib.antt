@@ -7,6 +7,7 @@ mod Fitting
 pub mod Own
 pub mod Zeros
 mod Whole
+pub mod Above
 pub mod Squares
 pub mod Scaled
 pub mod Less

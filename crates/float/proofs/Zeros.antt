@@ -3,16 +3,17 @@ use mathlib.Core.Path.{_≡_, refl, sym, _∙_, subst}
 use Prim.Native.Nat.{ℕ, zero, suc, _+_, _-_, _*_, _<_}
 use native.Mathlib.Nat.{mul-one, mul-zero, mul-pos, zero-lt-suc}
 use native.Mathlib.Omega.{arith}
-use mathlib.Core.Bool.{Bool, true, false, not, cond}
+use mathlib.Core.Bool.{Bool, true, false, not, cond, false≢true}
 use borrow.Author.Tests.{lt-ltb, le-ltb}
-use lib.Dec.{T, ltb}
+use lib.Dec.{T, ltb, eqb, eqb→eq}
 use lib.IntN.{ℤ, pos}
-use lib.Ieee.{Float, nan, inf, fin, binary64, up, down, unlike, fits, round, neg, sum, add, sub, mul, div}
-use lib.Ieee.Fits.{up-pos, down-pos}
+use lib.Ieee.{Float, nan, inf, fin, binary64, up, down, unlike, fits, round, neg, sum, add, sub, mul, div, eq, ofBits}
+use lib.Ieee.Fits.{and-l, up-pos, down-pos}
 use lib.Ieee.Exact.{HasValue}
 use lib.Ieee.Back.{whole-unique}
 use lib.Ieee.Scale.{finite, round-same}
 use Rattle.float.specs.Float.{rootOf}
+use Rattle.float.specs.Numbers.{nought}
 use Rattle.float.proofs.Own.{own-value}
 
 -- ---- a NaN stays
@@ -37,6 +38,15 @@ times-nan (fin s m e) = refl
 
 pub data IsZero : Float → Type 0 where
   is-zero : (s : Bool) → IsZero (fin s 0 (pos 0))
+
+-- what equals 0
+pub is-nought : (x : Float) → T (fits binary64 x) → eq x nought ≡ true → IsZero x
+unfolding eq ofBits fits
+is-nought nan f h = absurd (false≢true h)
+is-nought (inf s) f h = absurd (false≢true h)
+is-nought (fin s m e) f h =
+    let none : m * up e * 1 ≡ 0 * down e = eqb→eq (m * up e * 1) (0 * down e) (and-l (eqb (m * up e * 1) (0 * down e)) _ (subst T (sym h) tt)) in
+    subst IsZero (whole-unique binary64 (fin s 0 (pos 0)) (fin s m e) s 0 tt f (refl, refl) (refl, none)) (is-zero s)
 
 -- a zero that fits is written with the exponent 0
 zero-fits : (s : Bool) (e : ℤ) → T (fits binary64 (fin s 0 e)) → IsZero (fin s 0 e)

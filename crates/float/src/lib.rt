@@ -88,10 +88,15 @@ pub fn trunc(x: f64) -> f64
     }
 }
 
-// x downward: its truncation, or one less where x is below that.
+// x downward: its truncation, or one less where x is below that. Above zero, where most numbers are that are asked for, it is x cut.
 pub fn floor(x: f64) -> f64
     ensures { λ r. ⌜ r ≡ floorOf x ⌝ }
 {
+    if x > 0.0 {
+        if x < 4503599627370496.0 {
+            return std::num::truncating_f64_to_u64(x) as f64;
+        }
+    }
     let t = trunc(x);
     if x < t { t - 1.0 } else { t }
 }

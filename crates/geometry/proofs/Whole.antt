@@ -22,7 +22,7 @@ zero-small : {x : Float} → IsZero x → lt (absOf x) tiny ≡ true
 unfolding absOf tiny round lt
 zero-small (is-zero s) = refl
 
-zero-close : {x : Float} → IsZero x → closeTo x nought ≡ true
+pub zero-close : {x : Float} → IsZero x → closeTo x nought ≡ true
 unfolding closeTo
 zero-close z = zero-small (zeros-sub z nought-zero)
 

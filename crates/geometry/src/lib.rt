@@ -34,11 +34,15 @@ fn along(a: f64, b: f64, t: f64) -> f64
     a + t * (b - a)
 }
 
-// Whether f is a whole number.
+// Whether f is a whole number, or next to the one below it. Most often it is one, which is soon known.
 pub fn is_int(f: f64) -> bool
     ensures { λ r. ⌜ r ≡ isInt f ⌝ }
 {
-    float::is_close(f - float::floor(f), 0.0)
+    let d = f - float::floor(f);
+    if d == 0.0 {
+        return true;
+    }
+    float::is_close(d, 0.0)
 }
 
 impl Point {

@@ -1,4 +1,4 @@
--- No stage of RK4 is more than three times the quad's length ahead, but for what rounding adds; where more is known of the speeds, less far. Assumes nothing.
+-- How far the stages of RK4 are ahead of a quad's length: from what is known of the speeds in its ten steps to every sample that is asked for. Assumes nothing.
 use Prim.Native.Nat.{ℕ, zero, suc, _+_, _-_, _*_, _/_, _%_, _^_, _≤_, _<_, zero-le}
 use mathlib.Core.Bool.{Bool, true, false, _&&_, cond, false≢true}
 use mathlib.Core.Logic.{_⊎_, inl, inr}
@@ -161,11 +161,11 @@ unfolding speedOf
 speed-fast f t h = root-fast (squares-plus _ _) (add-fits binary64 _ _) h
 
 -- ---- the constants of a step: a tenth, a half of it, a sixth of it, and two. A stage is a tenth or a half of it of a speed ahead
-tenth-is : Ratio tenth 3602879701896397 36028797018963968
+pub tenth-is : Ratio tenth 3602879701896397 36028797018963968
 unfolding ofBits div round
 tenth-is = ratio 3602879701896397 (negsuc 54) (pow-pos 55) refl
 
-half-is : Ratio (halfOf tenth) 3602879701896397 72057594037927936
+pub half-is : Ratio (halfOf tenth) 3602879701896397 72057594037927936
 unfolding ofBits div mul round
 half-is = ratio 3602879701896397 (negsuc 55) (pow-pos 56) refl
 
@@ -188,16 +188,16 @@ abbrev pub Least : ℕ → ℕ → ℕ → ℕ → Type 0
 Least a b d v = 166 * (999 * a + 999 * d + 3996 * b) ≤ v * 10000000 + 20000000
 
 -- ---- a step from the length Y to Z, with the speeds A, B and D at its start, middle and end: v is added
-record Step (Y A B D Z : Float) (y : ℕ) : Type 0 where
-  a : Fast A
-  b : Fast B
-  d : Fast D
-  v : ℕ
-  z : ℕ
-  end : Ratio Z z grain
-  added : v ≤ fastest
-  least : Least (a .size) (b .size) (d .size) v
-  sum : Near (y + v) 1 z
+pub record Step (Y A B D Z : Float) (y : ℕ) : Type 0 where
+  pub a : Fast A
+  pub b : Fast B
+  pub d : Fast D
+  pub v : ℕ
+  pub z : ℕ
+  pub end : Ratio Z z grain
+  pub added : v ≤ fastest
+  pub least : Least (a .size) (b .size) (d .size) v
+  pub sum : Near (y + v) 1 z
 
 abbrev weightOf : Float → Float → Float → Float
 weightOf A B D = add binary64 (add binary64 A D) (mul binary64 two (add binary64 B B))
@@ -284,47 +284,78 @@ grow f first middle last Y h =
     let d = speed-fast f last (ends .1) in
     add-weight a b d Y (weigh a b d weight (both .0) (both .1) twice) added h
 
+-- ---- what a speed may lack where its square is next to nothing: far below any length that is not close to 0. It is shut, being too long for arithmetic
+unfoldable pub speck : ℕ
+speck = 2 ^ 600
+
+pub speck-some : 1000000 ≤ speck
+unfolding speck
+speck-some = lit≤ tt
+
+pub speck-square : 10000000 * grain ≤ speck * speck
+unfolding speck grain
+speck-square = lit≤ tt
+
+speck-few : 1000000000000 * speck ≤ grain
+unfolding speck grain
+speck-few = lit≤ tt
+
+speck-fast : speck ≤ fastest
+unfolding speck fastest
+speck-fast = lit≤ tt
+
 -- ---- a stage reaches little further than the length l and E ten-thousandths of it
 record Reach (E : ℕ) (x : Float) (l : ℕ) : Type 0 where
   size : ℕ
   value : Ratio x size grain
-  most : size * 10000 ≤ 10020 * l + E * l + 140000
+  most : size * 10000 ≤ 10020 * l + E * l + 1000 * speck
 
--- the speeds a and b at the start and in the middle of a step that adds v lead no further, from its start
-pub record Share (E a b v : ℕ) : Type 0 where
-  pub first : 501 * a ≤ 10000 * v + E * v + 70000
-  pub middle : 1002 * b ≤ 10000 * v + E * v + 70000
+-- x ten-thousandths are no more than that length
+abbrev pub NotPast : ℕ → ℕ → ℕ → Type 0
+NotPast E x l = x ≤ 10005 * l + E * l + 100 * speck
 
--- twice as far, and a little more, where nothing is known of the speeds
-any-share : (a b d v : ℕ) → Least a b d v → Share 20220 a b v
-any-share a b d v h = record { first = omega arith; middle = omega arith }
+-- y is no more than l, but for what rounding adds
+abbrev pub NoLonger : ℕ → ℕ → Type 0
+NoLonger y l = y * 4095 ≤ l * 4096 + 4096
+
+-- the speeds a and b at the start and in the middle of a step lead no further from the length y, where it starts
+pub record Share (E y a b l : ℕ) : Type 0 where
+  pub first : NotPast E (10000 * y + 501 * a) l
+  pub middle : NotPast E (10000 * y + 1002 * b) l
+
+-- so it is where x is little more than what the step adds, v
+pub own-share : (E y v x l : ℕ) → E ≤ 10000 → NoLonger (y + v) l → x ≤ 10000 * v + E * v + 50 * speck → NotPast E (10000 * y + x) l
+own-share E y v x l few whole ahead =
+    let less : NoLonger v l = omega arith in
+    let scaled : E * (v * 4095) ≤ E * (l * 4096 + 4096) = mul-le-mul-left E less in
+    let a : E * (v * 4095) ≡ E * v * 4095 = sym (mul-assoc E v 4095) in
+    let b : E * (l * 4096 + 4096) ≡ E * l * 4096 + E * 4096 = rw (mul-add E (l * 4096) 4096, ← mul-assoc E l 4096) in
+    let most : E * l ≤ 10000 * l = mul-le-mul-right l few in
+    omega (arith, speck-some)
 
 room : 4194304 * fastest ≤ top
 unfolding fastest top
 room = lit≤ tt
 
-reach-most : (E y v x r l : ℕ) → E ≤ 20220 → (y + v) * 4095 ≤ l * 4096 + 4096 → x * 10000 ≤ 10000 * v + E * v + 80000 →
-    r * 4096 ≤ (y + x) * 4097 + 4096 → r * 10000 ≤ 10020 * l + E * l + 140000
-reach-most E y v x r l small whole ahead reached =
-    let less : v * 4095 ≤ l * 4096 + 4096 = omega arith in
-    let scaled : E * (v * 4095) ≤ E * (l * 4096 + 4096) = mul-le-mul-left E less in
-    let a : E * (v * 4095) ≡ E * v * 4095 = sym (mul-assoc E v 4095) in
-    let b : E * (l * 4096 + 4096) ≡ E * l * 4096 + E * 4096 = rw (mul-add E (l * 4096) 4096, ← mul-assoc E l 4096) in
-    let few : E * l ≤ 20220 * l = mul-le-mul-right l small in
-    omega arith
+reach-most : (E y w x r l : ℕ) → E ≤ 10000 → NotPast E (10000 * y + w) l → x * 10000 ≤ w + 10000 → r * 4096 ≤ (y + x) * 4097 + 4096 →
+    r * 10000 ≤ 10020 * l + E * l + 1000 * speck
+reach-most E y w x r l few ahead added reached =
+    let most : E * l ≤ 10000 * l = mul-le-mul-right l few in
+    omega (arith, speck-some)
 
--- a stage is X ahead of a step's start, and X is at most p ten-thousandths of the speed v
-reach-by : {Y A B D Z X : Float} {y p v l : ℕ} (E : ℕ) → E ≤ 20220 → (s : Step Y A B D Z y) → Ratio Y y grain → s .z ≤ l → l ≤ 1048576 * fastest →
-    AtMost p v X → p * v ≤ 1002 * fastest → p * v ≤ 10000 * s .v + E * s .v + 70000 → Reach E (add binary64 Y X) l
-reach-by {y = y} {l = l} E few s Y below short x small share =
+reach-under : (E r l : ℕ) → E ≤ 10000 → r * 10000 ≤ 10020 * l + E * l + 1000 * speck → l ≤ 1048576 * fastest → r < top
+reach-under E r l few most short =
+    let more : E * l ≤ 10000 * l = mul-le-mul-right l few in
+    omega (arith, room, fastest-some, speck-fast)
+
+-- a stage is X ahead of the length Y, and X is at most p ten-thousandths of the speed v
+reach-by : {Y X : Float} {y p v l : ℕ} (E : ℕ) → E ≤ 10000 → Ratio Y y grain → l ≤ 1048576 * fastest → AtMost p v X → p * v ≤ 1002 * fastest →
+    NotPast E (10000 * y + p * v) l → Reach E (add binary64 Y X) l
+reach-by {y = y} {p} {v} {l} E few Y short x small share =
     let under : x .size < top = omega (arith, room, fastest-some, x .most) in
     let r = sum-of Y (x .value under) in
-    let r-under : r .size < top = omega (arith, room, fastest-some, x .most, r .near .most, s .sum .least) in
-    record {
-      size = r .size;
-      value = r .value r-under;
-      most = reach-most E y (s .v) (x .size) (r .size) l few (omega (arith, s .sum .least)) (omega (arith, x .most)) (omega (arith, r .near .most));
-    }
+    let most = reach-most E y (p * v) (x .size) (r .size) l few share (x .most) (omega (arith, r .near .most)) in
+    record { size = r .size; value = r .value (reach-under E (r .size) l few most short); most = most }
 
 -- ---- along a quad
 module _ (f : ArclenFunctor) where
@@ -396,41 +427,53 @@ module _ (f : ArclenFunctor) where
       let one : i + suc d ≡ suc (i + d) = omega arith in
       earlier i d (before (i + d) (rw one at h))
 
-  -- what is known of the speeds of ten steps
-  pub record Shares (E : ℕ) : Type 0 where
-    pub few : E ≤ 20220
-    pub each : (i : ℕ) → i < 10 → (a : Fast (first i)) (b : Fast (middle i)) (d : Fast (last i)) (v : ℕ) → Least (a .size) (b .size) (d .size) v →
-        Share E (a .size) (b .size) v
+  -- the step i, of a quad with the length l
+  pub record Part (i l : ℕ) : Type 0 where
+    pub from : ℕ
+    pub start : Ratio (lengthAt f i) from grain
+    pub step : Step (lengthAt f i) (first i) (middle i) (last i) (lengthAt f (suc i)) from
+    pub below : step .z ≤ l
 
-  any-shares : Shares 20220
-  any-shares = record { few = omega arith; each = λ i less a b d v h. any-share (a .size) (b .size) (d .size) v h }
+  -- it does not end past the whole length
+  pub within : {i l : ℕ} (p : Part i l) → NoLonger (p .from + p .step .v) l
+  within p = omega (arith, p .step .sum .least, p .below)
 
-  -- the stage j of the step i, which starts at y and ends before the length l
-  stage-reach : (E i j : ℕ) {y l : ℕ} → Shares E → i < 10 → Ratio (lengthAt f i) y grain →
-      (s : Step (lengthAt f i) (first i) (middle i) (last i) (lengthAt f (suc i)) y) → s .z ≤ l → l ≤ 1048576 * fastest →
-      Reach E (getD (stageOf f tenth (timeAt tenth i) (lengthAt f i) j) 2 nan) l
-  unfolding stageOf
-  stage-reach E i zero {y} k less v s below short = record { size = y; value = v; most = omega (arith, once i v (s .end)) }
-  stage-reach E i (suc zero) k less v s below short =
-      let share = k .each i less (s .a) (s .b) (s .d) (s .v) (s .least) in
-      reach-by E (k .few) s v below short (by-half (s .a .value)) (omega (arith, s .a .most)) (share .first)
-  stage-reach E i (suc (suc zero)) k less v s below short =
-      let share = k .each i less (s .a) (s .b) (s .d) (s .v) (s .least) in
-      reach-by E (k .few) s v below short (by-half (s .b .value)) (omega (arith, s .b .most)) (omega (arith, share .middle))
-  stage-reach E i (suc (suc (suc j))) k less v s below short =
-      let share = k .each i less (s .a) (s .b) (s .d) (s .v) (s .least) in
-      reach-by E (k .few) s v below short (by-tenth (s .b .value)) (omega (arith, s .b .most)) (share .middle)
+  abbrev pub Parts : ℕ → Type 0
+  Parts l = (i : ℕ) → i < 10 → Part i l
 
-  -- where the whole length is a number
-  reach : (E i j : ℕ) → Shares E → i < 10 → (whole : Long 10) →
-      Reach E (getD (stageOf f tenth (timeAt tenth i) (lengthAt f i) j) 2 nan) (whole .size)
-  reach E i j k less whole =
+  parts : (whole : Long 10) → Parts (whole .size)
+  parts whole i less =
       let rest : suc i + (9 - i) ≡ 10 = omega arith in
       let all : Ratio (lengthAt f (suc i + (9 - i))) (whole .size) grain = rw rest (whole .value) in
       let end = earlier (suc i) (9 - i) (ratio-finite all) in
       let from = long i (before i end) in
       let s = step i (from .value) end in
-      stage-reach E i j k less (from .value) s (climbs (suc i) (9 - i) (s .end) all) (omega (arith, whole .most))
+      record { from = from .size; start = from .value; step = s; below = climbs (suc i) (9 - i) (s .end) all }
+
+  -- what is known of the speeds of ten steps
+  pub record Shares (E : ℕ) : Type 0 where
+    pub few : E ≤ 10000
+    pub each : (l : ℕ) (all : Parts l) (i : ℕ) (less : i < 10) →
+        Share E (all i less .from) (all i less .step .a .size) (all i less .step .b .size) l
+
+  -- the stage j of the step i
+  stage-reach : (E i j : ℕ) {l : ℕ} → E ≤ 10000 → (p : Part i l) → Share E (p .from) (p .step .a .size) (p .step .b .size) l → l ≤ 1048576 * fastest →
+      Reach E (getD (stageOf f tenth (timeAt tenth i) (lengthAt f i) j) 2 nan) l
+  unfolding stageOf
+  stage-reach E i zero few p k short = record { size = p .from; value = p .start; most = omega (arith, once i (p .start) (p .step .end), p .below) }
+  stage-reach E i (suc zero) few p k short =
+      reach-by E few (p .start) short (by-half (p .step .a .value)) (omega (arith, p .step .a .most)) (k .first)
+  stage-reach E i (suc (suc zero)) few p k short =
+      reach-by E few (p .start) short (by-half (p .step .b .value)) (omega (arith, p .step .b .most)) (omega (arith, k .middle))
+  stage-reach E i (suc (suc (suc j))) few p k short =
+      reach-by E few (p .start) short (by-tenth (p .step .b .value)) (omega (arith, p .step .b .most)) (k .middle)
+
+  -- where the whole length is a number
+  reach : (E i j : ℕ) → Shares E → i < 10 → (whole : Long 10) →
+      Reach E (getD (stageOf f tenth (timeAt tenth i) (lengthAt f i) j) 2 nan) (whole .size)
+  reach E i j k less whole =
+      let all = parts whole in
+      stage-reach E i j (k .few) (all i less) (k .each (whole .size) all i less) (omega (arith, whole .most))
 
 -- ---- a length that is not close to 0 is 2 ^ -27 at least
 tiny-is : Ratio tiny 3022314549036573 302231454903657293676544
@@ -506,7 +549,7 @@ product-by K N M y g l w reached near over =
     let d : N * 40960000 * w ≡ N * w * 40960000 = mul-right-comm N 40960000 w in
     omega (arith, turned-left y 10000 g 4096 M, turned-right K l g 4096 M, turned-last K M w 4098)
 
-product-most : (E N M y g l d u : ℕ) → y * 10000 ≤ 10020 * l + E * l + 140000 → 140000 ≤ l → Near (d * u) l g → l * 4096 ≤ d * u →
+product-most : (E N M y g l d u : ℕ) → y * 10000 ≤ 10020 * l + E * l + 1000 * speck → 1000 * speck ≤ l → Near (d * u) l g → l * 4096 ≤ d * u →
     (10021 + E) * (4098 * M) ≤ N * 40960000 → y * g * M ≤ N * (d * u)
 product-most E N M y g l d u reached some h low over =
     product-by (10021 + E) N M y g l (d * u) (omega (arith, add-mul 10021 E l)) (omega (arith, h .most)) over
@@ -537,14 +580,6 @@ pub record Factor (E : ℕ) (x : Float) : Type 0 where
   pub value : Ratio x num den
   pub over : (10021 + E) * (4098 * den) ≤ num * 40960000
 
--- three gaps and a sixteenth
-abbrev thrice : Float
-thrice = ofBits binary64 0x4008_8000_0000_0000
-
-thrice-is : Factor 20220 thrice
-unfolding ofBits
-thrice-is = record { num = 49; den = 16; some = pow-pos 4; value = ratio 49 (negsuc 3) (pow-pos 4) refl; over = lit≤ tt }
-
 product-le : {E l : ℕ} {factor x z w : Float} → (k : Factor E factor) → Reach E x l → Ratio z l grain → l ≤ 1048576 * fastest →
     grain ≤ l * 134217728 → Gap w → T (le (mul binary64 x (div binary64 w z)) (mul binary64 factor w))
 product-le {E} {l} k r z short far w =
@@ -557,7 +592,7 @@ product-le {E} {l} k r z short far w =
     let under : g < top = lt-of-le-of-lt (stretch-most d l g grain grain-pos some (w .most) far (s .near)) stretch-under in
     let low : l * 4096 ≤ d * grain = length-low l d grain top (omega (arith, room, fastest-some)) grain-square (w .least) in
     let most : r .size * g * M ≤ N * (d * grain) =
-    product-most E N M (r .size) g l d grain (r .most) (omega (arith, grain-some)) (s .near) low (k .over) in
+    product-most E N M (r .size) g l d grain (r .most) (omega (arith, speck-few)) (s .near) low (k .over) in
     let a : r .size * g * (M * grain) ≡ r .size * g * M * grain = sym (mul-assoc (r .size * g) M grain) in
     let b : N * d * (grain * grain) ≡ N * (d * grain) * grain = simp (mul-assoc, mul-comm, mul-left-comm) in
     rw (mul-is (r .value) (s .value under), mul-is (k .value) (w .value))
@@ -729,7 +764,3 @@ module _ {row : List (List Float)} {s0 s1 factor : Float} (w : WellBefore row s0
   seen-by q shares =
       let stages = stages-of (arclenFunctorOf q) in
       record { stages = stages; written = stages-written (arclenFunctorOf q); shown = answered row (measureFunctorOf s0 s1 q) stages (along q shares) }
-
--- whatever the quad's shape
-pub seen-any : (row : List (List Float)) (s0 s1 : Float) (q : Quad) → WellBefore row s0 s1 thrice → Shows row s0 s1 q
-seen-any row s0 s1 q w = seen-by w thrice-is q (any-shares (arclenFunctorOf q))

@@ -4,7 +4,7 @@ use Prim.Native.Nat.{ℕ, _+_, _*_, _≤_, _<_}
 use mathlib.Core.Bool.{true, false≢true}
 use mathlib.Core.Path.{_≡_, refl, ap, _∙_}
 use mathlib.Core.List.{List}
-use native.Mathlib.Nat.{add-mul, mul-add, mul-assoc, mul-right-comm, mul-mul-mul-comm, mul-le-mul-right, lt-of-mul-lt-mul-right}
+use native.Mathlib.Nat.{add-mul, mul-assoc, mul-right-comm, mul-le-mul-right, lt-of-mul-lt-mul-right}
 use native.Mathlib.Omega.{arith}
 use borrow.Author.Count.{below-more}
 use lib.Dec.{T, lit≤}
@@ -33,14 +33,14 @@ use Rattle.measure.proofs.Nearly.{
   same-size,
   less-true,
   Sized,
-  sized,
+  size-of,
   sum-of,
   times,
   add-parts,
   mul-part,
 }
-use Rattle.measure.proofs.Roots.{root-le, root-of}
-use Rattle.measure.proofs.Ahead.{least-is, grain-some, Fast, Least, Share, Shares, Factor, seen-by}
+use Rattle.measure.proofs.Roots.{root-le, squared, sum-squared, root-of}
+use Rattle.measure.proofs.Ahead.{least-is, grain-some, speck-some, Fast, Least, NoLonger, Share, own-share, within, Shares, Factor, seen-by}
 
 -- ---- one step more
 pub one-more : {f : ArclenFunctor} {i : ℕ} {t a b d : Float} → Even f i → t ≡ timeAt tenth i → a ≡ squareAt f t →
@@ -69,11 +69,6 @@ pub less-finite : {x : Float} (z : Float) → NotNegative x → lt x z ≡ true 
 less-finite z no-number h = absurd (unfold lt in false≢true h)
 less-finite z endless h = absurd (none-above z h)
 less-finite z (number m e) h = tt
-
-pub size-of : {x : Float} → NotNegative x → T (fits binary64 x) → T (finite x) → Sized x
-size-of no-number f h = absurd h
-size-of endless f h = absurd h
-size-of (number m e) f h = sized m e f
 
 record Squares (A B D : Float) : Type 0 where
   a : Sized A
@@ -121,18 +116,12 @@ squares-of pA pB pD fA fB fD e =
     }
 
 -- ---- and the speeds themselves: x, y and z are nearly the roots of a, b and d
-squared : (c x : ℕ) → c * x * (c * x) ≡ c * c * (x * x)
-squared c x = mul-mul-mul-comm c x c x
-
 first-root : (a b u x y : ℕ) → a * 1000 ≤ 4002 * b → x * x * 100000 ≤ 100001 * (a * u) → b * u * 100000 ≤ 100001 * (y * y) → 100 * x ≤ 201 * y
 first-root a b u x y first ax by =
     let scaled : a * 1000 * u ≤ 4002 * b * u = mul-le-mul-right u first in
     let l : a * 1000 * u ≡ a * u * 1000 = mul-right-comm a 1000 u in
     let r : 4002 * b * u ≡ 4002 * (b * u) = mul-assoc 4002 b u in
     root-le (100 * x) (201 * y) (omega (arith, squared 100 x, squared 201 y))
-
-sum-squared : (x z : ℕ) → x * x + z * z ≤ (x + z) * (x + z)
-sum-squared x z = omega (arith, add-mul x z (x + z), mul-add x x z, mul-add z x z)
 
 middle-root : (a b d u x y z : ℕ) → 1936 * b ≤ 1000 * (a + d) → a * u * 100000 ≤ 100001 * (x * x) → y * y * 100000 ≤ 100001 * (b * u) →
     d * u * 100000 ≤ 100001 * (z * z) → 139 * y ≤ 100 * (x + z)
@@ -143,24 +132,27 @@ middle-root a b d u x y z middle ax by dz =
     root-le (139 * y) (100 * (x + z)) (omega (arith, squared 139 y, squared 100 (x + z), sum-squared x z))
 
 -- ---- how far they lead
-even-share : (a b d v : ℕ) → 100 * a ≤ 201 * b → 139 * b ≤ 100 * (a + d) → Least a b d v → Share 1220 a b v
-even-share a b d v first middle h = record { first = omega arith; middle = omega arith }
+even-share : (y a b d v l : ℕ) → 100 * a ≤ 201 * b → 139 * b ≤ 100 * (a + d) → Least a b d v → NoLonger (y + v) l → Share 1220 y a b l
+even-share y a b d v l first middle h whole = record {
+  first = own-share 1220 y v (501 * a) l (omega arith) whole (omega (arith, speck-some));
+  middle = own-share 1220 y v (1002 * b) l (omega arith) whole (omega (arith, speck-some));
+}
 
-step-share : {A B D : Float} → Squares A B D → (a : Fast (rootOf A)) (b : Fast (rootOf B)) (d : Fast (rootOf D)) (v : ℕ) →
-    Least (a .size) (b .size) (d .size) v → Share 1220 (a .size) (b .size) v
-step-share s a b d v h =
+step-share : {A B D : Float} → Squares A B D → (a : Fast (rootOf A)) (b : Fast (rootOf B)) (d : Fast (rootOf D)) (y v l : ℕ) →
+    Least (a .size) (b .size) (d .size) v → NoLonger (y + v) l → Share 1220 y (a .size) (b .size) l
+step-share s a b d y v l h whole =
     let x = root-of (s .a .value) in
-    let y = root-of (s .b .value) in
+    let r = root-of (s .b .value) in
     let z = root-of (s .d .value) in
     let xa = same-size (x .value) (a .value) in
-    let yb = same-size (y .value) (b .value) in
+    let yb = same-size (r .value) (b .value) in
     let zd = same-size (z .value) (d .value) in
     let n = s .a .size in
     let m = s .b .size in
     let k = s .d .size in
-    even-share (a .size) (b .size) (d .size) v
-    (rw (← xa, ← yb) (first-root n m grain (x .size) (y .size) (s .first) (x .most) (y .least)))
-    (rw (← xa, ← yb, ← zd) (middle-root n m k grain (x .size) (y .size) (z .size) (s .middle) (x .least) (y .most) (z .least))) h
+    even-share y (a .size) (b .size) (d .size) v l
+    (rw (← xa, ← yb) (first-root n m grain (x .size) (r .size) (s .first) (x .most) (r .least)))
+    (rw (← xa, ← yb, ← zd) (middle-root n m k grain (x .size) (r .size) (z .size) (s .middle) (x .least) (r .most) (z .least))) h whole
 
 even-shares : (f : ArclenFunctor) → Even f 10 → Shares f 1220
 unfolding speedOf
@@ -168,9 +160,10 @@ even-shares f even =
     record {
       few = omega arith;
       each =
-          λ i less. step-share
+          λ l all i less. let p = all i less in
+          step-share
           (squares-of (squares-plus _ _) (squares-plus _ _) (squares-plus _ _) (add-fits binary64 _ _) (add-fits binary64 _ _) (add-fits binary64 _ _)
-          (even .is i less));
+          (even .is i less)) (p .step .a) (p .step .b) (p .step .d) (p .from) (p .step .v) l (p .step .least) (within f p);
     }
 
 -- a gap and an eighth

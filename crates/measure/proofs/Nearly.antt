@@ -153,7 +153,7 @@ under-rounded : (num den : ℕ) → T (finite (round binary64 false num den)) �
 unfolding top
 under-rounded num den h = round-under binary64 num den h
 
-rounded : (num M : ℕ) → 0 < M → Rounded num M (round binary64 false num (M * grain))
+pub rounded : (num M : ℕ) → 0 < M → Rounded num M (round binary64 false num (M * grain))
 rounded num M p = record {
   size = grid binary64 num (M * grain);
   near = without (grid binary64 num (M * grain)) num M grain grain-pos (near-rounded num (M * grain) (mul-pos p grain-pos));
@@ -211,6 +211,11 @@ sized m e f =
     let u = under-rounded (m * up e) (down e) (rw own tt) in
     rw (← own) (record { size = grid binary64 (m * up e) (down e); value = value-rounded (m * up e) (down e) u })
 
+pub size-of : {x : Float} → NotNegative x → T (fits binary64 x) → T (finite x) → Sized x
+size-of no-number f h = absurd h
+size-of endless f h = absurd h
+size-of (number m e) f h = sized m e f
+
 -- ---- a comparison is one of the fractions
 pub less-true : {x y : Float} {a b c d : ℕ} → Ratio x a c → Ratio y b d → lt x y ≡ true → a * d < b * c
 unfolding lt
@@ -233,7 +238,7 @@ ratio-finite (ratio m e p v) = tt
 pub same-size : {x : Float} {a b c : ℕ} → Ratio x a c → Ratio x b c → a ≡ b
 same-size {a = a} {b} (ratio m e p v) (ratio _ _ q w) = eq-of-mul-eq-mul-right (down e) (down-pos e) a b (sym v ∙ w)
 
-size-le-of : {x y : Float} {a b c : ℕ} → Ratio x a c → Ratio y b c → T (le x y) → a ≤ b
+pub size-le-of : {x y : Float} {a b c : ℕ} → Ratio x a c → Ratio y b c → T (le x y) → a ≤ b
 unfolding le
 size-le-of {a = a} {b} {c} (ratio m e p v) (ratio n d q w) h =
     le-of-mul-le-mul-right

@@ -55,7 +55,7 @@ first-part (number m e) f no-number = than-nan _
 first-part (number m e) f endless = than-inf _
 first-part (number m e) f (number n d) = no-more (number m e) (add-plus (number m e) (number n d)) (own m n e d f)
 
-turned-round : {p w : Float} → NotNegative p → NotNegative w → add binary64 w p ≡ add binary64 p w
+pub turned-round : {p w : Float} → NotNegative p → NotNegative w → add binary64 w p ≡ add binary64 p w
 unfolding add sum
 turned-round no-number no-number = refl
 turned-round no-number endless = refl

@@ -38,10 +38,10 @@ use Rattle.measure.specs.Turned.{oneAndMore, shareOf, Off, Turned}
 use Rattle.measure.proofs.Signs.{NotNegative, number, add-plus, mul-plus, div-plus, square-plus, squares-plus, speed-plus, term-plus}
 use Rattle.measure.proofs.Climb.{above-plus}
 use Rattle.measure.proofs.NoMore.{NoMore, than-nan, no-more-than, first-part, last-part, times-more, over-more, still-less}
-use Rattle.measure.proofs.Nearly.{Near, grain, grain-pos, top, Ratio, ratio, ratio-plus, times, mul-part, less-true}
+use Rattle.measure.proofs.Nearly.{Near, grain, grain-pos, top, Ratio, ratio, ratio-plus, size-of, times, mul-part, less-true}
 use Rattle.measure.proofs.Roots.{root-le, root-of}
 use Rattle.measure.proofs.Ahead.{sixth-is, two-is, grain-some, Gap, gap}
-use Rattle.measure.proofs.Even.{room, less-finite, size-of}
+use Rattle.measure.proofs.Even.{room, less-finite}
 use Rattle.measure.proofs.Early.{falls, told}
 
 -- ---- the speed is no more than w, by their squares

@@ -1,7 +1,7 @@
 -- The square of a root is nearly the number itself, counted in smallest f64s: a hundred-thousandth away at most. Assumes nothing.
-use Prim.Native.Nat.{ℕ, zero, suc, _-_, _*_, _/_, _^_, _≤_, _<_}
+use Prim.Native.Nat.{ℕ, zero, suc, _+_, _-_, _*_, _/_, _^_, _≤_, _<_}
 use mathlib.Core.Path.{_≡_, sym, ap, _∙_}
-use native.Mathlib.Nat.{zero-lt-suc, mul-assoc, mul-right-comm, mul-mul-mul-comm, mul-pos, mul-le-mul-left, mul-le-mul-right, mul-lt-mul-of-pos-right, mul-div-cancel, le-of-lt, le-of-suc-le-suc, lt-of-le-of-lt, lt-of-not-le, not-le-of-lt}
+use native.Mathlib.Nat.{zero-lt-suc, add-mul, mul-add, mul-assoc, mul-right-comm, mul-mul-mul-comm, mul-pos, mul-le-mul-left, mul-le-mul-right, mul-lt-mul-of-pos-right, mul-div-cancel, le-of-lt, le-of-suc-le-suc, lt-of-le-of-lt, lt-of-not-le, not-le-of-lt}
 use native.Mathlib.Omega.{arith}
 use lib.Pow.{pow-add, pow-pos}
 use lib.IntN.{ℤ}
@@ -18,6 +18,12 @@ pub root-le : (p q : ℕ) → p * p ≤ q * q → p ≤ q
 root-le p q h =
     le-of-suc-le-suc (lt-of-not-le (λ (g : suc q ≤ p).
     not-le-of-lt (lt-of-le-of-lt (mul-le-mul-left q (le-of-lt g)) (mul-lt-mul-of-pos-right g (omega arith))) h))
+
+pub squared : (c x : ℕ) → c * x * (c * x) ≡ c * c * (x * x)
+squared c x = mul-mul-mul-comm c x c x
+
+pub sum-squared : (x z : ℕ) → x * x + z * z ≤ (x + z) * (x + z)
+sum-squared x z = omega (arith, add-mul x z (x + z), mul-add x x z, mul-add z x z)
 
 -- ---- the root of n smallest f64s: its square is nearly n times the grain
 pub record Rooted (n : ℕ) (x : Float) : Type 0 where

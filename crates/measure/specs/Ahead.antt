@@ -3,10 +3,9 @@ use Prim.Native.Nat.{ℕ, _-_, _^_, _≤_, _<_}
 use mathlib.Core.Bool.{true}
 use mathlib.Core.Path.{_≡_}
 use mathlib.Core.List.{List}
-use lib.Dec.{T}
 use lib.ListN.{length}
 use lib.IntN.{pos}
-use lib.Ieee.{Float, binary64, fits, add, sub, mul, lt, eq, le, ofInt, ofBits}
+use lib.Ieee.{Float, binary64, add, sub, mul, lt, le, ofInt, ofBits}
 use Rattle.float.specs.Numbers.{nought}
 use Rattle.geometry.specs.Geometry.{squareNormOf}
 use Rattle.arclen.specs.Rk4.{halfOf}
@@ -59,13 +58,3 @@ squareAt f t = squareNormOf (derivOf f t)
 pub record Even (f : ArclenFunctor) (k : ℕ) : Type 0 where
   pub is : (i : ℕ) → i < k →
       EvenStep (squareAt f (timeAt tenth i)) (squareAt f (add binary64 (timeAt tenth i) (halfOf tenth))) (squareAt f (add binary64 (timeAt tenth i) tenth))
-
--- what goes from a to b stays where it is
-pub record Stays (a b : Float) : Type 0 where
-  pub whole : T (fits binary64 a)
-  pub none : eq (sub binary64 b a) nought ≡ true
-
--- so does the derivative
-pub record Straight (f : ArclenFunctor) : Type 0 where
-  pub across : Stays (f .dx0) (f .dx1)
-  pub upward : Stays (f .dy0) (f .dy1)

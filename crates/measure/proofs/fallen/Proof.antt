@@ -3,17 +3,20 @@ use mathlib.Core.Path.{sym}
 use Rattle.measure.proofs.fallen.Statement.{statement}
 use Rattle.measure.proofs.fallen.Tie as tie
 
+returns : tie.Need-returns
+returns c = sym (c .before .pre (c .if1 .taken) .none)
+
 surely-requires : tie.Need-surely-requires
 surely-requires c κs = tt
 
-returns : tie.Need-returns
-returns c = sym (c .before .surely .ensures (c .if1 .taken) .none)
+returns-2 : tie.Need-returns-2
+returns-2 c = sym (c .before .surely .ensures (c .if2 .taken) .none)
 
 count-requires : tie.Need-count-requires
 count-requires c κs = tt
 
-returns-2 : tie.Need-returns-2
-returns-2 c = c .count .ensures
+returns-3 : tie.Need-returns-3
+returns-3 c = c .count .ensures
 
 pub fallen-spec : {M : Type 1} → statement M
-fallen-spec = tie.close (tie.spec surely-requires returns count-requires returns-2)
+fallen-spec = tie.close (tie.spec returns surely-requires returns-2 count-requires returns-3)

@@ -1,5 +1,5 @@
 -- `measure::shows_any` meets its contract, by the law `seen-any`. Assumes nothing.
-use Rattle.measure.proofs.Ahead.{seen-any}
+use Rattle.measure.proofs.Anywhere.{seen-any}
 use Rattle.measure.proofs.shows_any.Statement.{statement}
 use Rattle.measure.proofs.shows_any.Tie as tie
 
