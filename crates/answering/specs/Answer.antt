@@ -1,5 +1,5 @@
 -- The answer to a line. Definitions only.
-use Prim.Native.Nat.{ℕ, _≤_}
+use Prim.Native.Nat.{ℕ, _+_, _/_, _≤_, min}
 use mathlib.Core.Bool.{Bool, true, false}
 use mathlib.Core.List.{List, [], _∷_, _++_, map}
 use mathlib.Core.Option.{Option, none, some}
@@ -64,6 +64,11 @@ parsedText s told none = malformedWord
 -- of a line, without its end
 unfoldable pub lineText : Order → List ℕ → List ℕ
 lineText o line = parsedText (o .settings) (o .told) (parsedOf line)
+
+-- the places that a row for the points of a line needs: one for every six bytes, blanks among them; of more than 1,024 points the number is all
+-- that counts
+abbrev pub placesFor : List ℕ → ℕ
+placesFor line = min ((length line + 1) / 6) 1025
 
 -- text put; or nothing, where the rows are too short
 abbrev pub Tries : List ℕ → ℕ → List ℕ → List ℕ → T.Fit → Type 0

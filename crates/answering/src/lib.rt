@@ -4,11 +4,13 @@ use lines::Parsed;
 use settings::Settings;
 ghost use mathlib.Core.Path.{_≡_};
 ghost use mathlib.Core.List.{[], _∷_, _++_};
+ghost use Prim.Native.Nat.{_≤_, _<_};
+ghost use lib.ListN.{length};
 ghost use Rattle.contour.specs.Output.{outputs};
 ghost use Rattle.crunch.specs.Entry.{report};
 ghost use Rattle.crunch.specs.Laws.{forRoom};
 ghost use Rattle.lines.specs.Text.{Put};
-ghost use Rattle.answering.specs.Answer.{Roomy, NoLonger, fallenText, entryText, answerText, lineText, Tries};
+ghost use Rattle.answering.specs.Answer.{Roomy, NoLonger, fallenText, entryText, answerText, lineText, placesFor, Tries};
 
 // How lines are answered: what the contours are worked with, and whether an answer tells the lookups that fell.
 pub struct Order {
@@ -374,19 +376,52 @@ fn put_crunched(
     }
 }
 
-fn put_read(text: &mut [u8], at: usize, line: &[u8], settings: Settings, told: bool) -> usize
+// The answer to a line that is read into lent rows. They have a place for each point that it can have, or 1,025: so many are
+// refused as more would be.
+fn put_parsed(
+    text: &mut [u8],
+    at: usize,
+    line: &[u8],
+    settings: Settings,
+    told: bool,
+    xs: &mut [i16],
+    ys: &mut [i16],
+    flags: &mut [u8],
+) -> usize
+    requires { ⌜ (placesFor (now line) ≤ length (now xs)) × (placesFor (now line) ≤ length (now ys)) × (placesFor (now line) ≤ length (now flags)) ⌝ }
     ensures { λ r. ⌜ Put (now (text .entry)) at (lineText (record { settings = settings; told = told }) (now (line .entry))) (now (text .exit)) r ⌝ }
 {
-    let mut xs = [0i16; 1025];
-    let mut ys = [0i16; 1025];
-    let mut flags = [0u8; 1025];
-    match lines::parse(line, &mut xs, &mut ys, &mut flags) {
+    match lines::parse(line, xs, ys, flags) {
         Parsed::Malformed => lines::put_all(text, at, b"malformed"),
         Parsed::Points(n) => {
             let m = rows::least(n, 1025);
             put_crunched(text, at, &xs[..m], &ys[..m], &flags[..m], settings, told)
         }
     }
+}
+
+// In rows that a line so short does not overfill, and that are cleared in a fraction of the time: a point takes six bytes with the blanks
+// after its words, and the last blank is none of the line's.
+fn put_brief(text: &mut [u8], at: usize, line: &[u8], settings: Settings, told: bool) -> usize
+    requires { ⌜ length (now line) < 192 ⌝ }
+    ensures { λ r. ⌜ Put (now (text .entry)) at (lineText (record { settings = settings; told = told }) (now (line .entry))) (now (text .exit)) r ⌝ }
+{
+    let mut xs = [0i16; 32];
+    let mut ys = [0i16; 32];
+    let mut flags = [0u8; 32];
+    put_parsed(text, at, line, settings, told, &mut xs, &mut ys, &mut flags)
+}
+
+fn put_read(text: &mut [u8], at: usize, line: &[u8], settings: Settings, told: bool) -> usize
+    ensures { λ r. ⌜ Put (now (text .entry)) at (lineText (record { settings = settings; told = told }) (now (line .entry))) (now (text .exit)) r ⌝ }
+{
+    if line.len() < 192 {
+        return put_brief(text, at, line, settings, told);
+    }
+    let mut xs = [0i16; 1025];
+    let mut ys = [0i16; 1025];
+    let mut flags = [0u8; 1025];
+    put_parsed(text, at, line, settings, told, &mut xs, &mut ys, &mut flags)
 }
 
 // The answer to a line, which is given without its end, and a line end after it.

@@ -1,8 +1,10 @@
 -- The speeds of a straight piece have one square at all times that are numbers, as those of ten steps are. Assumes nothing.
-use Prim.Native.Nat.{ℕ, _*_, _<_}
+use Prim.Native.Nat.{ℕ, _+_, _*_, _<_, _≤_}
 use mathlib.Core.Bool.{true, false}
+use mathlib.Core.List.{List}
 use mathlib.Core.Path.{_≡_, refl, sym, _∙_}
 use native.Mathlib.Nat.{mul-mul-mul-comm, mul-pos}
+use native.Mathlib.Omega.{arith}
 use lib.Dec.{T}
 use lib.IntN.{ℤ}
 use lib.Ieee.{Float, nan, inf, fin, binary64, up, down, fits, round, add, sub, mul, ofBits}
@@ -12,11 +14,11 @@ use Rattle.float.specs.Numbers.{nought}
 use Rattle.float.specs.Float.{rootOf}
 use Rattle.float.proofs.Zeros.{IsZero, is-zero, is-nought, times-zero, Level, one-sign, zeros, plus-zero}
 use Rattle.geometry.specs.Geometry.{alongOf, squares, squareNormOf}
-use Rattle.arclen.specs.Arclen.{tenth, derivOf, speedOf}
-use Rattle.arclen.specs.Stages.{timeAt}
+use Rattle.arclen.specs.Arclen.{tenth, hundredth, derivOf, speedOf}
+use Rattle.arclen.specs.Stages.{timeAt, timeFrom, placeAt, Ready, SameSpeeds}
 use Rattle.arclen.specs.Straight.{Unmoved, Straight}
 use Rattle.arclen.specs.declared.ArclenFunctor.{ArclenFunctor}
-use Rattle.arclen.proofs.Times.{middle, end, times}
+use Rattle.arclen.proofs.Times.{middle, end, times, places-finite}
 
 -- ---- a value and a zero have the square of the value
 crossed : (M E N D : ℕ) → M * D ≡ N * E → M * M * (D * D) ≡ N * N * (E * E)
@@ -58,13 +60,14 @@ pub record OneSquare (f : ArclenFunctor) (t : Float) : Type 0 where
   pub half : squareAt f (middle t) ≡ squareAt f nought
   pub last : squareAt f (end t) ≡ squareAt f nought
 
+as-first : (f : ArclenFunctor) → Straight f → (t : Float) → T (finite t) → squareAt f t ≡ squareAt f nought
+as-first f s t h = same-square f t s h ∙ sym (same-square f nought s (unfold ofBits in tt))
+
 pub one-square : (f : ArclenFunctor) → Straight f → (i : ℕ) → i < 10 → OneSquare f (timeAt tenth i)
 one-square f s i less =
     let t = times i less in
+    let same = as-first f s in
     record { first = same (timeAt tenth i) (t .start-finite); half = same (middle (timeAt tenth i)) (t .middle-finite); last = same (end (timeAt tenth i)) (t .end-finite) }
-  where
-    same : (t : Float) → T (finite t) → squareAt f t ≡ squareAt f nought
-    same t h = same-square f t s h ∙ sym (same-square f nought s (unfold ofBits in tt))
 
 pub record OneSpeed (f : ArclenFunctor) (v t : Float) : Type 0 where
   pub first : v ≡ speedOf f t
@@ -76,3 +79,18 @@ unfolding speedOf
 one-speed {f} {v} {t} {i} s e less time =
     let o = one-square f s i less in
     record { first = rw (time, o .first) e; half = rw (time, o .half) e; last = rw (time, o .last) e }
+
+-- ---- and it serves all hundred steps between samples
+speed-first : (f : ArclenFunctor) → Straight f → (t : Float) → T (finite t) → speedOf f nought ≡ speedOf f t
+unfolding speedOf
+speed-first f s t h = rw (as-first f s t h)
+
+pub straight-ready : {f : ArclenFunctor} {v : List Float} → Straight f → SameSpeeds f nought v → (m : ℕ) → m ≤ 90 →
+    Ready f hundredth (timeFrom hundredth nought m) v 0
+straight-ready {f} {v} s same m few =
+    record {
+      is = λ k less.
+          let all : 2 * 0 + k ≡ k = omega arith in
+          let low : k < 21 = omega arith in
+          rw all (same .is k low ∙ speed-first f s (placeAt hundredth (timeFrom hundredth nought m) k) (places-finite m few k low));
+    }

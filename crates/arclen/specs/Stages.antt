@@ -8,7 +8,7 @@ use lib.Ieee.{Float, nan, binary64, add, mul}
 use Rattle.float.specs.Numbers.{nought}
 use Rattle.float.specs.Float.{rootOf}
 use Rattle.geometry.specs.Geometry.{squareNormOf}
-use Rattle.arclen.specs.Rk4.{halfOf}
+use Rattle.arclen.specs.Rk4.{halfOf, grownBy}
 use Rattle.arclen.specs.Arclen.{tenth, derivOf, speedOf, rk4One}
 use Rattle.arclen.specs.declared.ArclenFunctor.{ArclenFunctor}
 use Rattle.arclen.specs.declared.Pace.{Pace}
@@ -50,18 +50,32 @@ within h t (suc j) = add binary64 t (halfOf h)
 unfoldable pub placeAt : Float → Float → ℕ → Float
 placeAt h t k = within h (timeFrom h t (k / 2)) (k % 2)
 
--- below k of 21 places the squares of the speeds are written
-pub record Squares (f : ArclenFunctor) (h t : Float) (v : List Float) (k : ℕ) : Type 0 where
-  pub long : length v ≡ 21
-  pub is : (j : ℕ) → j < k → getD v j nan ≡ squareNormOf (derivOf f (placeAt h t j))
+-- below k of 20 places the squares of the speeds are written that come after the first
+pub record Squares (f : ArclenFunctor) (h t : Float) (w : List Float) (k : ℕ) : Type 0 where
+  pub long : length w ≡ 20
+  pub is : (j : ℕ) → j < k → getD w j nan ≡ squareNormOf (derivOf f (placeAt h t (j + 1)))
 
 -- from the step i of ten on, which starts at t, the speeds are written
 pub record Ready (f : ArclenFunctor) (h t : Float) (v : List Float) (i : ℕ) : Type 0 where
   pub is : (k : ℕ) → 2 * i + k < 21 → getD v (2 * i + k) nan ≡ speedOf f (placeAt h t k)
 
--- below k the roots of what w holds are written
-pub record Roots (w v : List Float) (k : ℕ) : Type 0 where
-  pub is : (j : ℕ) → j < k → getD v j nan ≡ rootOf (getD w j nan)
+-- after the first place, the roots of the first k numbers of w are written
+pub record Roots (w : List Float) (first : Float) (v : List Float) (k : ℕ) : Type 0 where
+  pub long : length v ≡ 21
+  pub start : getD v 0 nan ≡ first
+  pub is : (j : ℕ) → j < k → getD v (j + 1) nan ≡ rootOf (getD w j nan)
+
+-- all 21 speeds are the one at t
+pub record SameSpeeds (f : ArclenFunctor) (t : Float) (v : List Float) : Type 0 where
+  pub long : length v ≡ 21
+  pub is : (j : ℕ) → j < 21 → getD v j nan ≡ speedOf f t
+
+-- with the speeds v, k steps of h lead from the length y to those that are written
+pub record Lengths (h y : Float) (v lengths : List Float) (k : ℕ) : Type 0 where
+  pub long : length lengths ≡ 11
+  pub start : getD lengths 0 nan ≡ y
+  pub next : (i : ℕ) → i < k →
+      getD lengths (i + 1) nan ≡ grownBy h (getD lengths i nan) (getD v (2 * i) nan) (getD v (2 * i + 1) nan) (getD v (2 * i + 1) nan) (getD v (2 * i + 2) nan)
 
 -- a stage: its time, the speed there, and the length that RK4 takes to be reached there
 abbrev pub stage : ArclenFunctor → Float → Float → List Float

@@ -1,15 +1,18 @@
 // Module 4: the derivative of a quad, and its length by RK4. The rate of the length does not look at the
 // length, so that the two middle rates of a step are one, and a step's last rate is the next one's first:
-// 21 speeds serve ten steps. Their roots are guessed in a loop of their own, which is compiled to take
-// several at a time, and taken by these guesses in another, where they overlap. Of a straight piece all speeds are one.
+// 21 speeds serve ten steps, and 20 more the ten after them. Their roots are guessed in a loop of their own, which is
+// compiled to take several at a time, and taken by these guesses in another, where they overlap. Of a straight piece all
+// speeds are one.
 ghost use mathlib.Core.Bool.{true};
 ghost use mathlib.Core.Path.{_≡_};
 ghost use Prim.Native.Nat.{_<_};
-ghost use lib.ListN.{length};
+ghost use lib.ListN.{length, getD};
+ghost use lib.Ieee.{nan};
 ghost use Rattle.arclen.specs.Rk4.{grownBy};
-ghost use Rattle.arclen.specs.Arclen.{tenth, arclenFunctorOf, derivOf, arclenOf};
+ghost use Rattle.arclen.specs.Arclen.{tenth, arclenFunctorOf, derivOf, speedOf, arclenOf};
 ghost use Rattle.arclen.specs.Straight.{Unmoved, Straight};
-ghost use Rattle.arclen.specs.Stages.{Paced, paceWith, paceOf, reachedBy, Squares, Ready, Roots, withStep, Walked};
+ghost use Rattle.arclen.specs.Stages.{Paced, paceWith, paceOf, reachedBy, timeFrom, Squares, Ready, Roots, SameSpeeds, Lengths};
+ghost use Rattle.arclen.specs.Stages.{withStep, Walked};
 ghost use Rattle.geometry.specs.Geometry.{squareNormOf};
 use geometry::Point;
 use geometry::Quad;
@@ -140,87 +143,102 @@ pub fn rk4(f: ArclenFunctor, h: f64, t: f64, from: Reached) -> Reached
     Reached { length, pace }
 }
 
-// Writes the squares of the 21 speeds of ten steps of h from t on: those where a step starts at the even
-// places, and those in its middle at the odd ones.
-fn fill_squares(f: ArclenFunctor, h: f64, t: f64, v: &mut [f64; 21])
-    requires { ⌜ length (now v) ≡ 21 ⌝ }
-    ensures { λ r. ⌜ Squares f h t (now (v .exit)) 21 ⌝ }
+// Writes the squares of the speeds in the middle and at the end of each of ten steps of h from t on.
+fn fill_squares(f: ArclenFunctor, h: f64, t: f64, w: &mut [f64; 20])
+    requires { ⌜ length (now w) ≡ 20 ⌝ }
+    ensures { λ r. ⌜ Squares f h t (now (w .exit)) 20 ⌝ }
 {
     let mut time = t;
     let mut i = 0usize;
     while i < 10 {
-        let first = f.square(time);
         let middle = f.square(time + h * 0.5);
-        v[2 * i] = first;
-        v[2 * i + 1] = middle;
         time = time + h;
+        w[2 * i] = middle;
+        w[2 * i + 1] = f.square(time);
         i += 1;
     }
-    v[20] = f.square(time);
 }
 
-// Guesses the roots of 21 squares. The loop has no branch.
-fn fill_guesses(w: &[f64; 21], v: &mut [f64; 21])
-    requires { ⌜ (length (now w) ≡ 21) × (length (now v) ≡ 21) ⌝ }
-    ensures { λ r. ⌜ length (now (v .exit)) ≡ 21 ⌝ }
+// Guesses the roots of 20 squares. The loop has no branch.
+fn fill_guesses(w: &[f64; 20], guesses: &mut [f64; 20])
+    requires { ⌜ (length (now w) ≡ 20) × (length (now guesses) ≡ 20) ⌝ }
+    ensures { λ r. ⌜ length (now (guesses .exit)) ≡ 20 ⌝ }
 {
     let mut k = 0usize;
-    while k < 21 {
-        v[k] = quickroot::likely(w[k]);
+    while k < 20 {
+        guesses[k] = quickroot::likely(w[k]);
         k += 1;
     }
 }
 
-// Writes the roots of 21 squares over guesses of them, which may be any numbers.
-fn fill_by_guesses(w: &[f64; 21], v: &mut [f64; 21])
-    requires { ⌜ (length (now w) ≡ 21) × (length (now v) ≡ 21) ⌝ }
-    ensures { λ r. ⌜ Roots (now (w .entry)) (now (v .exit)) 21 ⌝ }
+// Writes the roots of 20 squares after the first place of v, by guesses of them, which may be any numbers.
+fn fill_roots(w: &[f64; 20], guesses: &[f64; 20], v: &mut [f64; 21])
+    requires { ⌜ (length (now w) ≡ 20) × (length (now guesses) ≡ 20) × (length (now v) ≡ 21) ⌝ }
+    ensures { λ r. ⌜ Roots (now (w .entry)) (getD (now (v .entry)) 0 nan) (now (v .exit)) 20 ⌝ }
 {
     let mut k = 0usize;
-    while k < 21 {
-        v[k] = quickroot::root_by(w[k], v[k]);
+    while k < 20 {
+        v[k + 1] = quickroot::root_by(w[k], guesses[k]);
         k += 1;
     }
 }
 
-// Writes the roots of 21 squares. A square that is equal to the one before it costs none.
-fn fill_in_turn(w: &[f64; 21], v: &mut [f64; 21])
-    requires { ⌜ (length (now w) ≡ 21) × (length (now v) ≡ 21) ⌝ }
-    ensures { λ r. ⌜ Roots (now (w .entry)) (now (v .exit)) 21 ⌝ }
+// The 21 speeds of ten steps of h from t on, over those of the ten steps before them, whose last is the
+// first of these.
+pub fn speeds_on(f: ArclenFunctor, h: f64, t: f64, v: &mut [f64; 21])
+    requires { ⌜ (length (now v) ≡ 21) × (getD (now v) 20 nan ≡ speedOf f t) ⌝ }
+    ensures { λ r. ⌜ (length (now (v .exit)) ≡ 21) × Ready f h t (now (v .exit)) 0 ⌝ }
 {
-    let mut last = Pace::still();
-    let mut k = 0usize;
-    while k < 21 {
-        last = last.next(w[k]);
-        v[k] = last.speed;
-        k += 1;
-    }
+    v[0] = v[20];
+    let mut w = [0.0; 20];
+    fill_squares(f, h, t, &mut w);
+    let mut guesses = [0.0; 20];
+    fill_guesses(&w, &mut guesses);
+    fill_roots(&w, &guesses, v);
 }
 
-// Writes the roots of 21 squares. Along a line all are equal, so that the first two are, and one root
-// serves.
-fn fill_speeds(w: &[f64; 21], v: &mut [f64; 21])
-    requires { ⌜ (length (now w) ≡ 21) × (length (now v) ≡ 21) ⌝ }
-    ensures { λ r. ⌜ Roots (now (w .entry)) (now (v .exit)) 21 ⌝ }
+// The speed at t, 21 times: all of those that a straight piece has.
+pub fn same_speeds(f: ArclenFunctor, t: f64) -> [f64; 21]
+    ensures { λ r. ⌜ SameSpeeds f t r ⌝ }
 {
-    if w[0] == w[1] {
-        fill_in_turn(w, v);
-        return;
-    }
-    fill_guesses(w, v);
-    fill_by_guesses(w, v);
+    [quickroot::root(f.square(t)); 21]
 }
 
-// The 21 speeds of ten steps of h from t on. The steps of a length and those between samples take theirs
-// from here.
+// The 21 speeds of ten steps of h from t on.
 pub fn speeds(f: ArclenFunctor, h: f64, t: f64) -> [f64; 21]
     ensures { λ r. ⌜ Ready f h t r 0 ⌝ }
 {
-    let mut w = [0.0; 21];
-    fill_squares(f, h, t, &mut w);
-    let mut v = [0.0; 21];
-    fill_speeds(&w, &mut v);
+    let mut v = same_speeds(f, t);
+    speeds_on(f, h, t, &mut v);
     v
+}
+
+// The lengths where each of ten steps of h starts, from y on and with these speeds, and where the last one ends.
+pub fn lengths(h: f64, y: f64, v: &[f64; 21]) -> [f64; 11]
+    requires { ⌜ length (now v) ≡ 21 ⌝ }
+    ensures { λ r. ⌜ Lengths h y (now (v .entry)) r 10 ⌝ }
+{
+    let mut at = [y; 11];
+    let mut i = 0usize;
+    while i < 10 {
+        let middle = v[2 * i + 1];
+        at[i + 1] = grown(h, at[i], v[2 * i], middle, middle, v[2 * i + 2]);
+        i += 1;
+    }
+    at
+}
+
+// The time after n steps of h from t on.
+pub fn later(h: f64, t: f64, n: usize) -> f64
+    ensures { λ r. ⌜ r ≡ timeFrom h t n ⌝ }
+{
+    let mut at = t;
+    let mut i = 0;
+    while i < n {
+        at = at + h;
+        i += 1;
+    }
+    at
 }
 
 // Writes the four stages of the step i, from the length y at the time t on and with the speeds a, b and d at its start, middle and

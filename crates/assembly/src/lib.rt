@@ -9,7 +9,7 @@ ghost use mathlib.Core.Path.{_≡_};
 ghost use Prim.Native.Nat.{_≤_};
 ghost use lib.ListN.{length};
 ghost use Rattle.rows.specs.Lent.{before, after, room};
-ghost use Rattle.runs.specs.Runs.{between};
+ghost use Rattle.runs.specs.Runs.{between, stopsOf};
 ghost use Rattle.settings.specs.Settings.{penaltyOf};
 ghost use Rattle.contour.specs.Points.{unchangedIn};
 ghost use Rattle.survey.specs.Survey.{surveyIn};
@@ -313,6 +313,91 @@ fn crunch_round(
     close_up(c, points, s)
 }
 
+// The points of a contour by its stops, which are listed.
+fn crunch_listed(
+    xs: &[i16],
+    ys: &[i16],
+    flags: &[u8],
+    stops: &[usize],
+    settings: Settings,
+    samples: &mut [[f64; 4]],
+    breaks: &mut [[f64; 6]],
+    answers: &mut [[f64; 3]],
+    links: &mut [u32],
+    points: &mut [[i16; 3]],
+) -> Crunching
+    requires { ⌜ (length (now stops) ≤ 1025) × (now stops ≡ stopsOf (settings .closed) (now xs) (now ys) (now flags)) ⌝ }
+    ensures { λ r. ⌜ Stands (room points) (after points)
+        (crunchRuns (roomsIn samples breaks answers links) settings (before xs) (before ys) (before flags)) r ⌝ }
+{
+    if settings.closed {
+        return crunch_round(
+            xs,
+            ys,
+            flags,
+            stops,
+            settings,
+            samples,
+            breaks,
+            answers,
+            links,
+            points,
+        );
+    }
+    let w = contour::start(xs, ys, points);
+    crunch_runs(
+        xs,
+        ys,
+        flags,
+        stops,
+        settings,
+        Progress {
+            w,
+            tally: Tally {
+                pairs: 0,
+                fallen: 0,
+            },
+        },
+        samples,
+        breaks,
+        answers,
+        links,
+        points,
+    )
+}
+
+// Those of a contour of few points, whose stops a short list holds: the long one takes longer to zero than such a contour to work.
+fn crunch_few(
+    xs: &[i16],
+    ys: &[i16],
+    flags: &[u8],
+    settings: Settings,
+    samples: &mut [[f64; 4]],
+    breaks: &mut [[f64; 6]],
+    answers: &mut [[f64; 3]],
+    links: &mut [u32],
+    points: &mut [[i16; 3]],
+) -> Crunching
+    requires { ⌜ length (now flags) ≤ 32 ⌝ }
+    ensures { λ r. ⌜ Stands (room points) (after points)
+        (crunchRuns (roomsIn samples breaks answers links) settings (before xs) (before ys) (before flags)) r ⌝ }
+{
+    let mut list = [0usize; 33];
+    let n = runs::list_few_stops(xs, ys, flags, settings.closed, &mut list);
+    crunch_listed(
+        xs,
+        ys,
+        flags,
+        &list[..n],
+        settings,
+        samples,
+        breaks,
+        answers,
+        links,
+        points,
+    )
+}
+
 // The points of a contour that none of refusals 1 to 5 and 16 is given for, in the scratch row.
 pub fn crunch_points(
     xs: &[i16],
@@ -328,14 +413,11 @@ pub fn crunch_points(
     ensures { λ r. ⌜ Stands (room points) (after points)
         (crunchRuns (roomsIn samples breaks answers links) settings (before xs) (before ys) (before flags)) r ⌝ }
 {
-    let mut list = [0usize; 1025];
-    let n = runs::list_stops(xs, ys, flags, settings.closed, &mut list);
-    if settings.closed {
-        return crunch_round(
+    if flags.len() <= 32 {
+        return crunch_few(
             xs,
             ys,
             flags,
-            &list[..n],
             settings,
             samples,
             breaks,
@@ -344,20 +426,14 @@ pub fn crunch_points(
             points,
         );
     }
-    let w = contour::start(xs, ys, points);
-    crunch_runs(
+    let mut list = [0usize; 1025];
+    let n = runs::list_stops(xs, ys, flags, settings.closed, &mut list);
+    crunch_listed(
         xs,
         ys,
         flags,
         &list[..n],
         settings,
-        Progress {
-            w,
-            tally: Tally {
-                pairs: 0,
-                fallen: 0,
-            },
-        },
         samples,
         breaks,
         answers,

@@ -13,7 +13,8 @@ use lib.Ieee.Fits.{down-pos}
 use lib.Ieee.Exact.{HasValue, round-exact}
 use lib.Ieee.Order.{le-of-values}
 use Rattle.float.specs.Numbers.{nought}
-use Rattle.measure.proofs.Signs.{NotNegative, no-number, endless, number, plus-is, plus-by, round-plus}
+use Rattle.float.proofs.NotNegative.{NotNegative, no-number, endless, number}
+use Rattle.measure.proofs.Signs.{plus-is, plus-by, round-plus}
 use Rattle.measure.proofs.Climb.{above-plus, adding, nan-lost}
 use Rattle.attempt.specs.Statements.{SumDoesNotFall}
 

@@ -55,11 +55,23 @@ pub fn is_zero(d: Point) -> bool
     }
 }
 
-// A corner by angle: a half turn is none.
+// A corner by angle: a half turn is none. The square of 0.02 lies between 1 / 4096 and 1 / 2048, and only
+// what the squares leave open takes roots.
 pub fn is_angle(d0: Point, d1: Point) -> bool
     ensures { λ r. ⌜ r ≡ angleCorner d0 d1 ⌝ }
 {
     let bend = d1.x * d0.y - d0.x * d1.y;
+    let both = d0.square_norm() * d1.square_norm();
+    if 0.5 < both {
+        if both < 1e20 {
+            if 0.00048828125 * both < bend * bend {
+                return true;
+            }
+            if bend * bend < 0.000244140625 * both {
+                return false;
+            }
+        }
+    }
     float::abs(bend / (d0.norm() * d1.norm())) > 0.02
 }
 

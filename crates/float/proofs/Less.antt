@@ -1,4 +1,4 @@
--- Of two floats one is less at most. Assumes nothing.
+-- Of two floats one is less at most, and none is less than a NaN. Assumes nothing.
 use Prim.Native.Nat.{ℕ, zero, suc, _+_, _*_, _<_}
 use mathlib.Core.Bool.{Bool, true, false, _&&_, _||_, Bool·beq, false≢true}
 use mathlib.Core.Path.{_≡_, refl}
@@ -47,3 +47,9 @@ first false q h = refl
 pub not-both : (x y : Float) → lt x y ≡ true → lt y x ≡ false
 unfolding le
 not-both x y h = first (lt y x) _ (not-less x y h)
+
+pub less-nan : (x : Float) → lt x nan ≡ false
+unfolding lt
+less-nan nan = refl
+less-nan (inf s) = refl
+less-nan (fin s m e) = refl

@@ -12,6 +12,9 @@ pub mod Squares
 pub mod Scaled
 pub mod Less
 pub mod NearRoot
+pub mod NotNegative
+pub mod Nearly
+pub mod Roots
 pub mod Pattern
 pub mod Read
 pub mod Table

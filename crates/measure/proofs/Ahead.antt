@@ -41,35 +41,12 @@ use lib.Ieee.Scale.{finite}
 use Rattle.float.specs.Float.{tiny, closeTo, rootDown, rootNear, rootUnits, rootOf}
 use Rattle.float.specs.Numbers.{nought, two, six}
 use Rattle.float.proofs.Zeros.{is-zero, IsBlank, blank, blank-nan, minus-zero, plus-zero, plus-nan, times-nan, any-times-zero}
-use Rattle.arclen.specs.Rk4.{halfOf, grownBy}
-use Rattle.arclen.specs.Arclen.{tenth, arclenFunctorOf, speedOf}
-use Rattle.arclen.specs.Stages.{timeAt, lengthAt, stageOf, stageAt, Written}
-use Rattle.arclen.specs.declared.ArclenFunctor.{ArclenFunctor}
-use Rattle.arclen.proofs.Laws.{is-longer, length-whole}
-use Rattle.geometry.specs.declared.Quad.{Quad}
-use Rattle.measure.specs.Measure.{alongSamples, stretchOf, measureFunctorOf}
-use Rattle.measure.specs.Early.{Shows}
-use Rattle.measure.specs.Ahead.{leastGap, mostGap, WellBefore}
-use Rattle.measure.proofs.Signs.{
-  NotNegative,
-  no-number,
-  endless,
-  number,
-  either,
-  add-plus,
-  mul-plus,
-  div-plus,
-  squares-plus,
-  speed-plus,
-  weight-plus,
-  grown-plus,
-}
-use Rattle.measure.proofs.Climb.{adding}
-use Rattle.measure.proofs.Sure.{place-inside, answered}
-use Rattle.measure.proofs.Nearly.{
+use Rattle.float.proofs.NotNegative.{NotNegative, no-number, endless, number, either, add-plus, mul-plus, div-plus, squares-plus}
+use Rattle.float.proofs.Nearly.{
   Near,
   grain,
   grain-pos,
+  grain-some,
   top,
   Ratio,
   ratio,
@@ -77,7 +54,6 @@ use Rattle.measure.proofs.Nearly.{
   ratio-plus,
   ratio-finite,
   same-size,
-  no-less,
   level-ratio,
   less-true,
   less-false,
@@ -92,8 +68,20 @@ use Rattle.measure.proofs.Nearly.{
   fewer-least,
   quotient-of,
   add-parts,
-  mul-part,
+  mul-parts,
 }
+use Rattle.arclen.specs.Rk4.{halfOf, grownBy}
+use Rattle.arclen.specs.Arclen.{tenth, arclenFunctorOf, speedOf}
+use Rattle.arclen.specs.Stages.{timeAt, lengthAt, stageOf, stageAt, Written}
+use Rattle.arclen.specs.declared.ArclenFunctor.{ArclenFunctor}
+use Rattle.arclen.proofs.Laws.{is-longer, length-whole}
+use Rattle.geometry.specs.declared.Quad.{Quad}
+use Rattle.measure.specs.Measure.{alongSamples, stretchOf, measureFunctorOf}
+use Rattle.measure.specs.Early.{Shows}
+use Rattle.measure.specs.Ahead.{leastGap, mostGap, WellBefore}
+use Rattle.measure.proofs.Signs.{speed-plus, weight-plus, grown-plus}
+use Rattle.measure.proofs.Climb.{adding, no-less}
+use Rattle.measure.proofs.Sure.{place-inside, answered}
 
 -- ---- a speed is a root, and the root of an f64 is 2 ^ 512 at most: so nothing below is past all f64s
 unfoldable pub fastest : ℕ
@@ -275,10 +263,10 @@ grow f first middle last Y h =
     let outer = add-plus pA pD in
     let inner = mul-plus (ratio-plus two-is) (add-plus pB pB) in
     let added = add-parts (ratio-plus Y) (weight-plus pA pB pB pD) h .1 in
-    let weight = mul-part (ratio-plus sixth-is) (add-plus outer inner) added in
+    let weight = mul-parts (ratio-plus sixth-is) (add-plus outer inner) added .1 in
     let both = add-parts outer inner weight in
     let ends = add-parts pA pD (both .0) in
-    let twice = mul-part (ratio-plus two-is) (add-plus pB pB) (both .1) in
+    let twice = mul-parts (ratio-plus two-is) (add-plus pB pB) (both .1) .1 in
     let a = speed-fast f first (ends .0) in
     let b = speed-fast f middle (add-parts pB pB twice .0) in
     let d = speed-fast f last (ends .1) in
@@ -559,10 +547,6 @@ length-low l d u t less squares least =
     let unit : u * u ≤ d * 1024 * u = mul-le-mul-right u least in
     let a : d * 1024 * u ≡ d * u * 1024 = mul-right-comm d 1024 u in
     omega arith
-
-pub grain-some : 100000000000000 ≤ grain
-unfolding grain
-grain-some = lit≤ tt
 
 grain-square : top * 4194304 ≤ grain * grain
 unfolding grain top

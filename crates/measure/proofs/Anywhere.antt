@@ -10,6 +10,7 @@ use lib.Pow.{pow-pos}
 use lib.IntN.{pos, negsuc}
 use lib.Ieee.{Float, binary64, fits, add, ofBits}
 use lib.Ieee.Fits.{mul-fits}
+use Rattle.float.proofs.Nearly.{grain, grain-pos, Ratio, ratio, ratio-finite, same-size}
 use Rattle.geometry.specs.declared.Quad.{Quad}
 use Rattle.arclen.specs.Rk4.{halfOf}
 use Rattle.arclen.specs.Arclen.{tenth, arclenFunctorOf}
@@ -17,7 +18,6 @@ use Rattle.arclen.specs.Stages.{timeAt, lengthAt}
 use Rattle.arclen.specs.declared.ArclenFunctor.{ArclenFunctor}
 use Rattle.measure.specs.Early.{Shows}
 use Rattle.measure.specs.Ahead.{WellBefore}
-use Rattle.measure.proofs.Nearly.{grain, grain-pos, Ratio, ratio, ratio-finite, same-size}
 use Rattle.measure.proofs.Clock.{Clock, clock, none-yet, eight-times}
 use Rattle.measure.proofs.Slow.{NotFaster, Lines, lines, Seen, see, Slow, than-before, than-after, slow, Opens, goes-on, comes-again, opens}
 use Rattle.measure.proofs.Ahead.{speck, speck-some, Least, NotPast, NoLonger, own-share, first, last, Part, Parts, within, Shares, Factor, seen-by}

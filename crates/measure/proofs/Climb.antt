@@ -1,11 +1,11 @@
 -- A sum does not fall while terms that are not negative are added to it, nor does a score with that sum. Assumes nothing.
 use Prim.Native.Nat.{ℕ, zero, suc, _+_, _*_, _≤_, _<_}
-use native.Mathlib.Nat.{le-of-eq, le-of-lt, lt-of-not-le, mul-one, mul-assoc, mul-comm, mul-left-comm, add-mul, mul-pos, mul-le-mul-right, le-refl, add-le-add}
+use native.Mathlib.Nat.{le-of-eq, lt-of-not-le, mul-one, mul-assoc, mul-comm, mul-left-comm, add-mul, mul-pos, mul-le-mul-right, le-refl, add-le-add}
 use native.Mathlib.Omega.{arith}
-use mathlib.Core.Bool.{Bool, true, false, _&&_, _||_, false≢true}
+use mathlib.Core.Bool.{true, false, false≢true}
 use mathlib.Core.Path.{_≡_, refl, sym, _∙_}
 use borrow.Author.Tests.{ltb-true, lt-ltb}
-use lib.Dec.{T, ltb, eqb, ltb→lt, eqb→eq}
+use lib.Dec.{T}
 use lib.IntN.{ℤ, pos}
 use lib.Ieee.{Float, nan, inf, fin, binary64, up, down, fits, round, sum, add, lt, le, ofBits}
 use lib.Ieee.Fits.{down-pos, add-fits}
@@ -14,8 +14,10 @@ use lib.Ieee.Order.{round-mono, le-of-values}
 use lib.Ieee.Positive.{through}
 use Rattle.float.specs.Numbers.{nought}
 use Rattle.float.proofs.Zeros.{Level, one-sign, zeros, is-zero, plus-zero, plus-nan}
+use Rattle.float.proofs.NotNegative.{NotNegative, no-number, endless, number, rounded-plus, add-plus, none-above}
+use Rattle.float.proofs.Nearly.{at-most, Ratio, ratio, ratio-finite, size-le-of}
 use Rattle.measure.specs.Terms.{sumsOf}
-use Rattle.measure.proofs.Signs.{NotNegative, no-number, endless, number, plus-by, round-plus, add-plus, weight-plus, sums-plus}
+use Rattle.measure.proofs.Signs.{weight-plus, sums-plus}
 
 -- what is above zero is not negative
 pub above-plus : (r : Float) → lt nought r ≡ true → NotNegative r
@@ -27,24 +29,9 @@ above-plus (fin true m e) h = absurd (false≢true h)
 above-plus (fin false m e) h = number m e
 
 -- ---- at most, then less
-pub at-most : (a b : ℕ) → T (ltb a b || (eqb a b && true)) → a ≤ b
-at-most a b h = go (ltb a b) (eqb a b) (ltb→lt a b) (eqb→eq a b) h
-  where
-    go : (t u : Bool) → (T t → a < b) → (T u → a ≡ b) → T (t || (u && true)) → a ≤ b
-    go true u k l h = le-of-lt (k tt)
-    go false true k l h = le-of-eq (l tt)
-    go false false k l h = absurd h
-
 -- three fractions: x / p ≤ y / q < z / r
 strictly : (x y z p q r : ℕ) → 0 < p → x * q ≤ y * p → y * r < z * q → x * r < z * p
 strictly x y z p q r P h k = lt-of-not-le (λ g. omega (arith, through z x y r p q P g h))
-
--- nothing is above +inf
-pub none-above : (z : Float) → lt (inf false) z ≡ true → ⊥
-unfolding lt
-none-above nan h = false≢true h
-none-above (inf t) h = false≢true h
-none-above (fin t n d) h = false≢true h
 
 le-lt : {p q : Float} (z : Float) → NotNegative p → NotNegative q → T (le p q) → lt q z ≡ true → lt p z ≡ true
 unfolding le
@@ -60,12 +47,9 @@ le-lt (fin true r g) (number m e) (number n d) h k = absurd (false≢true k)
 le-lt (fin false r g) (number m e) (number n d) h k =
     lt-ltb _ _ (strictly (m * up e) (n * up d) (r * up g) (down e) (down d) (down g) (down-pos e) (at-most _ _ h) (ltb-true _ _ k))
 
-pub rounded : (a c : ℕ) → NotNegative (round binary64 false a c)
-rounded a c = plus-by (round binary64 false a c) (rw (round-plus binary64 false a c) tt)
-
 -- of two fractions the larger, rounded, is less than z, and so is the other
 rounded-lt : (a b c d : ℕ) (z : Float) → 0 < b → 0 < d → a * d ≤ c * b → lt (round binary64 false c d) z ≡ true → lt (round binary64 false a b) z ≡ true
-rounded-lt a b c d z B D h k = le-lt z (rounded a b) (rounded c d) (round-mono binary64 a b c d B D h) k
+rounded-lt a b c d z B D h k = le-lt z (rounded-plus a b) (rounded-plus c d) (round-mono binary64 a b c d B D h) k
 
 -- ---- a sum with more is no less
 -- with m / e ≤ n / d, k / f + m / e ≤ k / f + n / d
@@ -120,9 +104,15 @@ level-le (zeros (is-zero s) (is-zero false)) (number _ _) (number c g) h =
 pub own : (m n : ℕ) (e d : ℤ) → T (fits binary64 (fin false m e)) → T (le (fin false m e) (add binary64 (fin false m e) (fin false n d)))
 unfolding add sum
 own m n e d f =
-    level-le (plus-zero (fin false m e) f tt (is-zero false)) (number m e) (rounded (m * up e * down d + n * up d * down e) (down e * down d))
+    level-le (plus-zero (fin false m e) f tt (is-zero false)) (number m e) (rounded-plus (m * up e * down d + n * up d * down e) (down e * down d))
     (round-mono binary64 (m * up e * 1 + 0 * down e) (down e * 1) (m * up e * down d + n * up d * down e) (down e * down d)
     (mul-pos (down-pos e) (down-pos (pos 0))) (mul-pos (down-pos e) (down-pos d)) (grows (m * up e) (n * up d * down e) (down e) (down d)))
+
+-- and counted in smallest f64s
+pub no-less : {x w : Float} {a b c : ℕ} → Ratio x a c → T (fits binary64 x) → NotNegative w → Ratio (add binary64 x w) b c → a ≤ b
+no-less (ratio m e p v) f no-number r = absurd (unfold add in ratio-finite r)
+no-less (ratio m e p v) f endless r = absurd (unfold add in ratio-finite r)
+no-less (ratio m e p v) f (number n d) r = size-le-of (ratio m e p v) r (own m n e d f)
 
 pub nan-lost : (x z : Float) → lt (add binary64 x nan) z ≡ true → ⊥
 unfolding lt

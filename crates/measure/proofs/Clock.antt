@@ -7,11 +7,11 @@ use lib.IntN.{negsuc, pos}
 use lib.Ieee.{Float, binary64, fits, round, add, mul, div, ofBits}
 use lib.Ieee.Bits.{ofBits-fits}
 use lib.Ieee.Fits.{add-fits}
+use Rattle.float.proofs.NotNegative.{NotNegative, number, add-plus}
+use Rattle.float.proofs.Nearly.{grain, grain-pos, Ratio, ratio, ratio-plus, same-size, size-le-of, Sized, size-of}
 use Rattle.arclen.specs.Arclen.{tenth}
 use Rattle.arclen.specs.Stages.{timeAt}
 use Rattle.arclen.proofs.Times.{middle, end, times}
-use Rattle.measure.proofs.Signs.{NotNegative, number, add-plus}
-use Rattle.measure.proofs.Nearly.{grain, grain-pos, Ratio, ratio, ratio-plus, same-size, size-le-of, Sized, size-of}
 use Rattle.measure.proofs.Ahead.{tenth-is, half-is}
 
 -- ---- the start of a step, its middle and its end

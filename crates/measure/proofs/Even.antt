@@ -1,7 +1,6 @@
 -- Where the speed of a quad changes evenly, no stage of RK4 is more than 1.12 times its length ahead, but for what rounding adds. Speeds are compared by
 -- their squares. Assumes nothing.
 use Prim.Native.Nat.{ℕ, _+_, _*_, _≤_, _<_}
-use mathlib.Core.Bool.{true, false≢true}
 use mathlib.Core.Path.{_≡_, refl, ap, _∙_}
 use mathlib.Core.List.{List}
 use native.Mathlib.Nat.{add-mul, mul-assoc, mul-right-comm, mul-le-mul-right, lt-of-mul-lt-mul-right}
@@ -10,23 +9,16 @@ use borrow.Author.Count.{below-more}
 use lib.Dec.{T, lit≤}
 use lib.Pow.{pow-pos}
 use lib.IntN.{pos, negsuc}
-use lib.Ieee.{Float, binary64, fits, add, lt, ofBits}
+use lib.Ieee.{Float, binary64, fits, add, ofBits}
 use lib.Ieee.Fits.{add-fits}
-use lib.Ieee.Scale.{finite}
 use Rattle.float.specs.Float.{rootOf}
-use Rattle.geometry.specs.declared.Quad.{Quad}
-use Rattle.arclen.specs.Rk4.{halfOf}
-use Rattle.arclen.specs.Arclen.{tenth, arclenFunctorOf, speedOf}
-use Rattle.arclen.specs.Stages.{timeAt}
-use Rattle.arclen.specs.declared.ArclenFunctor.{ArclenFunctor}
-use Rattle.measure.specs.Early.{Shows}
-use Rattle.measure.specs.Ahead.{four, nearlyTwo, mostSquare, squareAt, WellBefore, EvenStep, Even}
-use Rattle.measure.proofs.Signs.{NotNegative, no-number, endless, number, add-plus, mul-plus, squares-plus}
-use Rattle.measure.proofs.Climb.{none-above}
-use Rattle.measure.proofs.Nearly.{
+use Rattle.float.proofs.NotNegative.{NotNegative, add-plus, mul-plus, squares-plus, less-finite}
+use Rattle.float.proofs.Nearly.{
   Near,
   grain,
+  grain-some,
   top,
+  room,
   Ratio,
   ratio,
   ratio-plus,
@@ -37,10 +29,17 @@ use Rattle.measure.proofs.Nearly.{
   sum-of,
   times,
   add-parts,
-  mul-part,
+  mul-parts,
 }
-use Rattle.measure.proofs.Roots.{root-le, squared, sum-squared, root-of}
-use Rattle.measure.proofs.Ahead.{least-is, grain-some, speck-some, Fast, Least, NoLonger, Share, own-share, within, Shares, Factor, seen-by}
+use Rattle.float.proofs.Roots.{root-le, squared, sum-squared, root-of}
+use Rattle.geometry.specs.declared.Quad.{Quad}
+use Rattle.arclen.specs.Rk4.{halfOf}
+use Rattle.arclen.specs.Arclen.{tenth, arclenFunctorOf, speedOf}
+use Rattle.arclen.specs.Stages.{timeAt}
+use Rattle.arclen.specs.declared.ArclenFunctor.{ArclenFunctor}
+use Rattle.measure.specs.Early.{Shows}
+use Rattle.measure.specs.Ahead.{four, nearlyTwo, mostSquare, squareAt, WellBefore, EvenStep, Even}
+use Rattle.measure.proofs.Ahead.{least-is, speck-some, Fast, Least, NoLonger, Share, own-share, within, Shares, Factor, seen-by}
 
 -- ---- one step more
 pub one-more : {f : ArclenFunctor} {i : ℕ} {t a b d : Float} → Even f i → t ≡ timeAt tenth i → a ≡ squareAt f t →
@@ -59,16 +58,6 @@ nearly-is = ratio 31 (negsuc 3) (pow-pos 4) refl
 most-is : Ratio mostSquare 1152921504606846976 1
 unfolding ofBits
 most-is = ratio 1 (pos 60) (pow-pos 0) refl
-
-pub room : 18446744073709551616 * grain ≤ top
-unfolding grain top
-room = lit≤ tt
-
--- what is less than another is a number
-pub less-finite : {x : Float} (z : Float) → NotNegative x → lt x z ≡ true → T (finite x)
-less-finite z no-number h = absurd (unfold lt in false≢true h)
-less-finite z endless h = absurd (none-above z h)
-less-finite z (number m e) h = tt
 
 record Squares (A B D : Float) : Type 0 where
   a : Sized A
@@ -98,7 +87,7 @@ squares-of pA pB pD fA fB fD e =
     let most = less-finite _ (mul-plus (ratio-plus nearly-is) pB) (e .middle) in
     let a = size-of pA fA (parts .0) in
     let d = size-of pD fD (parts .1) in
-    let b = size-of pB fB (mul-part (ratio-plus nearly-is) pB most) in
+    let b = size-of pB fB (mul-parts (ratio-plus nearly-is) pB most .1) in
     let s = sum-of (a .value) (d .value) in
     let q = times nearly-is (pow-pos 4) (b .value) in
     let p = times four-is (pow-pos 0) (b .value) in

@@ -11,8 +11,9 @@ use lib.Ieee.Fits.{up-pos, down-pos}
 use lib.Ieee.Order.{round-mono, le-of-values}
 use lib.Ieee.Positive.{through}
 use Rattle.float.proofs.Zeros.{times-nan}
-use Rattle.measure.proofs.Signs.{NotNegative, no-number, endless, number, add-plus}
-use Rattle.measure.proofs.Climb.{at-most, none-above, rounded, adding, own, nan-lost}
+use Rattle.float.proofs.NotNegative.{NotNegative, no-number, endless, number, rounded-plus, add-plus, none-above}
+use Rattle.float.proofs.Nearly.{at-most}
+use Rattle.measure.proofs.Climb.{adding, own, nan-lost}
 
 -- nothing is said of what stands before a NaN or +inf: neither is less than any limit
 pub data NoMore : Float → Float → Type 0 where
@@ -31,7 +32,7 @@ no-more (number m e) endless h = than-inf _
 no-more (number m e) (number n d) h = numbers m n e d (at-most _ _ h)
 
 rounds : (a b c d : ℕ) → 0 < b → 0 < d → a * d ≤ c * b → NoMore (round binary64 false a b) (round binary64 false c d)
-rounds a b c d B D h = no-more (rounded a b) (rounded c d) (round-mono binary64 a b c d B D h)
+rounds a b c d B D h = no-more (rounded-plus a b) (rounded-plus c d) (round-mono binary64 a b c d B D h)
 
 pub no-more-than : {p q r : Float} → NoMore p q → NoMore q r → NoMore p r
 no-more-than h (than-nan _) = than-nan _

@@ -19,6 +19,9 @@ use Rattle.float.specs.Numbers.{nought, six}
 use Rattle.float.specs.Float.{wholeBy, fractOf, rootOf}
 use Rattle.float.proofs.Own.{itself}
 use Rattle.float.proofs.Zeros.{IsZero, is-zero, IsBlank, blank, blank-nan, any-times-zero, Level, one-sign, zeros, plus-zero, plus-nan, times-nan}
+use Rattle.float.proofs.NotNegative.{NotNegative, number, add-plus, mul-plus, div-plus, square-plus, squares-plus, less-finite}
+use Rattle.float.proofs.Nearly.{Near, grain, grain-pos, grain-some, top, room, Ratio, ratio, ratio-plus, size-of, times, mul-parts, less-true}
+use Rattle.float.proofs.Roots.{root-le, root-of}
 use Rattle.geometry.specs.Geometry.{alongOf, pointAtT}
 use Rattle.geometry.specs.declared.Point.{Point}
 use Rattle.geometry.specs.declared.Quad.{Quad}
@@ -35,13 +38,10 @@ use Rattle.measure.specs.Terms.{spotIn, termIn, sumsOf}
 use Rattle.measure.specs.Fallen.{fallenOf}
 use Rattle.measure.specs.Early.{Shows, Beyond}
 use Rattle.measure.specs.Turned.{oneAndMore, shareOf, Off, Turned}
-use Rattle.measure.proofs.Signs.{NotNegative, number, add-plus, mul-plus, div-plus, square-plus, squares-plus, speed-plus, term-plus}
+use Rattle.measure.proofs.Signs.{speed-plus, term-plus}
 use Rattle.measure.proofs.Climb.{above-plus}
 use Rattle.measure.proofs.NoMore.{NoMore, than-nan, no-more-than, first-part, last-part, times-more, over-more, still-less}
-use Rattle.measure.proofs.Nearly.{Near, grain, grain-pos, top, Ratio, ratio, ratio-plus, size-of, times, mul-part, less-true}
-use Rattle.measure.proofs.Roots.{root-le, root-of}
-use Rattle.measure.proofs.Ahead.{sixth-is, two-is, grain-some, Gap, gap}
-use Rattle.measure.proofs.Even.{room, less-finite}
+use Rattle.measure.proofs.Ahead.{sixth-is, two-is, Gap, gap}
 use Rattle.measure.proofs.Early.{falls, told}
 
 -- ---- the speed is no more than w, by their squares
@@ -84,7 +84,7 @@ within-by {a = a} {b} {c} (ratio m e p v) (ratio n d q w) some less =
 within-root : {s w : Float} → NotNegative s → T (fits binary64 s) → Gap w → lt (mul binary64 oneAndMore s) (mul binary64 w w) ≡ true → Within (rootOf s) w
 within-root ps fs g h =
     let bounded = less-finite _ (mul-plus (ratio-plus more-is) ps) h in
-    let s = size-of ps fs (mul-part (ratio-plus more-is) ps bounded) in
+    let s = size-of ps fs (mul-parts (ratio-plus more-is) ps bounded .1) in
     let p = times more-is (pow-pos 10) (s .value) in
     let q = times (g .value) grain-pos (g .value) in
     let under = square-under (g .size) grain (q .size) top grain-pos (g .most) (q .near) room in

@@ -12,13 +12,14 @@ use lib.Ieee.{Float, nan, inf, fin, binary64, fits, sub, mul}
 use lib.Ieee.Fits.{sub-fits, mul-fits}
 use lib.Ieee.Scale.{finite}
 use Rattle.float.specs.Float.{absOf, rootOf}
+use Rattle.float.proofs.NotNegative.{square-plus, square-abs}
+use Rattle.float.proofs.Nearly.{Near, grain, grain-pos, Ratio, ratio-finite, same-size, sum-of, times, add-parts}
+use Rattle.float.proofs.Roots.{root-le, squared, sum-squared, root-of}
 use Rattle.geometry.specs.Geometry.{squares}
 use Rattle.arclen.specs.Arclen.{derivOf, speedOf}
 use Rattle.arclen.specs.declared.ArclenFunctor.{ArclenFunctor}
-use Rattle.measure.proofs.Signs.{square-plus}
 use Rattle.measure.proofs.NoMore.{turned-round}
-use Rattle.measure.proofs.Nearly.{Near, grain, grain-pos, Ratio, ratio-finite, same-size, no-less, sum-of, times, add-parts}
-use Rattle.measure.proofs.Roots.{root-le, squared, sum-squared, root-of}
+use Rattle.measure.proofs.Climb.{no-less}
 use Rattle.measure.proofs.Valley.{Line, line, Spot, spot, far, Valley, fell-before, rises-after, valley, at-start, Kept, kept, past, kept-or-past}
 use Rattle.measure.proofs.Ahead.{speck, speck-some, speck-square}
 
@@ -74,15 +75,6 @@ unfolding mul
 square-whole nan h = absurd h
 square-whole (inf s) h = absurd h
 square-whole (fin s m e) h = tt
-
--- the sign is lost
-square-abs : (x : Float) → mul binary64 x x ≡ mul binary64 (absOf x) (absOf x)
-unfolding mul absOf
-square-abs nan = refl
-square-abs (inf true) = refl
-square-abs (inf false) = refl
-square-abs (fin true m e) = refl
-square-abs (fin false m e) = refl
 
 record Square (x : Float) (n : ℕ) : Type 0 where
   size : ℕ

@@ -1,6 +1,6 @@
 -- A coordinate of a quad's derivative falls, then rises: at each time it is no larger than at all times before, or than at all times after, but for its sign
 -- and for what rounding adds. Assumes nothing.
-use Prim.Native.Nat.{ℕ, zero, suc, _+_, _-_, _*_, _^_, _≤_, _<_}
+use Prim.Native.Nat.{ℕ, _+_, _-_, _*_, _≤_, _<_}
 use mathlib.Core.Bool.{Bool, true, false, not, _&&_, Bool·beq, cond, true≢false, false≢true}
 use mathlib.Core.Logic.{_⊎_, inl, inr}
 use mathlib.Core.Path.{_≡_, refl, sym, ap, _∙_}
@@ -10,32 +10,16 @@ use borrow.Author.Tests.{ltb-true, ltb-false}
 use lib.Dec.{T, ltb, eqb}
 use lib.Pow.{pow-pos}
 use lib.IntN.{ℤ}
-use lib.Ieee.{Float, nan, inf, fin, Format, binary64, prec, emax, low, up, down, fits, odd, units, round, sum, add, mul}
-use lib.Ieee.Fits.{down-pos, round-is}
+use lib.Ieee.{Float, nan, inf, fin, binary64, up, down, fits, round, sum, add, mul}
+use lib.Ieee.Fits.{down-pos}
 use lib.Ieee.Order.{round-mono}
 use lib.Ieee.Scale.{finite, round-same}
 use Rattle.float.specs.Float.{absOf}
 use Rattle.float.proofs.Dyadic.{left, right}
+use Rattle.float.proofs.NotNegative.{sign-fits, abs-round}
+use Rattle.float.proofs.Nearly.{Near, grain, grain-pos, Ratio, ratio, rounded, size-le-of, sized, neither}
 use Rattle.measure.specs.NotNegative.{notNegative}
 use Rattle.measure.proofs.Signs.{round-plus}
-use Rattle.measure.proofs.Nearly.{Near, grain, grain-pos, Ratio, ratio, rounded, size-le-of, sized}
-
--- ---- a rounded fraction without its sign
-abs-odd : (d : ℕ) (s : Bool) (q k l : ℕ) → absOf (odd d s q k l) ≡ odd d false q k l
-unfolding odd absOf
-abs-odd d s zero k l = refl
-abs-odd d s (suc q) k l = refl
-
-abs-units : (f : Format) (s : Bool) (q k : ℕ) → absOf (units f s q k) ≡ units f false q k
-unfolding units
-abs-units f s q k = by (ltb (q * 2 ^ k) (2 ^ (low f + suc (emax f))))
-  where
-    by : (t : Bool) → absOf (cond t (odd (suc (prec f)) s q k (low f)) (inf s)) ≡ cond t (odd (suc (prec f)) false q k (low f)) (inf false)
-    by true = abs-odd (suc (prec f)) s q k (low f)
-    by false = unfold absOf in refl
-
-abs-round : (s : Bool) (a c : ℕ) → absOf (round binary64 s a c) ≡ round binary64 false a c
-abs-round s a c = rw (round-is binary64 s a c, round-is binary64 false a c) (abs-units binary64 s _ _)
 
 -- ---- two sizes together, or apart
 abbrev pub mix : Bool → ℕ → ℕ → ℕ
@@ -112,11 +96,6 @@ signed-of (fin false m e) true h r = absurd (true≢false h)
 signed-of (fin false m e) false h r = signed false m e r
 
 -- any f64 is a number of smallest ones, with a sign
-sign-fits : (s : Bool) (m : ℕ) (e : ℤ) → T (fits binary64 (fin s m e)) → T (fits binary64 (fin false m e))
-unfolding fits
-sign-fits s zero e f = f
-sign-fits s (suc m) e f = f
-
 record Whole (x : Float) : Type 0 where
   sign : Bool
   size : ℕ
@@ -145,10 +124,6 @@ mul-whole : {x : Float} {a c : ℕ} (y : Float) → Ratio x a c → T (finite (m
 unfolding mul
 mul-whole nan (ratio m e p v) h = absurd h
 mul-whole (inf t) (ratio m e p v) h = absurd (neither (eqb m 0) _ h)
-  where
-    neither : (b s : Bool) → T (finite (cond b nan (inf s))) → ⊥
-    neither true s h = h
-    neither false s h = h
 mul-whole (fin t n d) (ratio m e p v) h = tt
 
 abs-finite : (x : Float) → T (finite x) → T (finite (absOf x))

@@ -6,9 +6,10 @@ use mathlib.Core.List.{List, [], _∷_}
 use mathlib.Core.Path.{_≡_, refl, sym, ap, _∙_}
 use lib.Dec.{T}
 use lib.ListN.{length, set}
-use lib.Ieee.{Float, nan, inf, fin, binary64, fits, mul, lt}
+use lib.Ieee.{Float, nan, binary64, fits, mul, lt}
 use Rattle.float.specs.Numbers.{three}
 use Rattle.float.proofs.Zeros.{plus-nan}
+use Rattle.float.proofs.Less.{less-nan}
 use Rattle.geometry.specs.Geometry.{isWhole, roundPointOf, intersectOf}
 use Rattle.geometry.specs.declared.Break.{Break}
 use Rattle.geometry.specs.declared.Crossing.{Crossing}
@@ -34,15 +35,6 @@ use Rattle.optimize.specs.Stored.{rowOf, Holds, Anywhere, inPlace, Spoil
 use Rattle.optimize.proofs.Held.{new-start}
 use Rattle.optimize.proofs.Solving.{optimized-by, fell-by}
 use Rattle.optimize.proofs.Trying.{quad-refused, quad-made, no-bend, from-whole, from-half, fell-whole, fell-half}
-
--- nothing is less than a NaN, and a NaN is above nothing
-less-nan : (x : Float) → lt x nan ≡ false
-unfolding lt
-less-nan nan = refl
-less-nan (inf true) = refl
-less-nan (inf false) = refl
-less-nan (fin true m e) = refl
-less-nan (fin false m e) = refl
 
 -- an answer whose score is a NaN stays
 nan-stays : (a : Statelet) (p : Leg) (e penalty : Float) → scoreOf a ≡ nan → combined (best a) (best a) p e penalty ≡ best a

@@ -1,4 +1,4 @@
--- A whole chain: the numbers of its stored answers stand at the end of a row of 4096. Assumes nothing.
+-- A whole chain: the numbers of its stored answers stand at the end of a row, of 4096 where it is put. Assumes nothing.
 use Prim.Native.Nat.{ℕ, min, _-_, _≤_, _<_}
 use native.Mathlib.Omega.{arith}
 use mathlib.Core.Bool.{Bool}

@@ -144,6 +144,42 @@ fn push_pieces(
     v
 }
 
+// What push_chain does, with a row lent for the numbers of the stored answers.
+fn push_slots(
+    breaks: &[[f64; 6]],
+    answers: &[[f64; 3]],
+    links: &[u32],
+    k: usize,
+    slots: &mut [u32],
+    points: &mut [[i16; 3]],
+    w: Written,
+) -> Written
+    requires { ⌜ Stored (now breaks) (now answers) (now links) k × (k < length (now slots)) ⌝ }
+    ensures { λ r. ⌜ ((a : Statelet) → Holds Anywhere (now (breaks .entry)) (now (answers .entry)) (now (links .entry)) k a →
+        Appended (now (points .entry)) w (now (points .exit)) r (piecesPoints (quadsOf a))) ⌝ }
+{
+    let first = slots_to(links, k, slots);
+    push_pieces(breaks, answers, links, slots, first, points, w)
+}
+
+// What push_chain does near the start of a run. The numbers fall along the links, so a short row holds them all,
+// and the long one, which takes longer to zero than a short chain to write, is not made.
+fn push_short(
+    breaks: &[[f64; 6]],
+    answers: &[[f64; 3]],
+    links: &[u32],
+    k: usize,
+    points: &mut [[i16; 3]],
+    w: Written,
+) -> Written
+    requires { ⌜ Stored (now breaks) (now answers) (now links) k × (k < 64) ⌝ }
+    ensures { λ r. ⌜ ((a : Statelet) → Holds Anywhere (now (breaks .entry)) (now (answers .entry)) (now (links .entry)) k a →
+        Appended (now (points .entry)) w (now (points .exit)) r (piecesPoints (quadsOf a))) ⌝ }
+{
+    let mut slots = [0; 64];
+    push_slots(breaks, answers, links, k, &mut slots, points, w)
+}
+
 // The points of stored answer k, after those that are written.
 pub fn push_chain(
     breaks: &[[f64; 6]],
@@ -157,7 +193,9 @@ pub fn push_chain(
     ensures { λ r. ⌜ ((a : Statelet) → Holds Anywhere (now (breaks .entry)) (now (answers .entry)) (now (links .entry)) k a →
         Appended (now (points .entry)) w (now (points .exit)) r (piecesPoints (quadsOf a))) ⌝ }
 {
+    if k < 64 {
+        return push_short(breaks, answers, links, k, points, w);
+    }
     let mut slots = [0; 4096];
-    let first = slots_to(links, k, &mut slots);
-    push_pieces(breaks, answers, links, &slots, first, points, w)
+    push_slots(breaks, answers, links, k, &mut slots, points, w)
 }

@@ -7,11 +7,12 @@ use mathlib.Core.Bool.{Bool, true, false, true≢false}
 use mathlib.Core.List.{List, [], _∷_, _++_, append-assoc, append-nil}
 use mathlib.Core.Path.{_≡_, refl, sym, ap, _∙_}
 use lib.IntN.{ℤ}
-use lib.ListN.{length, getD, take, drop, set, length-set, drop-of-length-le}
-use lib.Seq.{drop-cons, take-all, take-suc-set}
+use lib.ListN.{length, getD, take, drop, set, length-set, length-take, drop-of-length-le, List·getD-eq-default}
+use lib.Seq.{drop-cons, getD-take, take-all, take-suc-set}
 use Rattle.outline.specs.Segments.{countOf}
+use Rattle.outline.specs.Laws.{count-few}
 use Rattle.corners.specs.Corners.{cornersOf}
-use Rattle.corners.proofs.Reasons.{no-corner-past}
+use Rattle.corners.proofs.Reasons.{corner-when, no-corner-past}
 use Rattle.runs.specs.Runs.{marksFrom, cornerList, goingRound, between, runAt, Listed}
 use Rattle.runs.specs.declared.Run.the-variants.{Between, Nothing}
 
@@ -61,31 +62,42 @@ module _ (marks : List Bool) where
     pub listed-few : length marks ≤ long → n ≤ length marks
     listed-few fits = omega (arith, now .few, now .upto)
 
--- where no place from k on is marked, the marks of the first k are all
-pub marks-taken : (marks : List Bool) (k i : ℕ) → ((j : ℕ) → k ≤ j → getD marks j false ≡ false) → marksFrom (take k marks) i ≡ marksFrom marks i
+-- rows that agree at each place, where past its end a row has no mark
+marks-same : (a b : List Bool) (i : ℕ) → ((j : ℕ) → getD a j false ≡ getD b j false) → marksFrom a i ≡ marksFrom b i
 unfolding marksFrom
-marks-taken [] zero i off = refl
-marks-taken [] (suc k) i off = refl
-marks-taken (true ∷ marks) zero i off = absurd (true≢false (off 0 (omega arith)))
-marks-taken (false ∷ marks) zero i off = marks-taken marks zero (i + 1) (λ j p. off (suc j) (omega arith))
-marks-taken (true ∷ marks) (suc k) i off = ap (λ (l : List ℕ). i ∷ l) (marks-taken marks k (i + 1) (λ j p. off (suc j) (omega arith)))
-marks-taken (false ∷ marks) (suc k) i off = marks-taken marks k (i + 1) (λ j p. off (suc j) (omega arith))
+marks-same [] [] i e = refl
+marks-same [] (true ∷ b) i e = absurd (true≢false (sym (e 0)))
+marks-same [] (false ∷ b) i e = marks-same [] b (i + 1) (λ j. e (suc j))
+marks-same (true ∷ a) [] i e = absurd (true≢false (e 0))
+marks-same (false ∷ a) [] i e = marks-same a [] (i + 1) (λ j. e (suc j))
+marks-same (true ∷ a) (true ∷ b) i e = ap (λ (l : List ℕ). i ∷ l) (marks-same a b (i + 1) (λ j. e (suc j)))
+marks-same (true ∷ a) (false ∷ b) i e = absurd (true≢false (e 0))
+marks-same (false ∷ a) (true ∷ b) i e = absurd (true≢false (sym (e 0)))
+marks-same (false ∷ a) (false ∷ b) i e = marks-same a b (i + 1) (λ j. e (suc j))
 
--- past the last segment no place is marked
-pub corners-taken : (xs ys : List ℤ) (fs : List ℕ) (marks : List Bool) (m count : ℕ) → marks ≡ cornersOf xs ys fs 1024 → length marks ≡ 1024 → count ≡ countOf fs →
-    m ≡ min count 1024 → marksFrom (take m marks) 0 ≡ cornerList xs ys fs
-unfolding cornerList
-corners-taken xs ys fs marks m count is long counted least = rw (← is) (by (decLt count 1024))
-  where
-    by : Dec (count < 1024) → marksFrom (take m marks) 0 ≡ marksFrom marks 0
-    by (yes few) =
-        marks-taken marks m 0
-        (λ j p.
-        let past : countOf fs ≤ j = omega (arith, counted, least) in
-        rw is (no-corner-past xs ys fs 1024 j past))
-    by (no many) =
-        let all : length marks ≤ m = omega (arith, long, least) in
-        rw (take-all m marks all) refl
+module _ (xs ys : List ℤ) (fs : List ℕ) (marks : List Bool) (n m count : ℕ) (is : marks ≡ cornersOf xs ys fs n) (counted : count ≡ countOf fs) where
+  -- the marks of all segments, in a row that has a place for each
+  taken-agree : m ≡ count → count ≤ n → count < 1024 → (j : ℕ) → getD (take m marks) j false ≡ getD (cornersOf xs ys fs 1024) j false
+  taken-agree all fits few j = by (decLt j count)
+    where
+      by : Dec (j < count) → getD (take m marks) j false ≡ getD (cornersOf xs ys fs 1024) j false
+      by (yes h) =
+          getD-take m marks j false (omega arith)
+          ∙ rw is (corner-when xs ys fs n j (omega arith) (omega arith) ∙ sym (corner-when xs ys fs 1024 j (omega arith) (omega arith)))
+      by (no h) =
+          List·getD-eq-default (take m marks) false (omega (arith, length-take m marks))
+          ∙ sym (no-corner-past xs ys fs 1024 j (omega arith))
+
+  -- past the last segment no place is marked
+  pub corners-taken : min (length fs) 1024 ≤ n → n ≤ 1024 → length marks ≡ n → m ≡ min count 1024 → marksFrom (take m marks) 0 ≡ cornerList xs ys fs
+  unfolding cornerList
+  corners-taken enough few long least = by (decLt count 1024)
+    where
+      by : Dec (count < 1024) → marksFrom (take m marks) 0 ≡ marksFrom (cornersOf xs ys fs 1024) 0
+      by (yes some) = marks-same (take m marks) (cornersOf xs ys fs 1024) 0 (taken-agree (omega arith) (omega (arith, count-few fs)) some)
+      by (no many) =
+          let full : n ≡ 1024 = omega (arith, count-few fs) in
+          rw (take-all m marks (omega arith), is, full) refl
 
 -- no index listed is past the marks
 marks-low : (marks : List Bool) (i j : ℕ) → getD (marksFrom marks i) j 0 ≤ i + length marks

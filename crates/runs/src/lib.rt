@@ -1,7 +1,7 @@
 // The runs of a contour. Its corners are listed once, upward; run k lies between places k and k + 1 of the
 // list.
 ghost use mathlib.Core.Path.{_≡_};
-ghost use Prim.Native.Nat.{_-_, _≤_, _<_};
+ghost use Prim.Native.Nat.{_-_, _≤_, _<_, min};
 ghost use lib.ListN.{length, getD};
 ghost use Rattle.runs.specs.Runs.{marksFrom, cornerList, stopsOf, between, runAt, copiedFrom, isCopied, workable, numberedRun, Listed};
 
@@ -30,24 +30,37 @@ fn list_marks(marks: &[bool], list: &mut [usize]) -> usize
 }
 
 // The corners of a contour, in the first places of the row. Past the last segment there is no mark, so
-// that the marks of the segments alone are looked at.
-fn list_corners(xs: &[i16], ys: &[i16], flags: &[u8], list: &mut [usize]) -> usize
-    requires { ⌜ 1024 ≤ length (now list) ⌝ }
+// that the marks of the segments alone are looked at, and of a few segments there need be few.
+fn list_corners(
+    xs: &[i16],
+    ys: &[i16],
+    flags: &[u8],
+    marks: &mut [bool],
+    list: &mut [usize],
+) -> usize
+    requires { ⌜ (min (length (now flags)) 1024 ≤ length (now marks)) × (length (now marks) ≤ 1024) × (length (now marks) ≤ length (now list)) ⌝ }
     ensures listed { λ r. ⌜ Listed (now (list .exit)) r (cornerList (now (xs .entry)) (now (ys .entry)) (now (flags .entry))) ⌝ }
-    ensures few { λ r. ⌜ r ≤ 1024 ⌝ }
+    ensures few { λ r. ⌜ r ≤ length (now (marks .entry)) ⌝ }
     ensures low { λ r. ⌜ (0 < r → getD (now (list .exit)) 0 0 ≤ 1024) ⌝ }
 {
-    let mut marks = [false; 1024];
-    let m = rows::least(corners::segment_sp(xs, ys, flags, &mut marks), 1024);
+    let m = rows::least(corners::segment_sp(xs, ys, flags, marks), 1024);
     list_marks(&marks[..m], list)
 }
 
-// Where the runs begin and end: the corners; in closed mode the first once more, going round.
-pub fn list_stops(xs: &[i16], ys: &[i16], flags: &[u8], closed: bool, list: &mut [usize]) -> usize
-    requires { ⌜ 1025 ≤ length (now list) ⌝ }
+// Where the runs begin and end, by a row that is lent for the marks: the corners; in closed mode the first
+// once more, going round.
+fn list_marked(
+    xs: &[i16],
+    ys: &[i16],
+    flags: &[u8],
+    closed: bool,
+    marks: &mut [bool],
+    list: &mut [usize],
+) -> usize
+    requires { ⌜ (min (length (now flags)) 1024 ≤ length (now marks)) × (length (now marks) ≤ 1024) × (length (now marks) < length (now list)) ⌝ }
     ensures { λ r. ⌜ Listed (now (list .exit)) r (stopsOf closed (now (xs .entry)) (now (ys .entry)) (now (flags .entry))) ⌝ }
 {
-    let n = list_corners(xs, ys, flags, list);
+    let n = list_corners(xs, ys, flags, marks, list);
     if closed {
         if n == 0 {
             return n;
@@ -56,6 +69,30 @@ pub fn list_stops(xs: &[i16], ys: &[i16], flags: &[u8], closed: bool, list: &mut
         return n + 1;
     }
     n
+}
+
+// Where the runs begin and end.
+pub fn list_stops(xs: &[i16], ys: &[i16], flags: &[u8], closed: bool, list: &mut [usize]) -> usize
+    requires { ⌜ 1025 ≤ length (now list) ⌝ }
+    ensures { λ r. ⌜ Listed (now (list .exit)) r (stopsOf closed (now (xs .entry)) (now (ys .entry)) (now (flags .entry))) ⌝ }
+{
+    let mut marks = [false; 1024];
+    list_marked(xs, ys, flags, closed, &mut marks, list)
+}
+
+// The same for a contour of few points, which has no more segments: short rows take less time to clear.
+pub fn list_few_stops(
+    xs: &[i16],
+    ys: &[i16],
+    flags: &[u8],
+    closed: bool,
+    list: &mut [usize],
+) -> usize
+    requires { ⌜ (length (now flags) ≤ 32) × (33 ≤ length (now list)) ⌝ }
+    ensures { λ r. ⌜ Listed (now (list .exit)) r (stopsOf closed (now (xs .entry)) (now (ys .entry)) (now (flags .entry))) ⌝ }
+{
+    let mut marks = [false; 32];
+    list_marked(xs, ys, flags, closed, &mut marks, list)
 }
 
 // From one corner to the next.

@@ -6,12 +6,14 @@ use geometry::Quad;
 use outline::Seg;
 ghost use mathlib.Core.Path.{_≡_};
 ghost use Prim.Native.Nat.{_≤_};
+ghost use mathlib.Core.Bool.{false};
 ghost use lib.ListN.{length, take};
 ghost use Rattle.float.specs.Numbers.{nought};
 ghost use Rattle.arclen.specs.Arclen.{arclenFunctorOf};
 ghost use Rattle.samples.specs.Samples.{quadOf, quadsOf, sampleFrom, sampleAt, stepAt, fillTo, sweepFrom, lengthAfter};
 ghost use Rattle.samples.specs.Samples.{finished, thetasOf, start, walkedIn, filledIn, placesFilled};
 ghost use Rattle.samples.specs.Samples.{sweptIn, placesSwept, lengthSwept, runIn, placesSampled};
+ghost use Rattle.samples.specs.Tens.{NoneDue, TenSteps};
 
 // A step along a quad: the place, the derivative and the length there.
 pub struct Step {
@@ -105,7 +107,84 @@ fn step_at(q: Quad, f: ArclenFunctor, t: f64, y: f64) -> Step
     Step { xy, d, s: y }
 }
 
-// 100 steps over one quad, with the speeds of ten at a time.
+// Whether a sample is due in ten steps that start at these lengths.
+fn is_due(starts: &[f64; 11], ix: f64) -> bool
+    requires { ⌜ length (now starts) ≡ 11 ⌝ }
+    ensures { λ r. ⌜ (r ≡ false → NoneDue (now (starts .entry)) ix 10) ⌝ }
+{
+    let mut due = false;
+    let mut i = 0usize;
+    while i < 10 {
+        due = due | (ix <= starts[i]);
+        i += 1;
+    }
+    due
+}
+
+// Ten steps from the time t on, which start at these lengths, each with the samples up to it.
+fn fill_steps(
+    row: &mut [[f64; 4]],
+    from: Walk,
+    q: Quad,
+    f: ArclenFunctor,
+    t: f64,
+    starts: &[f64; 11],
+) -> Swept
+    requires { ⌜ (f ≡ arclenFunctorOf q) × (from .n ≤ length (now row)) × (length (now starts) ≡ 11) ⌝ }
+    ensures { λ r. ⌜ TenSteps q t (now (starts .entry)) from (now (row .entry)) (now (row .exit)) r ⌝ }
+{
+    let h = 1.0 / 100.0;
+    let mut n = from.n;
+    let mut ix = from.ix;
+    let mut last = from.last;
+    let mut time = t;
+    for i in 0..10usize {
+        let y = starts[i];
+        let this = step_at(q, f, time, y);
+        let Filled::At(m, x) = fill(row, n, ix, last, this, y) else {
+            return Swept::Full;
+        };
+        n = m;
+        ix = x;
+        last = this;
+        time = time + h;
+    }
+    Swept::At(Walk {
+        n,
+        ix,
+        last,
+        len: starts[10],
+    })
+}
+
+// The same; where no sample is due, only the last of the steps is worked out.
+fn ten_steps(
+    row: &mut [[f64; 4]],
+    from: Walk,
+    q: Quad,
+    f: ArclenFunctor,
+    t: f64,
+    starts: &[f64; 11],
+) -> Swept
+    requires { ⌜ (f ≡ arclenFunctorOf q) × (from .n ≤ length (now row)) × (length (now starts) ≡ 11) ⌝ }
+    ensures { λ r. ⌜ TenSteps q t (now (starts .entry)) from (now (row .entry)) (now (row .exit)) r ⌝ }
+{
+    let n = from.n;
+    let ix = from.ix;
+    if is_due(starts, ix) {
+        return fill_steps(row, from, q, f, t, starts);
+    }
+    let last = step_at(q, f, arclen::later(1.0 / 100.0, t, 9), starts[9]);
+    Swept::At(Walk {
+        n,
+        ix,
+        last,
+        len: starts[10],
+    })
+}
+
+// 100 steps over one quad, ten at a time. Of a straight one all speeds are one; of another the last of ten
+// steps' is the first of the next ten's.
 fn sweep(row: &mut [[f64; 4]], from: Walk, q: Quad) -> Swept
     requires { ⌜ from .n ≤ length (now row) ⌝ }
     ensures row { λ r. ⌜ sweepFrom 100 (length (now (row .entry))) q nought (from .len) (walkedIn (now (row .entry)) from) ≡ sweptIn (now (row .exit)) r ⌝ }
@@ -114,29 +193,22 @@ fn sweep(row: &mut [[f64; 4]], from: Walk, q: Quad) -> Swept
 {
     let f = ArclenFunctor::new(q);
     let h = 1.0 / 100.0;
-    let mut n = from.n;
-    let mut ix = from.ix;
-    let mut last = from.last;
+    let straight = f.is_straight();
+    let mut v = arclen::same_speeds(f, 0.0);
+    let mut w = from;
     let mut t = 0.0;
-    let mut len = from.len;
-    let mut v = [0.0; 21];
-    for k in 0..100usize {
-        if k % 10 == 0 {
-            v = arclen::speeds(f, h, t);
+    for _ in 0..10usize {
+        if !straight {
+            arclen::speeds_on(f, h, t, &mut v);
         }
-        let this = step_at(q, f, t, len);
-        let Filled::At(m, x) = fill(row, n, ix, last, this, len) else {
+        let starts = arclen::lengths(h, w.len, &v);
+        let Swept::At(next) = ten_steps(row, w, q, f, t, &starts) else {
             return Swept::Full;
         };
-        n = m;
-        ix = x;
-        last = this;
-        let i = 2 * (k % 10);
-        let middle = v[i + 1];
-        len = arclen::grown(h, len, v[i], middle, middle, v[i + 2]);
-        t = t + h;
+        w = next;
+        t = arclen::later(h, t, 10);
     }
-    Swept::At(Walk { n, ix, last, len })
+    Swept::At(w)
 }
 
 // The samples after the last step, up to the length + 2.

@@ -1,34 +1,28 @@
 -- Numbers of a bounded size stay so: where a whole number bounds what an operation gives before it is rounded, it bounds the rounded result too, since
 -- rounding keeps the order and whole numbers to 2 ^ 53 are exact. Assumes nothing.
 use Prim.Native.Nat.{ℕ, zero, suc, _+_, _-_, _*_, _/_, _^_, _≤_, _<_}
-use mathlib.Core.Bool.{Bool, true, false, not, _&&_, _||_, cond, Bool·beq, true≢false}
-use mathlib.Core.Path.{_≡_, refl, sym, ap, _∙_, subst}
-use native.Mathlib.Nat.{le-trans, le-of-eq, le-of-lt, zero-lt-suc, mul-assoc, mul-comm, mul-mul-mul-comm, mul-pos, add-mul, mul-le-mul, mul-le-mul-right, le-of-mul-le-mul-right, div-le-of-le-mul}
+use mathlib.Core.Bool.{Bool, true, false, not, cond, Bool·beq, true≢false}
+use mathlib.Core.Path.{_≡_, refl, sym, ap, subst}
+use native.Mathlib.Nat.{le-trans, le-of-eq, zero-lt-suc, mul-assoc, mul-comm, mul-mul-mul-comm, mul-pos, add-mul, mul-le-mul, mul-le-mul-right, le-of-mul-le-mul-right, div-le-of-le-mul}
 use native.Mathlib.Omega.{arith}
 use borrow.Author.Tests.{ne-eqb}
-use lib.Dec.{T, ltb, eqb, ltb→lt, eqb→eq}
+use lib.Dec.{T, ltb}
 use lib.IntN.{ℤ, pos}
-use lib.Ieee.{Float, nan, inf, fin, binary64, up, down, unlike, odd, units, round, neg, sum, add, sub, mul, div, le, toUnsigned}
-use lib.Ieee.Fits.{up-pos, down-pos, round-is}
+use lib.Ieee.{Float, nan, inf, fin, binary64, up, down, unlike, round, neg, sum, add, sub, mul, div, le, toUnsigned}
+use lib.Ieee.Fits.{up-pos, down-pos}
 use lib.Ieee.Exact.{HasValue}
 use lib.Ieee.Back.{round-whole}
 use lib.Ieee.Order.{round-mono}
 use Rattle.float.specs.Float.{absOf}
 use Rattle.float.proofs.Downward.{scaled}
+use Rattle.float.proofs.NotNegative.{abs-round}
+use Rattle.float.proofs.Nearly.{at-most}
 
 -- finite, and of a size of at most n
 pub data Within (n : ℕ) : Float → Type 0 where
   within : (s : Bool) (m : ℕ) (e : ℤ) → m * up e ≤ n * down e → Within n (fin s m e)
 
 -- ---- from the order of floats to that of their sizes
-
-at-most : (a b : ℕ) → T (ltb a b || (eqb a b && true)) → a ≤ b
-at-most a b h = go (ltb a b) (eqb a b) (ltb→lt a b) (eqb→eq a b) h
-  where
-    go : (t u : Bool) → (T t → a < b) → (T u → a ≡ b) → T (t || (u && true)) → a ≤ b
-    go true u k l h = le-of-lt (k tt)
-    go false true k l h = le-of-eq (l tt)
-    go false false k l h = absurd h
 
 -- z is the whole number n, and x without its sign is at most z
 within-of : (x z : Float) (n : ℕ) → HasValue z false n 1 → T (le (absOf x) z) → Within n x
@@ -41,22 +35,6 @@ within-of (fin s m e) (fin false p g) n v h =
     (le-of-mul-le-mul-right (subst (λ (a : ℕ). m * up e * down g ≤ a) (scaled p g n e (v .1)) (at-most (m * up e * down g) (p * up g * down e) h)) (down-pos g))
 
 -- ---- a rounded fraction
-
-abs-odd : (d : ℕ) (s : Bool) (q k l : ℕ) → absOf (odd d s q k l) ≡ odd d false q k l
-unfolding odd absOf
-abs-odd d s zero k l = refl
-abs-odd d s (suc q) k l = refl
-
-abs-units : (s : Bool) (q k : ℕ) → absOf (units binary64 s q k) ≡ units binary64 false q k
-unfolding units absOf
-abs-units s q k = go (ltb (q * 2 ^ k) (2 ^ 2098))
-  where
-    go : (t : Bool) → absOf (cond t (odd 54 s q k 1074) (inf s)) ≡ cond t (odd 54 false q k 1074) (inf false)
-    go true = abs-odd 54 s q k 1074
-    go false = refl
-
-abs-round : (s : Bool) (a c : ℕ) → absOf (round binary64 s a c) ≡ round binary64 false a c
-abs-round s a c = ap absOf (round-is binary64 s a c) ∙ abs-units s _ _ ∙ sym (round-is binary64 false a c)
 
 pub round-within : (s : Bool) (a c n : ℕ) → 0 < c → n ≤ 2 ^ 53 → a ≤ n * c → Within n (round binary64 s a c)
 round-within s a c n C N h =

@@ -13,6 +13,7 @@ use lib.Ieee.Back.{whole-unique}
 use Rattle.float.specs.Numbers.{nought}
 use Rattle.float.specs.Float.{absOf, tiny, closeTo}
 use Rattle.float.proofs.Zeros.{IsZero, is-zero, zero-finite, IsBlank, blank, blank-nan, zeros-add, times-zero, any-times-zero, root-zero, blanks-sub, blank-over-zero}
+use Rattle.float.proofs.Less.{less-nan}
 use Rattle.geometry.specs.declared.Point.{Point}
 use Rattle.geometry.specs.Geometry.{normOf}
 use Rattle.corners.specs.Corners.{fiftieth, bend, angleCorner}
@@ -78,10 +79,8 @@ blank-over-blank (blank (is-zero s)) blank-nan = unfold div in refl
 blank-over-blank blank-nan blank-nan = unfold div in refl
 
 above-nan : (x : Float) → lt x (absOf nan) ≡ false
-unfolding lt absOf
-above-nan nan = refl
-above-nan (inf s) = refl
-above-nan (fin s m e) = refl
+unfolding absOf
+above-nan x = less-nan x
 
 no-angle : (d0 d1 : Point) → IsBlank (bend d0 d1) → IsBlank (mul binary64 (normOf d0) (normOf d1)) → angleCorner d0 d1 ≡ false
 no-angle d0 d1 b n = ap (λ (q : Float). lt fiftieth (absOf q)) (blank-over-blank b n) ∙ above-nan fiftieth

@@ -7,10 +7,10 @@ use Rattle.arclen.proofs.fill_guesses.Statement.{statement}
 use Rattle.arclen.proofs.fill_guesses.Tie as tie
 
 abbrev Inv-loop : tie.InvT-loop
-Inv-loop w v₀ k₀ v k = (length w ≡ 21) × (length v ≡ 21)
+Inv-loop w guesses₀ k₀ guesses k = (length w ≡ 20) × (length guesses ≡ 20)
 
 abbrev μ-loop : tie.MeasureT-loop
-μ-loop w v₀ k₀ v k = 21 - k
+μ-loop w guesses₀ k₀ guesses k = 20 - k
 
 loop-holds : tie.Need-loop-holds Inv-loop μ-loop
 loop-holds c = c .pre
@@ -24,11 +24,11 @@ element-copy-out-likely c = omega arith
 likely-requires : tie.Need-likely-requires Inv-loop μ-loop
 likely-requires c κs = tt
 
-mul-v : tie.Need-mul-v Inv-loop μ-loop
-mul-v c = omega arith
+mul-guesses : tie.Need-mul-guesses Inv-loop μ-loop
+mul-guesses c = omega arith
 
-element-write-v : tie.Need-element-write-v Inv-loop μ-loop
-element-write-v c = omega arith
+element-write-guesses : tie.Need-element-write-guesses Inv-loop μ-loop
+element-write-guesses c = omega arith
 
 add-k : tie.Need-add-k Inv-loop μ-loop
 add-k c = omega arith
@@ -52,8 +52,8 @@ fill-guesses-spec =
     mul-likely
     element-copy-out-likely
     likely-requires
-    mul-v
-    element-write-v
+    mul-guesses
+    element-write-guesses
     add-k
     loop-less
     loop-again

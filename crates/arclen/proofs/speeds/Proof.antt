@@ -1,17 +1,16 @@
 -- `arclen::speeds` meets its contract. Assumes nothing.
-use mathlib.Core.Path.{refl}
-use Rattle.arclen.proofs.Filling.{speeds-ready}
+use native.Mathlib.Omega.{arith}
 use Rattle.arclen.proofs.speeds.Statement.{statement}
 use Rattle.arclen.proofs.speeds.Tie as tie
 
-fill-squares-requires : tie.Need-fill-squares-requires
-fill-squares-requires c κs = refl
+same-speeds-requires : tie.Need-same-speeds-requires
+same-speeds-requires c κs = tt
 
-fill-speeds-requires : tie.Need-fill-speeds-requires
-fill-speeds-requires c κs = (c .before .before .fill-squares .ensures .long, refl)
+speeds-on-requires : tie.Need-speeds-on-requires
+speeds-on-requires c κs = (c .before .same-speeds .ensures .long, c .before .same-speeds .ensures .is 20 (omega arith))
 
 returns : tie.Need-returns
-returns c = speeds-ready (c .before .before .before .fill-squares .ensures) (c .fill-speeds .ensures)
+returns c = c .speeds-on .ensures .1
 
 pub speeds-spec : {M : Type 1} → statement M
-speeds-spec = tie.close (tie.spec fill-squares-requires fill-speeds-requires returns)
+speeds-spec = tie.close (tie.spec same-speeds-requires speeds-on-requires returns)

@@ -1,39 +1,40 @@
 -- `pieces::push_chain` meets its contract. Assumes nothing.
-use native.Mathlib.Omega.{arith}
-use Rattle.pieces.proofs.Whole.{walkable, all-read, quads-there}
+use Rattle.pieces.proofs.Whole.{walkable}
 use borrow.Author.Needs.{needs}
 use Rattle.pieces.proofs.push_chain.Statement.{statement}
 use Rattle.pieces.proofs.push_chain.Tie as tie
 
-slice-aggregate-slots-to : tie.Need-slice-aggregate-slots-to
-slice-aggregate-slots-to c = search needs
-
-slots-to-requires : tie.Need-slots-to-requires
-slots-to-requires c κs = walkable (c .before .before .pre)
-
-slice-aggregate-push-pieces : tie.Need-slice-aggregate-push-pieces
-slice-aggregate-push-pieces c = search needs
-
-push-pieces-requires : tie.Need-push-pieces-requires
-push-pieces-requires c κs =
-    let walk = c .before .before .before .slots-to in
-    (omega (arith, walk .ensures .1, walk .kept .1 .1 .0), all-read (walk .last .1 .1 .0) (walk .result) (walk .ensures .0) (c .before .before .before .before .before .before .pre))
+push-short-requires : tie.Need-push-short-requires
+push-short-requires c κs = search needs
 
 same-length : tie.Need-same-length
 same-length c = search needs
 
 returns : tie.Need-returns
-returns c =
-    let walk = c .before .before .before .before .before .slots-to in
-    λ a h. rw (← quads-there (walk .last .1 .1 .0) (walk .result) (walk .ensures .0) h) (c .before .push-pieces .ensures)
+returns c = search needs
+
+slice-aggregate-push-slots : tie.Need-slice-aggregate-push-slots
+slice-aggregate-push-slots c = search needs
+
+push-slots-requires : tie.Need-push-slots-requires
+push-slots-requires c κs =
+    let start = c .before .before .before .before in
+    (start .pre, walkable (start .pre) .1)
+
+same-length-2 : tie.Need-same-length-2
+same-length-2 c = search needs
+
+returns-2 : tie.Need-returns-2
+returns-2 c = search needs
 
 pub push-chain-spec : {M : Type 1} → statement M
 push-chain-spec =
     tie.close
     (tie.spec
-    slice-aggregate-slots-to
-    slots-to-requires
-    slice-aggregate-push-pieces
-    push-pieces-requires
+    push-short-requires
     same-length
-    returns)
+    returns
+    slice-aggregate-push-slots
+    push-slots-requires
+    same-length-2
+    returns-2)

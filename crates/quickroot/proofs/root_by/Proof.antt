@@ -50,8 +50,8 @@ returns c =
     let inside = tested .before in
     let read = inside .before .before in
     let b = read .before .pattern .result in
-    let nearest = rw (and-mask b 52) at (tested .strays .ensures (c .before .if2 .taken)) in
-    let normal = inside .before .outside .ensures (inside .if1 .taken) in
+    let nearest = rw (and-mask b 52) at (tested .strays .ensures (c .before .if4 .taken)) in
+    let normal = inside .before .outside .ensures (inside .if3 .taken) in
     c .from-digits .ensures ∙ root-is _ b (read .digits .result) (read .before .pattern .ensures) normal nearest
 
 root-requires : tie.Need-root-requires

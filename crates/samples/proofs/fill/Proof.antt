@@ -6,7 +6,7 @@ use native.Mathlib.Omega.{arith}
 use borrow.Author.Needs.{needs}
 use lib.ListN.{length, take, length-set}
 use Rattle.samples.specs.Samples.{fillTo}
-use Rattle.samples.proofs.Turns.{stops, none-left, goes}
+use Rattle.samples.proofs.Turns.{not-due, none-left, goes}
 use Rattle.samples.proofs.fill.Statement.{statement}
 use Rattle.samples.proofs.fill.Tie as tie
 
@@ -57,7 +57,7 @@ same-length-2 c = c .before .loop .inv .0
 returns-2 : tie.Need-returns-2 Inv-loop μ-loop
 returns-2 c =
     let inv = c .before .loop .inv in
-    (inv .2 ∙ stops _ _ _ _ _ _ (inv .0) (inv .1) (c .loop-test .left), omega arith)
+    (inv .2 ∙ not-due _ _ _ _ _ _ (c .loop-test .left), omega arith)
 
 pub fill-spec : {M : Type 1} → statement M
 fill-spec =

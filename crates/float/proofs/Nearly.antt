@@ -2,7 +2,7 @@
 -- what they stand for. Assumes nothing.
 use Prim.Native.Nat.{ℕ, suc, _+_, _-_, _*_, _/_, _%_, _^_, _≤_, _<_, compare}
 use mathlib.Core.Path.{_≡_, sym, ap, _∙_}
-use mathlib.Core.Bool.{Bool, true, false, true≢false, cond}
+use mathlib.Core.Bool.{Bool, true, false, _&&_, _||_, true≢false, cond}
 use mathlib.Core.Logic.{_⊎_, inl, inr}
 use native.Mathlib.Nat.{
   one-mul,
@@ -17,6 +17,8 @@ use native.Mathlib.Nat.{
   add-mul,
   suc-mul,
   le-of-mul-le-mul-right,
+  le-of-eq,
+  le-of-lt,
   lt-of-not-le,
   not-le-of-lt,
   eq-zero-or-pos,
@@ -27,7 +29,7 @@ use native.Mathlib.Nat.{
 }
 use native.Mathlib.Omega.{arith}
 use borrow.Author.Tests.{ltb-true, ltb-false}
-use lib.Dec.{T, eqb, eqb→eq}
+use lib.Dec.{T, lit≤, ltb, eqb, ltb→lt, eqb→eq}
 use lib.Pow.{pow-add, pow-pos}
 use lib.IntN.{ℤ, pos}
 use lib.Ieee.{Float, nan, inf, fin, binary64, up, down, fits, round, sum, add, mul, div, lt, le}
@@ -38,12 +40,11 @@ use lib.Ieee.Nearest.{closest, nearest-ge}
 use lib.Ieee.Order.{drop, transfer}
 use lib.Ieee.Scale.{grid, finite, round-same, round-val, round-under}
 use lib.Ieee.Positive.{first-pos}
 use Rattle.float.specs.Float.{absOf}
 use Rattle.float.proofs.Own.{itself}
 use Rattle.float.proofs.Zeros.{Level, one-sign, zeros, is-zero}
 use Rattle.float.proofs.Dyadic.{left, right}
-use Rattle.measure.proofs.Signs.{NotNegative, no-number, endless, number}
-use Rattle.measure.proofs.Climb.{at-most, own}
+use Rattle.float.proofs.NotNegative.{NotNegative, no-number, endless, number}
 
 -- s is n / den, but for a 4096th of it and one: f64s have digits for a far smaller part, but more is not asked for, and numbers stay short
 pub record Near (n den s : ℕ) : Type 0 where
@@ -98,6 +99,14 @@ top = 2 ^ 2098
 pub grain-pos : 0 < grain
 unfolding grain
 grain-pos = pow-pos 1074
+
+pub grain-some : 100000000000000 ≤ grain
+unfolding grain
+grain-some = lit≤ tt
+
+pub room : 18446744073709551616 * grain ≤ top
+unfolding grain top
+room = lit≤ tt
 
 -- x is the fraction a / c
 pub data Ratio : Float → ℕ → ℕ → Type 0 where
@@ -174,7 +183,7 @@ crossed X Y E D a b c p v w =
     let r : a * E * (Y * c) ≡ a * (Y * E) * c = simp (mul-assoc, mul-comm, mul-left-comm) in
     eq-of-mul-eq-mul-right c p (X * D * b) (a * (Y * E)) (l ∙ ap (λ (z : ℕ). z * (b * D)) v ∙ ap (λ (z : ℕ). a * E * z) (sym w) ∙ r)
 
-div-is : {x y : Float} {a b c : ℕ} → Ratio x a c → Ratio y b c → 0 < b → div binary64 x y ≡ round binary64 false a b
+pub div-is : {x y : Float} {a b c : ℕ} → Ratio x a c → Ratio y b c → 0 < b → div binary64 x y ≡ round binary64 false a b
 unfolding div
 div-is {a = a} {b} {c} (ratio m e p v) (ratio n d q w) more = by (eqb n 0) (eqb→eq n 0)
   where
@@ -229,6 +238,14 @@ less-false {a = a} {b} {c} {d} (ratio m e p v) (ratio n g q w) h =
     transfer b a d c (n * up g) (m * up e) (down g) (down e) (down-pos g) (down-pos e) (sym w) (sym v) (ltb-false (m * up e * down g) (n * up g * down e) h)
 
 -- ---- fractions and their order
+pub at-most : (a b : ℕ) → T (ltb a b || (eqb a b && true)) → a ≤ b
+at-most a b h = go (ltb a b) (eqb a b) (ltb→lt a b) (eqb→eq a b) h
+  where
+    go : (t u : Bool) → (T t → a < b) → (T u → a ≡ b) → T (t || (u && true)) → a ≤ b
+    go true u k l h = le-of-lt (k tt)
+    go false true k l h = le-of-eq (l tt)
+    go false false k l h = absurd h
+
 pub ratio-plus : {x : Float} {a c : ℕ} → Ratio x a c → NotNegative x
 ratio-plus (ratio m e p v) = number m e
 
@@ -243,12 +260,6 @@ unfolding le
 size-le-of {a = a} {b} {c} (ratio m e p v) (ratio n d q w) h =
     le-of-mul-le-mul-right
     (transfer a b c c (m * up e) (n * up d) (down e) (down d) (down-pos e) (down-pos d) (sym v) (sym w) (at-most (m * up e * down d) (n * up d * down e) h)) p
-
--- a sum of an f64 with what is not negative is no less
-pub no-less : {x w : Float} {a b c : ℕ} → Ratio x a c → T (fits binary64 x) → NotNegative w → Ratio (add binary64 x w) b c → a ≤ b
-no-less (ratio m e p v) f no-number r = absurd (unfold add in ratio-finite r)
-no-less (ratio m e p v) f endless r = absurd (unfold add in ratio-finite r)
-no-less (ratio m e p v) f (number n d) r = size-le-of (ratio m e p v) r (own m n e d f)
 
 -- of two floats of one value, one not negative
 pub level-ratio : {x y : Float} {a c : ℕ} → Level x y → Ratio y a c → Ratio (absOf x) a c
@@ -274,19 +285,19 @@ add-parts (number m e) no-number h = absurd h
 add-parts (number m e) endless h = absurd h
 add-parts (number m e) (number n d) h = (tt, tt)
 
-pub mul-part : {c x : Float} → NotNegative c → NotNegative x → T (finite (mul binary64 c x)) → T (finite x)
+pub neither : (b s : Bool) → T (finite (cond b nan (inf s))) → ⊥
+neither true s h = h
+neither false s h = h
+
+pub mul-parts : {c x : Float} → NotNegative c → NotNegative x → T (finite (mul binary64 c x)) → T (finite c) × T (finite x)
 unfolding mul
-mul-part no-number q h = absurd h
-mul-part endless no-number h = absurd h
-mul-part endless endless h = absurd h
-mul-part endless (number n d) h = tt
-mul-part (number m e) no-number h = absurd h
-mul-part (number m e) endless h = absurd (neither (eqb m 0) h)
-  where
-    neither : (b : Bool) → T (finite (cond b nan (inf false))) → ⊥
-    neither true h = h
-    neither false h = h
-mul-part (number m e) (number n d) h = tt
+mul-parts no-number q h = absurd h
+mul-parts endless no-number h = absurd h
+mul-parts endless endless h = absurd h
+mul-parts endless (number n d) h = absurd (neither (eqb n 0) false h)
+mul-parts (number m e) no-number h = absurd h
+mul-parts (number m e) endless h = absurd (neither (eqb m 0) false h)
+mul-parts (number m e) (number n d) h = (tt, tt)
 
 -- ---- times a constant, with fewer digits
 -- x is at most p ten-thousandths of v smallest f64s, and one, or past all f64s

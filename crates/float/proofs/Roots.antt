@@ -8,10 +8,10 @@ use lib.IntN.{ℤ}
 use lib.Ieee.{Float, up, down, size}
 use lib.Ieee.Fits.{up-pos, down-pos}
 use lib.Ieee.Positive.{first-pos}
 use Rattle.float.specs.Float.{rootUnits, rootOf}
 use Rattle.float.proofs.Scaled.{four-pow}
 use Rattle.float.proofs.NearRoot.{near-root}
-use Rattle.measure.proofs.Nearly.{grain, grain-pos, Ratio, ratio, ratio-of}
+use Rattle.float.proofs.Nearly.{grain, grain-pos, Ratio, ratio, ratio-of}
 
 -- ---- squares keep order
 pub root-le : (p q : ℕ) → p * p ≤ q * q → p ≤ q

@@ -1,19 +1,21 @@
--- `arclen::fill_by_guesses` meets its contract. The invariant is `Testing`. Assumes nothing.
+-- `arclen::fill_roots` meets its contract. The invariant is `Rooting`. Assumes nothing.
 use Prim.Native.Nat.{_-_}
 use mathlib.Core.Path.{_≡_}
 use native.Mathlib.Omega.{arith}
-use Rattle.arclen.proofs.Filling.{Testing, none-tested, one-tested}
-use Rattle.arclen.proofs.fill_by_guesses.Statement.{statement}
-use Rattle.arclen.proofs.fill_by_guesses.Tie as tie
+use lib.ListN.{length, getD}
+use lib.Ieee.{nan}
+use Rattle.arclen.proofs.Filling.{Rooting, no-roots, one-root}
+use Rattle.arclen.proofs.fill_roots.Statement.{statement}
+use Rattle.arclen.proofs.fill_roots.Tie as tie
 
 abbrev Inv-loop : tie.InvT-loop
-Inv-loop w v₀ k₀ v k = Testing w v k
+Inv-loop w guesses v₀ k₀ v k = (length guesses ≡ 20) × Rooting w (getD v₀ 0 nan) v k
 
 abbrev μ-loop : tie.MeasureT-loop
-μ-loop w v₀ k₀ v k = 21 - k
+μ-loop w guesses v₀ k₀ v k = 20 - k
 
 loop-holds : tie.Need-loop-holds Inv-loop μ-loop
-loop-holds c = none-tested (c .pre .0) (c .pre .1)
+loop-holds c = (c .pre .1, no-roots (c .pre .0) (c .pre .2))
 
 mul-root-by : tie.Need-mul-root-by Inv-loop μ-loop
 mul-root-by c = omega arith
@@ -30,6 +32,9 @@ element-copy-out-root-by-2 c = omega arith
 root-by-requires : tie.Need-root-by-requires Inv-loop μ-loop
 root-by-requires c κs = tt
 
+add-v : tie.Need-add-v Inv-loop μ-loop
+add-v c = omega arith
+
 mul-v : tie.Need-mul-v Inv-loop μ-loop
 mul-v c = omega arith
 
@@ -45,15 +50,17 @@ loop-less c = omega arith
 loop-again : tie.Need-loop-again Inv-loop μ-loop
 loop-again c =
     let turn = c .before .before .before in
-    one-tested _ (turn .before .loop .inv) (turn .loop-test .taken) (c .root-by .ensures)
+    let inv = turn .before .loop .inv in
+    (inv .0, one-root _ (inv .1) (turn .loop-test .taken) (c .root-by .ensures))
 
 returns : tie.Need-returns Inv-loop μ-loop
 returns c =
-    let end : c .before .loop .k ≡ 21 = omega (arith, c .before .loop .inv .most) in
-    rw end at (c .before .loop .inv .done)
+    let inv = c .before .loop .inv in
+    let end : c .before .loop .k ≡ 20 = omega (arith, inv .1 .most) in
+    rw end at (inv .1 .done)
 
-pub fill-by-guesses-spec : {M : Type 1} → statement M
-fill-by-guesses-spec =
+pub fill-roots-spec : {M : Type 1} → statement M
+fill-roots-spec =
     tie.close
     (tie.spec
     Inv-loop
@@ -64,6 +71,7 @@ fill-by-guesses-spec =
     mul-root-by-2
     element-copy-out-root-by-2
     root-by-requires
+    add-v
     mul-v
     element-write-v
     add-k
