@@ -366,7 +366,7 @@ fn crunch_listed(
     )
 }
 
-// Those of a contour of few points, whose stops a short list holds: the long one takes longer to zero than such a contour to work.
+// Those of a contour of few points, whose stops a short list holds, so that the long one is not zeroed for it.
 fn crunch_few(
     xs: &[i16],
     ys: &[i16],
