@@ -118,6 +118,9 @@ STANDARD = [
     for c in "xy"
 ]
 
+# In closed mode the point at place 0 stays.
+FIRST = [one("first place looked at", "let mut i: usize = 0;", "let mut i = usize::from(crate::hooks::settings().closed);")]
+
 ROOTS = [
     one(
         "root in the bend test",
@@ -132,7 +135,7 @@ IMPLIED = [one("explicit points left out", "insert_explicit_oncurves(&mut contou
 WORDS = [one("name of 16 bits", "use otspec::types::*;", "#[allow(non_camel_case_types)] type int16 = i16;")]
 
 IN_FONTCRUNCH = IMPORTS + ROOMS + FALLS + RECORDS + SETTINGS + CLOSED
-IN_CONTOURUTILS = IMPLIED + STANDARD
+IN_CONTOURUTILS = IMPLIED + STANDARD + FIRST
 ALL = IN_FONTCRUNCH + ROOTS + IN_CONTOURUTILS + WORDS
 
 

@@ -50,10 +50,12 @@ fn no_corner_and_one() {
 }
 
 #[test]
-fn an_implied_start_is_dropped() {
-    let crunched =
-        closed().crunch(&points(&[10, -8, 1, 34, -2, 0, 44, 32, 1, -10, 37, 1, -14, -14, 0])).unwrap();
-    assert_eq!(crunched.points, points(&[34, -2, 0, 44, 32, 1, -10, 37, 1, -14, -14, 0]));
+fn the_start_stays_where_it_is_a_midpoint() {
+    let contour = [10, -8, 1, 34, -2, 0, 44, 32, 1, -10, 37, 1, -14, -14, 0];
+    assert_crunches(&contour, 2, &contour);
+    // others go
+    assert_crunches(&[0, 0, 1, 10, 10, 0, 0, 0, 1, -10, -10, 0], 0, &[0, 0, 1, 10, 10, 0, -10, -10, 0]);
+    assert_crunches(&[5, 5, 1, 5, 5, 0], 1, &[5, 5, 1, 5, 5, 0]);
 }
 
 #[test]

@@ -9,3 +9,5 @@ mod Values
 mod Modulo
 pub mod Standard
 mod Came
+mod Walk
+mod Kept

@@ -82,7 +82,7 @@ pairsOf (solved a p) = tried p
 abbrev pub evaluate : Case → Comes
 evaluate (contour penalty closed xs ys fs) = outcome (crunchOf fullRooms 16384 (settingsOf penalty 0 closed) xs ys fs)
 evaluate (tangents d0 d1) = byAngle (angleCorner d0 d1)
-evaluate (points closed ps) = left (dropImplied (isImplied (yesOf closed)) ps)
+evaluate (points closed ps) = left (dropImplied (yesOf closed) ps)
 evaluate (coordinate g x) = breakAt (onGrid g x)
 evaluate (run penalty n e) = pairsOf (optimizeOf (atError e) (inLine (n + 1) 0) (penaltyOf (settingsOf penalty 0 0)))
 
@@ -143,10 +143,14 @@ rows =
       case = points 1 (off (pos 0) (pos 0) ∷ on (pos 0) (pos 0) ∷ off (pos 1) (pos 0) ∷ []);
       result = left (off (pos 0) (pos 0) ∷ on (pos 0) (pos 0) ∷ off (pos 1) (pos 0) ∷ []);
     }
-    -- on (0, 0) between off (2, 2) and off (-2, -2), their midpoint: dropped in closed mode too, where it is the first of the row
+    -- on (0, 0) between off (2, 2) and off (-2, -2), their midpoint: dropped in closed mode too, and kept there where it is the first of the row
+    ∷ record {
+      case = points 1 (off (pos 2) (pos 2) ∷ on (pos 0) (pos 0) ∷ off (negsuc 1) (negsuc 1) ∷ []);
+      result = left (off (pos 2) (pos 2) ∷ off (negsuc 1) (negsuc 1) ∷ []);
+    }
     ∷ record {
       case = points 1 (on (pos 0) (pos 0) ∷ off (pos 2) (pos 2) ∷ off (negsuc 1) (negsuc 1) ∷ []);
-      result = left (off (pos 2) (pos 2) ∷ off (negsuc 1) (negsuc 1) ∷ []);
+      result = left (on (pos 0) (pos 0) ∷ off (pos 2) (pos 2) ∷ off (negsuc 1) (negsuc 1) ∷ []);
     }
     -- break coordinates for 0.25, 0.24, -0.25
     ∷ record { case = coordinate halfGrid (Ieee.round binary64 false 25 100); result = breakAt (Ieee.round binary64 false 1 2) }

@@ -26,7 +26,7 @@ use Rattle.optimize.specs.declared.Tally.{Tally}
 use Rattle.edition.specs.Edition.{Result, Rooms}
 use Rattle.edition.specs.Edition as Edition
 use Rattle.contour.specs.Points.{Points, pointsOf, pieceIf, piecesPoints, pointsTo, pointAs, cameTo, unchangedIn}
-use Rattle.contour.specs.Implied.{number, isImplied, impliedAt, removed, look, dropFrom, dropImplied, finished}
+use Rattle.contour.specs.Implied.{number, isImplied, impliedAt, removed, look, dropFrom, firstPlace, dropImplied, finished}
 use Rattle.pieces.specs.Slots.{quadsOf}
 use Rattle.assembly.specs.Assembly.{State, ended, going, added, closedUp, itself, runIf, resultOf, afterRun, onward, crunchAll, crunchRound, crunchIn, crunchRuns}
 use Rattle.assembly.specs.Assembly as State
@@ -69,9 +69,9 @@ module _ (closed : Bool) where
   looked (suc k) i true {ps} h = looked k i (impliedAt (isImplied closed) (removed ps i) i) (both (taken i h) (dropped (i + 1) h))
   looked (suc k) i false {ps} h = looked k (i + 1) (impliedAt (isImplied closed) ps (i + 1)) h
 
-  drop-16 : {ps : Points} → All16 ps → All16 (dropImplied (isImplied closed) ps)
+  drop-16 : {ps : Points} → All16 ps → All16 (dropImplied closed ps)
   unfolding dropFrom
-  drop-16 {ps} h = looked (length ps - 0) 0 (impliedAt (isImplied closed) ps 0) h
+  drop-16 {ps} h = looked (length ps - firstPlace closed) (firstPlace closed) (impliedAt (isImplied closed) ps (firstPlace closed)) h
 
 finished-16 : (closed : Bool) {ps : Points} → All16 ps → All16 (finished closed ps)
 finished-16 true h = drop-16 true h

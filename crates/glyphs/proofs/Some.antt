@@ -20,7 +20,7 @@ use Rattle.optimize.specs.declared.Tally.{Tally}
 use Rattle.edition.specs.Edition.{Result, Rooms}
 use Rattle.edition.specs.Edition as Edition
 use Rattle.contour.specs.Points.{Points, pointsOf, pointsTo, pointAs, cameTo, unchangedIn, around}
-use Rattle.contour.specs.Implied.{offCurve, isImplied, impliedAt, removed, look, dropFrom, dropImplied, finished}
+use Rattle.contour.specs.Implied.{offCurve, isImplied, impliedAt, removed, look, dropFrom, finished}
 use Rattle.assembly.specs.Assembly.{State, ended, going, added, closedUp, itself, runIf, resultOf, afterRun, onward, crunchAll, crunchRound, crunchIn, crunchRuns}
 use Rattle.assembly.specs.Assembly as State
 use Rattle.crunch.specs.Crunch.{Outcome, crunched, overIf, outcomeOf, afterJudging, crunchOf}
@@ -58,13 +58,13 @@ module _ (closed : Bool) where
       look-some k i (impliedAt (isImplied closed) (removed ps i) i) (removed ps i) (omega (arith, e, less)) refl (omega (arith, two, less))
   look-some (suc k) i false ps e t some = look-some k (i + 1) (impliedAt (isImplied closed) ps (i + 1)) ps (omega (arith, e)) refl some
 
-  drop-some : (ps : Points) → 0 < length ps → 0 < length (dropImplied (isImplied closed) ps)
+  from-some : (ps : Points) (i : ℕ) → i ≤ length ps → 0 < length ps → 0 < length (dropFrom (isImplied closed) ps i)
   unfolding dropFrom
-  drop-some ps some = look-some (length ps - 0) 0 (impliedAt (isImplied closed) ps 0) ps (omega arith) refl some
+  from-some ps i h some = look-some (length ps - i) i (impliedAt (isImplied closed) ps i) ps (omega arith) refl some
 
 finished-some : (closed : Bool) (ps : Points) → 0 < length ps → 0 < length (finished closed ps)
-finished-some true ps some = drop-some true ps some
-finished-some false ps some = drop-some false (reverse ps) (omega (arith, length-reverse ps, some))
+finished-some true ps some = from-some true ps 1 (omega (arith, some)) some
+finished-some false ps some = from-some false (reverse ps) 0 (omega arith) (omega (arith, length-reverse ps, some))
 
 -- ---- the points of a contour
 
