@@ -5,3 +5,4 @@ pub mod WrittenOut
 pub mod Glyph
 pub mod BothEditions
 pub mod Determine
+pub mod Calls

@@ -1,5 +1,7 @@
 -- What the proofs share; and the contracts of the exports as the check reads them.
 mod Reports
+mod Calls
+mod Laws
 mod Stated
 mod Ends
 mod Curve

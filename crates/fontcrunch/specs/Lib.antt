@@ -3,4 +3,5 @@ pub mod Determine
 pub mod Accepted
 pub mod Table
 pub mod Handed
+pub mod Calls
 pub mod Wrong

@@ -1,0 +1,95 @@
+-- Calls of fontcrunch_clean and fontcrunch_put_back, and what they promise. Definitions and statements; the theorems stand in proofs/Stated/Cleaning.
+use Prim.Native.Nat.{ℕ}
+use mathlib.Core.List.{List}
+use mathlib.Core.Path.{_≡_}
+use lib.IntN.{ℤ}
+use lib.ListN.{take}
+use Rattle.rows.specs.Lent.{Inputs, inputs, Shown}
+use Rattle.contour.specs.Output.{Outputs, outputs}
+use Rattle.clean.specs.Entry.{Rows, rows, Promise, PutPromise}
+use Rattle.clean.specs.Determine.{placesOf, pointPlaces}
+use Rattle.exports.specs.Cleaning as Reports
+use Rattle.exports.specs.declared.cleaning.CleanReport.{CleanReport}
+use Rattle.exports.specs.declared.cleaning.PutReport.{PutReport}
+
+-- ---- fontcrunch_clean
+
+pub record CleanGiven : Type 0 where
+  pub xs : List ℤ
+  pub ys : List ℤ
+  pub flags : List ℕ
+  pub ox : List ℤ
+  pub oy : List ℤ
+  pub of : List ℕ
+  pub list : List (List ℕ)
+
+pub record CleanLeft : Type 0 where
+  pub report : CleanReport
+  pub ox : List ℤ
+  pub oy : List ℤ
+  pub of : List ℕ
+  pub list : List (List ℕ)
+
+abbrev pub cleanContour : CleanGiven → Inputs
+cleanContour g = inputs (g .xs) (g .ys) (g .flags)
+
+abbrev pub cleanBefore : CleanGiven → Rows
+cleanBefore g = rows (outputs (g .ox) (g .oy) (g .of)) (g .list)
+
+abbrev pub cleanAfter : CleanLeft → Rows
+cleanAfter l = rows (outputs (l .ox) (l .oy) (l .of)) (l .list)
+
+-- the cleaning entry's promise, for what the caller gave
+pub record CleanIs (g : CleanGiven) (l : CleanLeft) : Type 0 where
+  pub shown : Shown Reports.report (Promise (cleanContour g) (record { entry = cleanBefore g; exit = cleanAfter l })) (l .report)
+
+-- one contour, in rows of equal lengths
+pub record CleanAlike (g g' : CleanGiven) : Type 0 where
+  pub contour : cleanContour g ≡ cleanContour g'
+  pub places : placesOf (cleanBefore g) ≡ placesOf (cleanBefore g')
+
+-- the first places, as many as the report says
+abbrev pub cleanWritten : CleanLeft → Rows
+cleanWritten l =
+    let n = l .report .kept in
+    rows (outputs (take n (l .ox)) (take n (l .oy)) (take n (l .of))) (take (l .report .dropped) (l .list))
+
+-- ---- fontcrunch_put_back
+
+pub record PutGiven : Type 0 where
+  pub xs : List ℤ
+  pub ys : List ℤ
+  pub flags : List ℕ
+  pub list : List (List ℕ)
+  pub ox : List ℤ
+  pub oy : List ℤ
+  pub of : List ℕ
+
+pub record PutLeft : Type 0 where
+  pub report : PutReport
+  pub ox : List ℤ
+  pub oy : List ℤ
+  pub of : List ℕ
+
+abbrev pub putContour : PutGiven → Inputs
+putContour g = inputs (g .xs) (g .ys) (g .flags)
+
+abbrev pub putBefore : PutGiven → Outputs
+putBefore g = outputs (g .ox) (g .oy) (g .of)
+
+abbrev pub putAfter : PutLeft → Outputs
+putAfter l = outputs (l .ox) (l .oy) (l .of)
+
+-- the promise of the entry that puts back, for what the caller gave
+pub record PutIs (g : PutGiven) (l : PutLeft) : Type 0 where
+  pub shown : Shown Reports.putReport (PutPromise (putContour g) (g .list) (record { entry = putBefore g; exit = putAfter l })) (l .report)
+
+pub record PutAlike (g g' : PutGiven) : Type 0 where
+  pub contour : putContour g ≡ putContour g'
+  pub list : g .list ≡ g' .list
+  pub places : pointPlaces (putBefore g) ≡ pointPlaces (putBefore g')
+
+abbrev pub putWritten : PutLeft → Outputs
+putWritten l =
+    let n = l .report .points in
+    outputs (take n (l .ox)) (take n (l .oy)) (take n (l .of))
