@@ -3,6 +3,7 @@ mod Reports
 mod Calls
 mod Laws
 mod Stated
+mod Solved
 mod Ends
 mod Curve
 mod Lost
