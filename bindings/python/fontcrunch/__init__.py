@@ -58,6 +58,7 @@ from ._glyphs import Glyph, crunch_glyph, read_glyph, write_glyph
 from ._refusal import Refused
 from ._rows import ANSWER_ROOM, BREAK_ROOM, MOST_PIECES, MOST_POINTS_IN, SAMPLE_ROOM, USUAL_POINT_ROOM, Point
 from ._uploads import Cleaned, Dropped, Why, clean, explicit, from_cubics, put_back
+from ._version import __version__ as __version__
 
 __all__ = [
     "ANSWER_ROOM",
