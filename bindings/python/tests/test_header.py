@@ -7,6 +7,7 @@ import re
 import subprocess
 import sys
 import tempfile
+import types
 import unittest
 
 import fontcrunch
@@ -100,7 +101,8 @@ class Module(Case):
         self.assertEqual(result.failed, 0)
 
     def test_all_names(self):
-        public = {name for name in vars(fontcrunch) if not name.startswith("_")}
+        # modules of the package, as pens, are imported by their own names
+        public = {name for name, held in vars(fontcrunch).items() if not (name.startswith("_") or isinstance(held, types.ModuleType))}
         self.assertEqual(set(fontcrunch.__all__), public)
         for name in fontcrunch.__all__:
             self.assertTrue(getattr(fontcrunch, name).__doc__, name)
