@@ -47,6 +47,8 @@ GLIF, whose other bytes stay as they are.
 
 Editions. `editions` crunches a contour at two penalties from one sampling.
 
+Fonts. `python3 -m fontcrunch IN.ttf OUT.ttf` crunches a whole font, and `fontcrunch.pens` has pens; both are of use with fontTools, which the rest does not need.
+
 Threads. Every function may be called in any thread. The library works outside Python's lock, so that threads do work at
 the same time; answers do not depend on them.
 """
