@@ -1,6 +1,5 @@
 """The wheel: the module with the shared library in it, for any Python on its processor. And the version, which is one."""
 
-import importlib.util
 import os
 import pathlib
 import re
@@ -17,18 +16,19 @@ from fontcrunch import _entries
 from .common import TOP, Case
 
 
-def can_build():
-    """Whether this Python has what makes wheels."""
-    if not all(importlib.util.find_spec(name) for name in ("pip", "setuptools")):
-        return False
-    return bool(importlib.util.find_spec("wheel") or importlib.util.find_spec("setuptools.command.bdist_wheel"))
-
-
-if not can_build():
+# asked of a process of its own, since setuptools changes the one that imports it
+NEEDED = """import setuptools
+try:
+    import setuptools.command.bdist_wheel
+except ImportError:
+    import wheel.bdist_wheel
+import pip"""
+CAN_BUILD = subprocess.run([sys.executable, "-c", NEEDED], capture_output=True).returncode == 0
+if not CAN_BUILD:
     print("tests.test_package.Wheel is passed over: pip, setuptools or wheel is missing", file=sys.stderr)
 
 
-@unittest.skipUnless(can_build(), "pip, setuptools or wheel is missing")
+@unittest.skipUnless(CAN_BUILD, "pip, setuptools or wheel is missing")
 class Wheel(Case):
     def built(self, folder):
         """The wheel, built of a copy, so that nothing is left in the tree."""
@@ -86,7 +86,7 @@ class Version(Case):
         self.assertIn(f"\0libfontcrunch.so.{self.version.split('.')[0]}\0".encode(), _entries.library_file().read_bytes())
 
     def test_of_the_changes(self):
-        self.assertEqual(re.search(r"^## (\S+)", (TOP / "CHANGELOG.md").read_text(), re.M)[1], self.version)
+        self.assertEqual(re.search(r"^## (\d\S*)$", (TOP / "CHANGELOG.md").read_text(), re.M)[1], self.version)
 
 
 if __name__ == "__main__":
