@@ -35,7 +35,7 @@ static int kept_from(const Rows *r, size_t points, size_t drops)
     return 1;
 }
 
-static CleanReport cleaned(Rows *r, size_t x, size_t y, size_t f, size_t list)
+static fontcrunch_clean_report cleaned(Rows *r, size_t x, size_t y, size_t f, size_t list)
 {
     calls++;
     marked(r);
@@ -52,14 +52,14 @@ static void expect(int right, const char *what)
 static void refused(size_t x, size_t y, size_t f, size_t list, uint32_t number, const char *what)
 {
     static Rows r;
-    CleanReport c = cleaned(&r, x, y, f, list);
+    fontcrunch_clean_report c = cleaned(&r, x, y, f, list);
     expect(c.number == number && c.kept == 0 && c.dropped == 0 && kept_from(&r, 0, 0), what);
 }
 
 static void edges(void)
 {
     static Rows r, s, b;
-    CleanReport c = cleaned(&r, MOST, MOST, MOST, MOST);
+    fontcrunch_clean_report c = cleaned(&r, MOST, MOST, MOST, MOST);
     if (c.number) {
         /* 1 to 5 come first, whatever the rooms */
         refused(0, 0, 0, 0, c.number, "another refusal in no room");
@@ -67,7 +67,7 @@ static void edges(void)
     }
     size_t k = c.kept, d = c.dropped;
     expect(k + d == n && kept_from(&r, k, d), "counts");
-    CleanReport e = cleaned(&s, k, k, k, d);
+    fontcrunch_clean_report e = cleaned(&s, k, k, k, d);
     expect(e.number == 0 && e.kept == k && e.dropped == d && kept_from(&s, k, d) && !memcmp(&r, &s, sizeof r), "exact rows");
     if (d > 0) {
         refused(k, k, k, d - 1, 18, "18");
@@ -80,7 +80,7 @@ static void edges(void)
     /* put back */
     calls += 2;
     marked(&b);
-    PutReport p = fontcrunch_put_back(r.x, k, r.y, k, r.f, k, r.list, d, b.x, n, b.y, n, b.f, n);
+    fontcrunch_put_back_report p = fontcrunch_put_back(r.x, k, r.y, k, r.f, k, r.list, d, b.x, n, b.y, n, b.f, n);
     expect(p.number == 0 && p.points == n && kept_from(&b, n, 0), "put back");
     for (size_t i = 0; i < n; i++)
         if (b.x[i] != xs[i] || b.y[i] != ys[i] || b.f[i] != (fs[i] & 1)) { expect(0, "a point put back"); break; }
@@ -102,8 +102,8 @@ static int times(void)
     for (n = 64; n <= MOST; n *= 2) {
         for (size_t i = 0; i < n; i++) xs[i] = 7, ys[i] = 9, fs[i] = 1;
         enum { ROUNDS = 2000 };
-        CleanReport c = {0};
-        PutReport p = {0};
+        fontcrunch_clean_report c = {0};
+        fontcrunch_put_back_report p = {0};
         double start = seconds();
         for (int i = 0; i < ROUNDS; i++) c = fontcrunch_clean(xs, n, ys, n, fs, n, r.x, n, r.y, n, r.f, n, r.list, n);
         double middle = seconds();

@@ -47,6 +47,8 @@ GLIF, whose other bytes stay as they are.
 
 Editions. `editions` crunches a contour at two penalties from one sampling.
 
+Fonts. `python3 -m fontcrunch IN.ttf OUT.ttf` crunches a whole font, and `fontcrunch.pens` has pens; both are of use with fontTools, which the rest does not need.
+
 Threads. Every function may be called in any thread. The library works outside Python's lock, so that threads do work at
 the same time; answers do not depend on them.
 """
@@ -58,6 +60,7 @@ from ._glyphs import Glyph, crunch_glyph, read_glyph, write_glyph
 from ._refusal import Refused
 from ._rows import ANSWER_ROOM, BREAK_ROOM, MOST_PIECES, MOST_POINTS_IN, SAMPLE_ROOM, USUAL_POINT_ROOM, Point
 from ._uploads import Cleaned, Dropped, Why, clean, explicit, from_cubics, put_back
+from ._version import __version__ as __version__
 
 __all__ = [
     "ANSWER_ROOM",

@@ -80,11 +80,12 @@ def _folders() -> list[pathlib.Path]:
     return [here, here.parents[2] / "build"]
 
 
-def _library() -> ctypes.CDLL:
+def library_file() -> pathlib.Path:
+    """The library's file."""
     folders = _folders()
     for folder in folders:
         if (folder / LIBRARY).is_file():
-            return ctypes.CDLL(str(folder / LIBRARY))
+            return folder / LIBRARY
     raise ImportError(
         f"there is no {LIBRARY} in {' or '.join(map(str, folders))}; `tools/library && tools/shared`, run at the "
         f"repository's top, writes it to build. If it is elsewhere, set {FOLDER_VARIABLE} to its folder."
@@ -107,7 +108,7 @@ def _entry(library: ctypes.CDLL, name: str) -> Any:
 
 
 def _entries() -> dict[str, Any]:
-    library = _library()
+    library = ctypes.CDLL(str(library_file()))
     return {name: _entry(library, name) for name in SIGNATURES}
 
 

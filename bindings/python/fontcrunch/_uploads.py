@@ -4,10 +4,11 @@ from __future__ import annotations
 
 import enum
 import itertools
-from typing import Iterable, NamedTuple, Tuple
+from typing import Any, Iterable, NamedTuple, Tuple
 
 from ._entries import U32, call
 from ._rows import MOST_POINTS_IN, AnyPoint, Point, point_rows, points_in, points_room, row_of
+from ._wrong import shown
 
 
 class Why(enum.IntEnum):
@@ -56,11 +57,22 @@ def put_back(points: Iterable[AnyPoint], dropped: Iterable[Tuple[int, int]]) -> 
     Refused by 3 where there are more than MOST_POINTS_IN points with those dropped.
     """
     contour = point_rows(points)
-    listed = [(place, int(Why(why))) for place, why in dropped]
-    drops = (U32 * 2 * len(listed)).from_buffer_copy(row_of(U32, itertools.chain.from_iterable(listed)))
-    out = points_room(min(len(contour[0]) + len(listed), MOST_POINTS_IN))
+    drops = _drop_row(dropped)
+    out = points_room(min(len(contour[0]) + len(drops), MOST_POINTS_IN))
     report = call("put_back", *contour, drops, *out)
     return points_in(out, report.points)
+
+
+def _drop_row(dropped: Iterable[Tuple[int, int]]) -> Any:
+    """The row of a list of drops."""
+    held = []
+    for number, drop in enumerate(dropped):
+        try:
+            place, why = drop
+            held.append((place, int(Why(why))))
+        except (TypeError, ValueError) as error:
+            raise type(error)(f"drop {number} is {shown(drop)}: a drop is a place and why, 1 before, 2 both or 3 first") from None
+    return (U32 * 2 * len(held)).from_buffer_copy(row_of(U32, itertools.chain.from_iterable(held)))
 
 
 def from_cubics(points: Iterable[AnyPoint]) -> list[Point]:

@@ -3,6 +3,7 @@
 import importlib.util
 import pathlib
 import struct
+import sys
 import unittest
 
 import fontcrunch
@@ -72,6 +73,14 @@ def model(folder):
     module = importlib.util.module_from_spec(spec)
     spec.loader.exec_module(module)
     return module
+
+
+def needs_fonttools(case):
+    """A class of tests that is passed over where fontTools is missing, which is said."""
+    if importlib.util.find_spec("fontTools"):
+        return case
+    print(f"{case.__module__}.{case.__name__} is passed over: fontTools is missing (Debian's python3-fonttools)", file=sys.stderr)
+    return unittest.skip("fontTools is missing")(case)
 
 
 class Case(unittest.TestCase):

@@ -199,6 +199,15 @@ class Sentences(Case):
         self.assertNotIn(unknown, sentences.values())
         self.assertEqual(Refused(10**9).sentence, unknown)
 
+    def test_those_of_the_header(self):
+        header = (TOP / "include/fontcrunch.h").read_text()
+        table = header[header.index("fontcrunch_reason(uint32_t number)") :].split("\n}\n", 1)[0]
+        sentences = dict(re.findall(r'case FONTCRUNCH_(\w+):\s+return "([^"]*)";', table))
+        self.assertEqual(sentences.pop("OK"), "nothing is refused")
+        names = dict(re.findall(r"^    FONTCRUNCH_(\w+) = (\d+),?$", header.split("/* Why a point", 1)[0], re.M))
+        self.assertEqual({int(names[name]): said for name, said in sentences.items()}, self.of_rust())
+        self.assertEqual(re.search(r'default: return "([^"]*)";', table)[1], Refused(10**9).sentence)
+
     def test_numbers_of_the_header(self):
         header = (TOP / "include/fontcrunch.h").read_text()
         numbers = {int(n) for n in re.findall(r"^    FONTCRUNCH_\w+ = (\d+),?$", header.split("/* Why a point", 1)[0], re.M)}

@@ -69,13 +69,33 @@
 //! [`glif`] reads the contours of files of UFO's GLIF, as `docs/GLIF.md` has them, and writes others into them;
 //! [`Cruncher::crunch_glif`] crunches a file, contour by contour.
 //!
+//! # Refusals
+//!
+//! What is not done is a [`Refusal`], with the same number and the same words in every program over the library. Where
+//! several reasons hold, the first in an entry's order is given; `docs/REFUSALS.md` has the order of each in one table.
+//!
 //! # Linking
 //!
-//! `tools/library`, run at the repository's top, writes the library where this crate looks for
-//! it. The environment variable `FONTCRUNCH_LIB_DIR` names another folder.
+//! The archive `libfontcrunch.a` is linked into whatever uses this crate; nothing is loaded when it runs. The build looks
+//! for it in one folder:
+//!
+//! 1. that of the environment variable `FONTCRUNCH_LIB_DIR`, an absolute path, where it is set: `PREFIX/lib` after
+//!    `tools/install PREFIX`;
+//! 2. else `build` at the top of the repository that this crate lies in, where `tools/library` writes it.
+//!
+//! Where there is none, or one for another processor, the build stops and says so. The archive is for Linux on the processor
+//! that it was made on, x86-64 or Arm (aarch64), and needs nothing but the C library.
+//!
+//! # Versions
+//!
+//! Within one major version equal orders give equal bytes. Structs to which fields may be added are `#[non_exhaustive]`:
+//! [`Settings`] are made by their functions, and a chain to be checked by [`Chain::new`].
 
 #![deny(missing_docs)]
 #![deny(unsafe_op_in_unsafe_fn)]
+
+/// The version, which the header `fontcrunch.h`, the command and the Python module have too.
+pub const VERSION: &str = env!("CARGO_PKG_VERSION");
 
 mod cleaning;
 mod cruncher;

@@ -8,14 +8,18 @@ pub const CRATE_PENALTY: u32 = 16;
 
 /// What a caller chooses; see [`Cruncher::new`](crate::Cruncher::new).
 ///
-/// A setting that is not named is best taken from one of the two sets that have names:
+/// They are made of one of the two sets that have names, with others in the place of some:
 ///
 /// ```
 /// use fontcrunch::Settings;
 ///
-/// let gentle = Settings { penalty: 64, ..Settings::default() };
+/// let gentle = Settings::default().with_penalty(64).with_closed(true);
+/// assert_eq!((gentle.penalty, gentle.whole_units, gentle.closed), (64, false, true));
 /// ```
+///
+/// Other settings may be added, so that they cannot be written with all their fields outside of this crate.
 #[derive(Clone, Copy, Debug, PartialEq, Eq)]
+#[non_exhaustive]
 pub struct Settings {
     /// What each piece adds to a score, in sixteenths. A larger one asks for fewer pieces. Refused by 16 where
     /// it is not from 1 to 256.
@@ -33,6 +37,21 @@ impl Settings {
     /// Those of the Rust that this follows, whose points come out with them.
     pub const fn of_crate() -> Settings {
         Settings { penalty: CRATE_PENALTY, whole_units: false, closed: false }
+    }
+
+    /// The same with another [`penalty`](Settings::penalty).
+    pub const fn with_penalty(self, penalty: u32) -> Settings {
+        Settings { penalty, ..self }
+    }
+
+    /// The same with breaks on [`whole_units`](Settings::whole_units), or on half ones.
+    pub const fn with_whole_units(self, whole_units: bool) -> Settings {
+        Settings { whole_units, ..self }
+    }
+
+    /// The same in [`closed`](Settings::closed) mode, or in the crate's.
+    pub const fn with_closed(self, closed: bool) -> Settings {
+        Settings { closed, ..self }
     }
 }
 

@@ -6,7 +6,7 @@ use common::{as_recorded, hill, letter, points};
 use fontcrunch::{Cruncher, Refusal, Settings};
 
 fn closed() -> Cruncher {
-    Cruncher::new(Settings { closed: true, ..Settings::of_crate() })
+    Cruncher::new(Settings::of_crate().with_closed(true))
 }
 
 fn assert_crunches(contour: &[i16], pairs: usize, out: &[i16]) {
@@ -97,7 +97,7 @@ fn the_counters_of_a_letter_come_out_whole() {
 #[test]
 fn room_is_not_needed_for_the_start_again() {
     let room = |places| {
-        let settings = Settings { closed: true, ..Settings::of_crate() };
+        let settings = Settings::of_crate().with_closed(true);
         Cruncher::with_point_room(settings, places).crunch(&points(&[0, 0, 1, 100, 0, 1, 0, 100, 1]))
     };
     assert!(room(3).is_ok());

@@ -137,9 +137,9 @@ fn a_penalty_is_any_whole_number() {
 #[test]
 fn whole_units() {
     assert!(!job(&[]).settings.whole_units);
-    assert_eq!(job(&["--whole-units"]).settings, Settings { whole_units: true, ..Settings::default() });
+    assert_eq!(job(&["--whole-units"]).settings, Settings::default().with_whole_units(true));
     assert!(job(&["cubic", "--whole-units", "--crunch"]).settings.whole_units);
-    let drawn = Settings { whole_units: true, ..Settings::of_crate() };
+    let drawn = Settings::of_crate().with_whole_units(true);
     assert_eq!(job(&["--svg", "p", "--whole-units"]).settings, drawn);
     assert!(fault(&["--whole-units=1"]).contains("no option --whole-units=1"));
 }
@@ -147,8 +147,8 @@ fn whole_units() {
 #[test]
 fn closed() {
     assert!(!job(&[]).settings.closed);
-    assert_eq!(job(&["--closed"]).settings, Settings { closed: true, ..Settings::default() });
-    let drawn = Settings { penalty: 16, whole_units: true, closed: true };
+    assert_eq!(job(&["--closed"]).settings, Settings::default().with_closed(true));
+    let drawn = Settings::default().with_penalty(16).with_whole_units(true).with_closed(true);
     assert_eq!(job(&["--whole-units", "--svg", "p", "--closed"]).settings, drawn);
 }
 
@@ -172,7 +172,7 @@ fn glyphs() {
         assert!(fault(words).contains("needs read, write or crunch"), "{words:?}");
     }
     assert_eq!(job(&["glyph", "crunch"]).settings, Settings::default());
-    let all = Settings { penalty: 20, whole_units: true, closed: true };
+    let all = Settings::default().with_penalty(20).with_whole_units(true).with_closed(true);
     for words in [
         ["glyph", "crunch", "--penalty=20", "--whole-units", "--closed"],
         ["glyph", "--closed", "--penalty=20", "crunch", "--whole-units"],
@@ -202,7 +202,7 @@ fn two_penalties() {
     {
         let job = job(&[&["editions"][..], &words, &["a"]].concat());
         assert_eq!((job.tool, job.inputs), (Tool::Editions { penalty: 32 }, vec![file("a")]));
-        assert_eq!(job.settings, Settings { penalty: 16, closed: true, ..Settings::default() });
+        assert_eq!(job.settings, Settings::default().with_penalty(16).with_closed(true));
     }
     for words in [&["editions"][..], &["editions", "--penalty", "16"], &["editions", "a", "b"]] {
         assert!(fault(words).contains("two penalties"), "{words:?}");
@@ -216,7 +216,7 @@ fn lines_of_files_or_one_file() {
     for (word, step) in [("read", Step::Read), ("write", Step::Write), ("crunch", Step::Crunch)] {
         assert_eq!(job(&["glif", word, "-"]).tool, Tool::Glif { step });
     }
-    let settings = Settings { penalty: 20, closed: true, ..Settings::default() };
+    let settings = Settings::default().with_penalty(20).with_closed(true);
     for words in [["a.glif", "--closed", "--penalty=20"], ["--closed", "a.glif", "--penalty=20"]] {
         let asked = read([&["glif"][..], &words].concat().into_iter().map(Into::into));
         assert_eq!(asked, Ok(Request::File(settings, "a.glif".into())));

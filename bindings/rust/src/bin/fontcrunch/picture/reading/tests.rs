@@ -17,7 +17,7 @@ fn reading(numbers: &[i16]) -> Reading {
 }
 
 fn closed() -> Settings {
-    Settings { closed: true, ..Settings::of_crate() }
+    Settings::of_crate().with_closed(true)
 }
 
 fn reading_closed(numbers: &[i16]) -> Reading {
@@ -137,7 +137,7 @@ fn an_unchanged_contour_has_plain_nodes() {
 fn runs_going_round() {
     assert_eq!(spans(&[1, 2, 4], 5, false), [1..2, 2..4]);
     assert_eq!(spans(&[1, 2, 4], 5, true), [1..2, 2..4, 4..6]);
-    assert_eq!(spans(&[2], 3, true), [2..5]);
+    assert_eq!(spans(&[2], 3, true), vec![(2..5)]);
     assert_eq!(spans(&[2], 3, false), [0..0; 0]);
     assert_eq!(spans(&[], 3, true), [0..0; 0]);
 }
@@ -177,7 +177,7 @@ fn nothing_is_lost_in_closed_mode() {
 
 #[test]
 fn runs_whose_lookups_fell() {
-    let high = Settings { penalty: 256, whole_units: true, closed: false };
+    let high = Settings::default().with_penalty(256).with_whole_units(true);
     let fell = points(&[-1795, 0, 1, -1794, 0, 1, 143, -4, 0, -3, 7, 1, -1795, -900, 1]);
     let (reading, result) = read_at(high, &fell);
     // attempts alone: none of the pieces that were found
@@ -191,13 +191,8 @@ fn runs_whose_lookups_fell() {
     assert_eq!(reading.runs[0].came, Came::Pieces(2));
     assert!(reading.runs.iter().all(|run| run.fell == Fell::default()));
     let mut cruncher = Cruncher::new(high);
-    let bent = Chain {
-        pieces: vec![Piece { start: 0, end: 1821, control: (90.0, 0.0) }],
-        score: 0.0,
-        pairs: 1,
-        segments: vec![],
-        fallen: 2,
-    };
+    let mut bent = Chain::new(vec![Piece { start: 0, end: 1821, control: (90.0, 0.0) }], 0.0);
+    bent.fallen = 2;
     assert_eq!(super::fell(&mut cruncher, &fell, 0, &bent), Fell { tried: 2, found: 2 });
 }
 
@@ -209,7 +204,7 @@ fn the_run_that_is_refused() {
     assert!(long.joins.is_empty());
     assert_eq!(reading(&[0, 0, 0]), Reading::default());
     // no run is to blame for a penalty
-    let free = Settings { penalty: 0, ..Settings::of_crate() };
+    let free = Settings::of_crate().with_penalty(0);
     let (reading, result) = read_at(free, &points(&HILL));
     assert_eq!((reading.refused_run(), result), (None, Err(Refusal::NoSuchPenalty)));
 }

@@ -1,17 +1,13 @@
-"""The step of examples/python that drops idle controls, and its picture."""
+"""The step that drops idle controls, and the picture of glyphs before and after."""
 
-import sys
 import unittest
 import xml.etree.ElementTree
 
 import fontcrunch
+from fontcrunch._idle import without_idle_controls
+from fontcrunch._picture import drawn
 
-from .common import TOP, Case, points
-
-sys.path.insert(0, str(TOP / "examples/python"))
-
-import explicit  # noqa: E402
-import picture  # noqa: E402
+from .common import Case, points
 
 
 class Idle(Case):
@@ -19,14 +15,14 @@ class Idle(Case):
 
     def test_controls_on_an_end_are_dropped(self):
         def kept(line):
-            return [fontcrunch.Point(*point) for point in explicit.without_idle_controls(points(line))]
+            return [fontcrunch.Point(*point) for point in without_idle_controls(points(line))]
 
         self.assertEqual(kept("60 200 1 60 200 0 20 100 1 0 50 0 0 0 1 90 20 1"), points(self.BENT))
         self.assertEqual(kept("60 200 1 20 100 0 20 100 1 0 50 0 0 0 1 90 20 1"), points(self.BENT))
         # a last control, on the start
         self.assertEqual(kept(f"{self.BENT} 60 200 0"), points(self.BENT))
         self.assertEqual(kept(self.BENT), points(self.BENT))
-        self.assertEqual(explicit.without_idle_controls([]), [])
+        self.assertEqual(without_idle_controls([]), [])
 
     def test_left_in_the_run_is_one_straight_piece(self):
         idle = fontcrunch.chain(points("60 200 1 60 200 0 20 100 1 0 50 0 0 0 1 90 20 1"), 0)
@@ -40,7 +36,7 @@ class Picture(Case):
         class Side:
             contours, points = [points("0 0 0 10 0 0 10 10 0"), points("0 0 1 5 5 0")], 5
 
-        root = xml.etree.ElementTree.fromstring(picture.drawn([("a<b&c", Side, Side)] * 3))
+        root = xml.etree.ElementTree.fromstring(drawn([("a<b&c", Side, Side)] * 3))
         self.assertEqual(sum(element.tag.endswith("path") for element in root.iter()), 6)
         self.assertEqual(sum(element.tag.endswith("rect") for element in root.iter()), 6)
 
