@@ -190,6 +190,7 @@ fn messages_name_the_input_the_line_and_the_reason() {
     assert_eq!(
         text(&output.stderr),
         "fontcrunch: (standard input):2: refused 4: the first point is off-curve; start with an on-curve one\n\
+         fontcrunch: (standard input):2: point 0 is off-curve; --prepare starts at the first on-curve one\n\
          fontcrunch: (standard input):3: malformed: number 3, 'y', is not a whole number\n"
     );
 }
@@ -203,7 +204,8 @@ fn shell(command: &str) -> String {
 
 #[test]
 fn the_examples_of_each_page_are_so() {
-    for tool in ["crunch", "editions", "why", "chain", "check", "glyph", "glif", "clean", "cubic", "explicit"]
+    for tool in
+        ["crunch", "ufo", "editions", "why", "chain", "check", "glyph", "glif", "clean", "cubic", "explicit"]
     {
         let page = run(&[tool, "--help"], b"");
         assert!(page.status.success());
