@@ -39,7 +39,9 @@ that number, those of its chain alone. They change nothing else.
 
 Uploads. `clean` drops repeated points and lists each with why, and `put_back` gives the upload's points again. `from_cubics`
 makes quads of cubics. `explicit` takes contours as fonts hold them: it turns one to its first on-curve point and writes its
-implied points out.
+implied points out. `drop_idle` drops controls that stand on an end of their curve, which flatten its run, and lists them; it
+alone is no entry of the library and outside the proofs. `prepared` does these three: explicit, clean, drop_idle; and so do
+`crunch`, `editions`, `crunch_glyph` and `crunch_glif` before they crunch, where prepare is true.
 
 Glyphs. `read_glyph` and `write_glyph` take OpenType's simple glyph descriptions, bytes, to a Glyph and back;
 `crunch_glyph` crunches one, bytes in and bytes out, with explicit=True after writing out implied points. `read_glif`, `write_glif` and `crunch_glif` do the same for files of UFO's
@@ -57,6 +59,8 @@ from ._contours import CRATE_PENALTY, DEFAULT_PENALTY, Chain, Crunched, Editions
 from ._contours import chain, check, crunch, editions, verdict, why
 from ._glif import crunch_glif, read_glif, write_glif
 from ._glyphs import Glyph, crunch_glyph, read_glyph, write_glyph
+from ._idle import Beside, Idle, IdleDrop, drop_idle
+from ._prepared import prepared
 from ._refusal import Refused
 from ._rows import ANSWER_ROOM, BREAK_ROOM, MOST_PIECES, MOST_POINTS_IN, SAMPLE_ROOM, USUAL_POINT_ROOM, Point
 from ._uploads import Cleaned, Dropped, Why, clean, explicit, from_cubics, put_back
@@ -65,6 +69,7 @@ from ._version import __version__ as __version__
 __all__ = [
     "ANSWER_ROOM",
     "BREAK_ROOM",
+    "Beside",
     "CRATE_PENALTY",
     "Chain",
     "Cleaned",
@@ -73,6 +78,8 @@ __all__ = [
     "Dropped",
     "Editions",
     "Glyph",
+    "Idle",
+    "IdleDrop",
     "MOST_PIECES",
     "MOST_POINTS_IN",
     "Piece",
@@ -90,9 +97,11 @@ __all__ = [
     "crunch",
     "crunch_glif",
     "crunch_glyph",
+    "drop_idle",
     "editions",
     "explicit",
     "from_cubics",
+    "prepared",
     "put_back",
     "read_glif",
     "read_glyph",

@@ -7,6 +7,7 @@ import struct
 from typing import Any, Iterable, NamedTuple
 
 from ._entries import F64, U32, call, told
+from ._prepared import prepared
 from ._refusal import Refused
 from ._rows import MOST_PIECES, SCRATCH, USUAL_POINT_ROOM
 from ._rows import AnyPoint, Point, assembly_room, counted, point_rows, points_in, points_room, row_of
@@ -148,9 +149,13 @@ class Reasons(NamedTuple):
 
 
 def crunch(
-    points: Iterable[AnyPoint], settings: Settings = Settings(), *, point_room: int = USUAL_POINT_ROOM
+    points: Iterable[AnyPoint],
+    settings: Settings = Settings(),
+    *,
+    point_room: int = USUAL_POINT_ROOM,
+    prepare: bool = False,
 ) -> Crunched:
-    """Crunches a contour.
+    """Crunches a contour; where prepare is true, what `prepared` makes of it.
 
     A run for which no chain is found leaves the whole contour unchanged: then its own points come out, reversed, with the
     start at both ends. In closed mode they come out as they stand, and so do those of a contour with no corner.
@@ -160,7 +165,7 @@ def crunch(
     """
     places = room(point_room)
     out, assembled = points_room(places), assembly_room(places)
-    report = call("crunch", *point_rows(points), *words_of(settings), *out, *SCRATCH.rows, assembled)
+    report = call("crunch", *point_rows(prepared(points) if prepare else points), *words_of(settings), *out, *SCRATCH.rows, assembled)
     return _crunched(report, out)
 
 
@@ -170,13 +175,25 @@ def _crunched(report: Any, out: Any) -> Crunched:
 
 
 def editions(
-    points: Iterable[AnyPoint], a: int, b: int, settings: Settings = Settings(), *, point_room: int = USUAL_POINT_ROOM
+    points: Iterable[AnyPoint],
+    a: int,
+    b: int,
+    settings: Settings = Settings(),
+    *,
+    point_room: int = USUAL_POINT_ROOM,
+    prepare: bool = False,
 ) -> Editions:
     """Two editions of a contour, with a penalty each, in sixteenths; grid and mode are those of the settings, whose own
     penalty is not looked at. Each run is sampled once for both.
 
-    Each edition gets what `crunch` gives at its penalty, whichever comes first and whatever becomes of the other.
+    Each edition gets what `crunch` gives at its penalty, whichever comes first and whatever becomes of the other. Where
+    prepare is true, both are of what `prepared` makes of the contour, and what it refuses is refused for both.
     """
+    if prepare:
+        try:
+            points = prepared(points)
+        except Refused as refused:
+            return Editions(refused, refused)
     samples, breaks, answers, links = SCRATCH.rows
     places = room(point_room)
     out_a, out_b = points_room(places), points_room(places)

@@ -13,7 +13,7 @@ from fontTools.ttLib.tables import _g_l_y_f, otTraverse
 
 from ._contours import Settings
 from ._glyphs import Glyph, crunch_glyph, read_glyph, write_glyph
-from ._idle import without_idle_controls
+from ._idle import drop_idle
 from ._refusal import Refused
 from ._uploads import explicit
 
@@ -61,7 +61,7 @@ def _is_composite(data: bytes) -> bool:
 def crunched(data: bytes, settings: Settings) -> bytes | None:
     """The description crunched, without instructions; None where it would have no fewer points."""
     given = read_glyph(data)
-    contours = [without_idle_controls(explicit(contour)) for contour in given.contours()]
+    contours = [drop_idle(explicit(contour)).points for contour in given.contours()]
     new = crunch_glyph(write_glyph(Glyph.of_contours(contours)), settings)
     return new if len(read_glyph(new).points) < len(given.points) else None
 

@@ -8,6 +8,7 @@ from typing import Iterable
 from ._contours import Settings, words_of
 from ._entries import SIZE, U8, U16, call
 from ._glyphs import Glyph
+from ._prepared import prepared
 from ._refusal import Refused
 from ._rows import SCRATCH, USUAL_POINT_ROOM, AnyPoint, Point, assembly_room, point_rows, points_in, points_room, row_of
 from ._wrong import bytes_of, listed, room
@@ -61,14 +62,21 @@ def write_glif(data: bytes, contours: Iterable[Iterable[AnyPoint]]) -> bytes:
     return bytes(out[: report.bytes])
 
 
-def crunch_glif(data: bytes, settings: Settings = Settings(), *, point_room: int = USUAL_POINT_ROOM) -> bytes:
+def crunch_glif(
+    data: bytes, settings: Settings = Settings(), *, point_room: int = USUAL_POINT_ROOM, prepare: bool = False
+) -> bytes:
     """Crunches a file, each contour as `crunch` does, and writes the new points into it.
 
     Refused, in this order: as `read_glif`; then by the first contour that is refused, whatever its number; by 16 where the
     penalty is out of range and there is no contour; by 14 where the new points are more than 65,536. The contours share
     point_room, or twice as many places as the file can have points where these are more: 9 where it does not suffice.
+
+    Where prepare is true the file is read, each contour goes through `prepared` in order, what they became is written into
+    the file, and that is crunched: refused as `read_glif`, then by the first contour that is refused there, then as above.
     """
     data = bytes_of(data, _A_FILE)
+    if prepare:
+        data = write_glif(data, [prepared(contour) for contour in read_glif(data)])
     places = _places(data)
     most = max(2 * places, room(point_room))
     out = (U8 * (len(data) + _MOST_TEXT * most))()

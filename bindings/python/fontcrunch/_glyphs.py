@@ -4,12 +4,13 @@ from __future__ import annotations
 
 import dataclasses
 import itertools
-from typing import Iterable, NamedTuple
+from typing import Callable, Iterable, NamedTuple
 
 from ._contours import Settings, words_of
 from ._entries import U8, U16, call
+from ._prepared import prepared
 from ._refusal import Refused
-from ._rows import SCRATCH, USUAL_POINT_ROOM, AnyPoint, assembly_room, point_rows, points_in, points_room, row_of
+from ._rows import SCRATCH, USUAL_POINT_ROOM, AnyPoint, Point, assembly_room, point_rows, points_in, points_room, row_of
 from ._uploads import explicit as made_explicit
 from ._wrong import bytes_of, kind_of, listed
 from ._wrong import room as checked_room
@@ -99,17 +100,22 @@ def write_glyph(glyph: Glyph) -> bytes:
     return bytes(out[: report.bytes])
 
 
-def _written_out(data: bytes) -> bytes:
-    """The description with the implied points of each contour written out."""
+def _with_contours(data: bytes, made_of: Callable[[Iterable[AnyPoint]], list[Point]]) -> bytes:
+    """The description with each contour made another."""
     glyph = read_glyph(data)
-    made = Glyph.of_contours(map(made_explicit, glyph.contours()), glyph.instructions)
+    made = Glyph.of_contours(map(made_of, glyph.contours()), glyph.instructions)
     if len(made.points) > _MOST_POINTS:
         raise Refused(14)
     return write_glyph(made)
 
 
 def crunch_glyph(
-    data: bytes, settings: Settings = Settings(), *, point_room: int = USUAL_POINT_ROOM, explicit: bool = False
+    data: bytes,
+    settings: Settings = Settings(),
+    *,
+    point_room: int = USUAL_POINT_ROOM,
+    explicit: bool = False,
+    prepare: bool = False,
 ) -> bytes:
     """Crunches a description, each contour as `crunch` does, and writes the new one. Instructions stay as they stand, though
     the points that they name are others now.
@@ -122,10 +128,11 @@ def crunch_glyph(
     Glyphs of fonts are often refused by 4 or 5. Where explicit is true, the description is read, each contour goes through
     `explicit` in order, and what they became is written and crunched: refused as `read_glyph`, then by the first contour
     that is refused there, by 21 or 3, then by 14 where the glyph with its implied points cannot be written, then as above.
+    Where prepare is true each contour goes through `prepared` instead, in the same way.
     """
     data = bytes_of(data, _A_DESCRIPTION)
-    if explicit:
-        data = _written_out(data)
+    if explicit or prepare:
+        data = _with_contours(data, prepared if prepare else made_explicit)
     held = _room(data)
     room = held._replace(points=max(held.points, checked_room(point_room)))
     out = (U8 * _most_bytes(room))()

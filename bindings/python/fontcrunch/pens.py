@@ -27,7 +27,7 @@ from __future__ import annotations
 from typing import Any, Iterable, NamedTuple
 
 from ._contours import Settings, crunch, words_of
-from ._idle import without_idle_controls
+from ._idle import drop_idle
 from ._refusal import Refused
 from ._rows import AnyPoint, Point
 from ._uploads import explicit, from_cubics
@@ -86,8 +86,8 @@ def _crunched(drawn: list[_Drawn], settings: Settings, cubics: bool) -> list[Poi
         if "curve" in kinds:
             if not cubics or "qcurve" in kinds:
                 raise _Kept("the contour has cubic curves")
-            return crunch(without_idle_controls(_from_cubics(drawn)), settings).points
-        points = crunch(without_idle_controls(explicit(_rows_of(drawn))), settings).points
+            return crunch(drop_idle(_from_cubics(drawn)).points, settings).points
+        points = crunch(drop_idle(explicit(_rows_of(drawn))).points, settings).points
     except Refused as refused:
         raise _Kept(str(refused)) from None
     if len(points) >= len(drawn):

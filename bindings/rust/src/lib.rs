@@ -59,6 +59,11 @@
 //! A font's contours may start off-curve, and leave out on-curve points midway between two off-curve ones.
 //! [`explicit`] turns such a contour to its first on-curve point and writes these points out.
 //!
+//! # Idle controls
+//!
+//! A control that stands on an end of its curve flattens its run. [`drop_idle`] drops such controls, and lists them.
+//! [`Cruncher::prepared`] writes out implied points, cleans, drops idle controls and then crunches.
+//!
 //! # Glyph descriptions
 //!
 //! [`glyph`] reads and writes OpenType's simple glyph descriptions; [`Cruncher::crunch_glyph`] crunches one, contour
@@ -105,6 +110,8 @@ mod entries;
 mod explicit;
 pub mod glif;
 pub mod glyph;
+mod idle;
+mod prepared;
 mod reasons;
 mod refusal;
 mod rows;
@@ -115,6 +122,8 @@ pub use cruncher::{Chain, Crunched, Cruncher, Piece, Point, Verdict};
 pub use cubics::from_cubics;
 pub use editions::Editions;
 pub use explicit::explicit;
+pub use idle::{drop_idle, Beside, Idle, IdleDrop};
+pub use prepared::prepared;
 pub use reasons::Reasons;
 pub use refusal::Refusal;
 pub use rows::{ANSWER_ROOM, BREAK_ROOM, MOST_PIECES, MOST_POINTS_IN, SAMPLE_ROOM, USUAL_POINT_ROOM};

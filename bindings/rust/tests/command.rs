@@ -1,35 +1,14 @@
 //! The command: lines in and out, messages, exit status, files, pictures.
 
+mod common;
+
 use std::fs;
 use std::io::{BufRead, BufReader, Write};
 use std::path::PathBuf;
-use std::process::{Command, Output, Stdio};
+use std::process::{Command, Stdio};
 use std::thread;
 
-fn command() -> Command {
-    Command::new(env!("CARGO_BIN_EXE_fontcrunch"))
-}
-
-/// Runs the command on an input. What cannot be written to it was not read, which is not told here.
-fn run(words: &[&str], input: &[u8]) -> Output {
-    let mut child = command()
-        .args(words)
-        .stdin(Stdio::piped())
-        .stdout(Stdio::piped())
-        .stderr(Stdio::piped())
-        .spawn()
-        .unwrap();
-    let mut stdin = child.stdin.take().unwrap();
-    let bytes = input.to_vec();
-    let writer = thread::spawn(move || _ = stdin.write_all(&bytes));
-    let output = child.wait_with_output().unwrap();
-    writer.join().unwrap();
-    output
-}
-
-fn text(bytes: &[u8]) -> String {
-    String::from_utf8(bytes.to_vec()).unwrap()
-}
+use common::running::{command, folder, path, run, text};
 
 /// Lines in, lines out, at the penalty of the Rust that this follows.
 fn answers(input: &str) -> Vec<String> {
@@ -42,18 +21,6 @@ fn answers_to(words: &[&str], input: &str) -> Vec<String> {
 
 fn status(words: &[&str], input: &str) -> i32 {
     run(words, input.as_bytes()).status.code().unwrap()
-}
-
-/// A folder for one test, empty at first.
-fn folder(name: &str) -> PathBuf {
-    let folder = PathBuf::from(env!("CARGO_TARGET_TMPDIR")).join(name);
-    let _ = fs::remove_dir_all(&folder);
-    fs::create_dir_all(&folder).unwrap();
-    folder
-}
-
-fn path(folder: &std::path::Path, name: &str) -> String {
-    folder.join(name).to_str().unwrap().to_owned()
 }
 
 /// The letter that comes with the repository.
@@ -190,6 +157,7 @@ fn messages_name_the_input_the_line_and_the_reason() {
     assert_eq!(
         text(&output.stderr),
         "fontcrunch: (standard input):2: refused 4: the first point is off-curve; start with an on-curve one\n\
+         fontcrunch: (standard input):2: point 0 is off-curve; --prepare starts at the first on-curve one\n\
          fontcrunch: (standard input):3: malformed: number 3, 'y', is not a whole number\n"
     );
 }
@@ -203,7 +171,8 @@ fn shell(command: &str) -> String {
 
 #[test]
 fn the_examples_of_each_page_are_so() {
-    for tool in ["crunch", "editions", "why", "chain", "check", "glyph", "glif", "clean", "cubic", "explicit"]
+    for tool in
+        ["crunch", "ufo", "editions", "why", "chain", "check", "glyph", "glif", "clean", "cubic", "explicit"]
     {
         let page = run(&[tool, "--help"], b"");
         assert!(page.status.success());

@@ -1,6 +1,7 @@
 //! What the command line asks for.
 
 mod help;
+mod more;
 mod settings;
 
 use std::ffi::{OsStr, OsString};
@@ -12,6 +13,8 @@ use crate::fallen::Fallen;
 use crate::{chain_line, contour_line, glif, glyph};
 
 pub use help::{help, version};
+use more::MoreChosen;
+pub use more::{FilesJob, More};
 use settings::Chosen;
 
 #[derive(Debug, PartialEq, Eq)]
@@ -20,8 +23,12 @@ pub enum Request {
     Help(Option<Tool>),
     Version,
     Crunch(Job),
-    /// One file of UFO's GLIF, crunched as it stands.
-    File(Settings, PathBuf),
+    /// One file of UFO's GLIF, crunched to standard output.
+    File(Settings, More, PathBuf),
+    /// Files of UFO's GLIF, each crunched to a file.
+    Files(FilesJob),
+    /// A whole UFO.
+    Ufo(FilesJob),
 }
 
 /// What to do with contours, at which settings, what answers tell besides, by how many threads, and where to draw
@@ -31,6 +38,7 @@ pub struct Job {
     pub tool: Tool,
     pub settings: Settings,
     pub fallen: Fallen,
+    pub more: More,
     pub jobs: usize,
     pub inputs: Vec<Input>,
     pub picture: Option<PathBuf>,
@@ -73,6 +81,7 @@ pub enum Tool {
     Glif {
         step: Step,
     },
+    Ufo,
     Editions {
         /// of the second edition; the first has that of the settings
         penalty: u32,
@@ -110,6 +119,7 @@ impl Tool {
             Some("check") => Some(Tool::Check { run: 0 }),
             Some("glyph") => Some(Tool::Glyph { step: Step::Read, explicit: false }),
             Some("glif") => Some(Tool::Glif { step: Step::Read }),
+            Some("ufo") => Some(Tool::Ufo),
             Some("editions") => Some(Tool::Editions { penalty: 0 }),
             _ => None,
         }
@@ -118,7 +128,9 @@ impl Tool {
     /// Whether runs are worked, so that settings mean something.
     fn works_runs(self) -> bool {
         match self {
-            Tool::Crunch | Tool::Chain { .. } | Tool::Check { .. } | Tool::Editions { .. } => true,
+            Tool::Crunch | Tool::Chain { .. } | Tool::Check { .. } | Tool::Editions { .. } | Tool::Ufo => {
+                true
+            }
             Tool::Clean { crunch } | Tool::Cubic { crunch } | Tool::Explicit { crunch } => crunch,
             Tool::Glyph { step, .. } | Tool::Glif { step } => step == Step::Crunch,
             Tool::Why { .. } => false,
@@ -131,6 +143,7 @@ impl Tool {
             Tool::Chain { .. } | Tool::Check { .. } => Some(NEEDS_RUN),
             Tool::Glyph { .. } => Some(NEEDS_STEP),
             Tool::Glif { .. } => Some(NEEDS_GLIF),
+            Tool::Ufo => Some(NEEDS_UFO),
             Tool::Editions { .. } => Some(NEEDS_PENALTIES),
             _ => None,
         }
@@ -156,12 +169,26 @@ pub enum Input {
 /// A request, or what is wrong with the words and where to read on.
 pub fn read(words: impl IntoIterator<Item = OsString>) -> Result<Request, String> {
     let mut words = words.into_iter().peekable();
+    if words.next_if(|word| word == "help").is_some() {
+        return help_for(words);
+    }
     let named = words.peek().and_then(|word| Tool::named(word));
     let page = match named {
         Some(_) => format!(" {}", words.next().unwrap_or_default().to_string_lossy()),
         None => String::new(),
     };
     read_for(named, words).map_err(|wrong| format!("{wrong}; see fontcrunch{page} --help"))
+}
+
+/// What `fontcrunch help` and `fontcrunch help TOOL` ask for.
+fn help_for(mut words: impl Iterator<Item = OsString>) -> Result<Request, String> {
+    let Some(word) = words.next() else {
+        return Ok(Request::Help(None));
+    };
+    match (Tool::named(&word), words.next()) {
+        (Some(tool), None) => Ok(Request::Help(Some(tool))),
+        _ => Err("help is followed by the name of a tool, or by nothing; see fontcrunch --help".to_owned()),
+    }
 }
 
 /// The request of the words after the tool's name.
@@ -190,7 +217,9 @@ const NEEDS_RUN: &str = "chain and check need the number of a run before any fil
 const NEEDS_STEP: &str = "glyph needs read, write or crunch before any file, as in: glyph read";
 
 const NEEDS_GLIF: &str =
-    "glif needs one file of GLIF, or read, write or crunch before any file of lines, as in: glif A.glif, glif read";
+    "glif needs one file of GLIF, or files and -o DIR, or read, write or crunch before any file of lines, as in: glif A.glif, glif read";
+
+const NEEDS_UFO: &str = "ufo needs one folder, and -o OUT or --in-place, as in: ufo IN.ufo -o OUT.ufo";
 
 const EXPLICIT_IS_FOR: &str = "--explicit is an option of glyph crunch";
 
@@ -204,6 +233,7 @@ struct Asked {
     whole_file: bool,
     settings: Chosen,
     fallen: Fallen,
+    more: MoreChosen,
     jobs: Option<u32>,
     inputs: Vec<Input>,
     picture: Option<PathBuf>,
@@ -259,10 +289,13 @@ impl Asked {
         word: &OsStr,
         words: &mut impl Iterator<Item = OsString>,
     ) -> Result<(), String> {
-        if self.take_second(word, words)? || self.settings.take(word, words)? {
+        let taken = self.take_second(word, words)? || self.settings.take(word, words)?;
+        if taken || self.more.take(word, words)? {
             return Ok(());
         }
         match parted(word) {
+            ("-j", value) => self.by_jobs(value.or_else(|| words.next())),
+            (short, None) if joined_jobs(short).is_some() => self.by_jobs(joined_jobs(short)),
             ("--svg", value) => self.draw_to(value.or_else(|| words.next())),
             ("--jobs", value) => self.by_jobs(value.or_else(|| words.next())),
             ("--crunch", None) => self.then_crunch(),
@@ -340,15 +373,52 @@ impl Asked {
         }
     }
 
-    fn request(self) -> Result<Request, String> {
-        let whole_file = self.whole_file;
-        let mut job = self.job()?;
+    fn request(mut self) -> Result<Request, String> {
+        let (tool, whole_file) = (self.tool, self.whole_file);
+        self.more.fit(tool, whole_file)?;
+        if let (Tool::Chain { segments, .. }, true) = (tool, self.more.more().with_contour) {
+            if segments || self.fallen.told {
+                return Err(
+                    "--with-contour gives lines for check, which reads no segments and no fallen".to_owned()
+                );
+            }
+        }
+        let files = tool == Tool::Ufo || whole_file && self.more.writes_files();
+        let more = std::mem::take(&mut self.more);
+        let mut job = Job { more: more.more(), ..self.job()? };
+        if files {
+            return Asked::files(job, more);
+        }
         if !whole_file {
             return Ok(Request::Crunch(job));
         }
         match (job.inputs.pop(), job.inputs.is_empty()) {
-            (Some(Input::File(name)), true) => Ok(Request::File(job.settings, name)),
+            (Some(Input::File(name)), true) => Ok(Request::File(job.settings, job.more, name)),
             _ => Err(NEEDS_GLIF.to_owned()),
+        }
+    }
+
+    /// Of whole files that go to files: either to a folder or in place.
+    fn files(job: Job, more: MoreChosen) -> Result<Request, String> {
+        let needs = if job.tool == Tool::Ufo { NEEDS_UFO } else { NEEDS_GLIF };
+        let path = |input| match input {
+            Input::File(path) => Ok(path),
+            Input::Standard => Err(needs.to_owned()),
+        };
+        let files = FilesJob {
+            recipe: more.recipe(job.settings),
+            quiet: job.more.quiet,
+            jobs: job.jobs,
+            inputs: job.inputs.into_iter().map(path).collect::<Result<_, String>>()?,
+            out: more.out,
+            report: more.report,
+        };
+        match (job.tool, files.out.is_some(), more.in_place) {
+            (_, true, true) => Err("-o and --in-place exclude each other".to_owned()),
+            (_, false, false) => Err(needs.to_owned()),
+            (Tool::Ufo, ..) if files.inputs.len() != 1 => Err(needs.to_owned()),
+            (Tool::Ufo, ..) => Ok(Request::Ufo(files)),
+            _ => Ok(Request::Files(files)),
         }
     }
 
@@ -370,7 +440,7 @@ impl Asked {
         let settings = self.settings.with_usual(usual);
         let jobs = self.jobs.unwrap_or(1) as usize;
         let Asked { tool, fallen, inputs, picture, .. } = self;
-        Ok(Job { tool, settings, fallen, jobs, inputs, picture })
+        Ok(Job { tool, settings, fallen, more: More::default(), jobs, inputs, picture })
     }
 }
 
@@ -385,6 +455,11 @@ pub fn parted(word: &OsStr) -> (&str, Option<OsString>) {
 
 pub fn no_option(word: &OsStr) -> String {
     format!("there is no option {}", word.to_string_lossy())
+}
+
+/// The number in `-j4`.
+fn joined_jobs(word: &str) -> Option<OsString> {
+    word.strip_prefix("-j").filter(|rest| rest.starts_with(|c: char| c.is_ascii_digit())).map(OsString::from)
 }
 
 fn once<T>(name: &str, place: &mut Option<T>, value: T) -> Result<(), String> {

@@ -1,23 +1,39 @@
 //! The command fontcrunch: contours in, one a line; a line out for each. `fontcrunch --help` tells all.
 
 mod arguments;
+mod beside;
 mod chain_line;
 mod chains;
 mod cleaning;
 mod contour_line;
+mod cubic_glif;
 mod cubics;
+mod drawing;
 mod editions;
 mod explicit;
 mod fallen;
 mod glif;
 mod glyph;
 mod inputs;
+mod interrupt;
 mod jobs;
+mod journal;
+mod kinds;
+mod look;
+mod notes;
+mod odd_bytes;
 mod outlet;
 mod picture;
+mod plist;
 mod reasons;
+mod recipe;
+mod report;
 mod service;
+mod sha256;
 mod stream;
+mod summary;
+mod ufo;
+mod whole;
 mod worker;
 
 use std::env;
@@ -32,7 +48,9 @@ fn main() -> ExitCode {
         Ok(Request::Help(tool)) => print(&arguments::help(tool)),
         Ok(Request::Version) => print(&arguments::version()),
         Ok(Request::Crunch(job)) => service::run(&job),
-        Ok(Request::File(settings, name)) => glif::crunch_file(settings, &name),
+        Ok(Request::File(settings, more, name)) => glif::crunch_file(settings, more, &name),
+        Ok(Request::Files(job)) => ufo::run_files(&job),
+        Ok(Request::Ufo(job)) => ufo::run(&job),
         Err(wrong) => {
             service::complain(&wrong);
             Status::Wrong

@@ -5,32 +5,32 @@ use std::path::Path;
 
 use fontcrunch::Settings;
 
+use crate::drawing::Drawing;
 use crate::inputs::Source;
-use crate::picture::{Picture, Sketch};
+use crate::picture::Sketch;
 use crate::service::{complain, Status};
 use crate::worker::Answer;
 
 pub struct Outlet<W> {
     answers: W,
     drawing: Option<Drawing>,
+    /// Where the picture goes to standard output, answers do not.
+    answers_shown: bool,
     status: Status,
-}
-
-struct Drawing {
-    name: String,
-    picture: Picture,
 }
 
 impl<W: Write> Outlet<W> {
     pub fn new(answers: W) -> Outlet<W> {
-        Outlet { answers, drawing: None, status: Status::AllCrunched }
+        Outlet { answers, drawing: None, answers_shown: true, status: Status::AllCrunched }
     }
 
     pub fn start_drawing(&mut self, path: &Path, settings: Settings) {
-        let name = path.to_string_lossy().into_owned();
-        match Picture::create(path, settings) {
-            Ok(picture) => self.drawing = Some(Drawing { name, picture }),
-            Err(error) => self.wrong(&format!("{name}: {error}")),
+        match Drawing::start(path, settings) {
+            Ok(drawing) => {
+                self.answers_shown = !drawing.to_standard_output();
+                self.drawing = Some(drawing);
+            }
+            Err(message) => self.wrong(&message),
         }
     }
 
@@ -39,12 +39,17 @@ impl<W: Write> Outlet<W> {
             self.draw(source, sketch);
         }
         self.status = self.status.max(answer.status);
-        if let Some(message) = &answer.message {
+        if !answer.messages.is_empty() {
             // where both go to one file, lines stand in their order, whoever answered them
             self.flush()?;
+        }
+        for message in &answer.messages {
             complain(&format!("{}:{}: {message}", source.name, source.line));
         }
-        writeln!(self.answers, "{}", answer.text)
+        match answer.text.filter(|_| self.answers_shown) {
+            Some(text) => writeln!(self.answers, "{text}"),
+            None => Ok(()),
+        }
     }
 
     /// What was answered goes out.
@@ -54,6 +59,10 @@ impl<W: Write> Outlet<W> {
 
     pub fn wrong(&mut self, message: &str) {
         self.status = Status::Wrong;
+        self.note(message);
+    }
+
+    pub fn note(&mut self, message: &str) {
         // a failure is met again when the next answer is written
         let _ = self.flush();
         complain(message);
@@ -73,8 +82,7 @@ impl<W: Write> Outlet<W> {
             return;
         };
         let title = format!("{}, line {}", source.name, source.line);
-        if let Err(error) = drawing.picture.add(&title, sketch) {
-            let message = format!("{}: {error}", drawing.name);
+        if let Err(message) = drawing.add(&title, sketch) {
             self.drawing = None;
             self.wrong(&message);
         }
@@ -82,9 +90,11 @@ impl<W: Write> Outlet<W> {
 
     /// The picture is ended; the worst that was met.
     pub fn finish(mut self) -> Status {
-        if let Some(drawing) = self.drawing.take() {
-            if let Err(error) = drawing.picture.finish() {
-                self.wrong(&format!("{}: {error}", drawing.name));
+        if let Some(Err(message)) = self.drawing.take().map(|drawing| drawing.finish()) {
+            self.status = Status::Wrong;
+            // one that nobody reads any more needs no message
+            if !message.is_empty() {
+                self.wrong(&message);
             }
         }
         self.status

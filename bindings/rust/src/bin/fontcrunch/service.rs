@@ -59,6 +59,11 @@ impl<W: Write> Lane for Desk<W> {
         Ok(())
     }
 
+    fn note(&mut self, message: String) -> io::Result<()> {
+        self.outlet.note(&message);
+        Ok(())
+    }
+
     fn flush(&mut self) -> io::Result<()> {
         self.outlet.flush()
     }

@@ -1,4 +1,5 @@
 use super::*;
+use crate::recipe::Recipe;
 
 fn asked(words: &[&str]) -> Result<Request, String> {
     read(words.iter().map(OsString::from))
@@ -219,7 +220,7 @@ fn lines_of_files_or_one_file() {
     let settings = Settings::default().with_penalty(20).with_closed(true);
     for words in [["a.glif", "--closed", "--penalty=20"], ["--closed", "a.glif", "--penalty=20"]] {
         let asked = read([&["glif"][..], &words].concat().into_iter().map(Into::into));
-        assert_eq!(asked, Ok(Request::File(settings, "a.glif".into())));
+        assert_eq!(asked, Ok(Request::File(settings, More::default(), "a.glif".into())));
     }
     for words in
         [&["glif"][..], &["glif", "a", "b"], &["glif", "a", "-"], &["glif", "-"], &["glif", "--closed"]]
@@ -250,8 +251,8 @@ fn wrong_words() {
     assert!(fault(&["-x"]).contains("no option -x"));
 }
 
-const TOOLS: [&str; 10] =
-    ["crunch", "editions", "why", "chain", "check", "glyph", "glif", "clean", "cubic", "explicit"];
+const TOOLS: [&str; 11] =
+    ["crunch", "ufo", "editions", "why", "chain", "check", "glyph", "glif", "clean", "cubic", "explicit"];
 
 #[test]
 fn each_tool_has_a_page() {
@@ -288,4 +289,102 @@ fn help_tells_every_refusal_that_can_be_met() {
     }
     assert!(help(Tool::named("why".as_ref())).contains("refused 11: "));
     assert!(!help(Tool::named("why".as_ref())).contains("refused 16: "));
+}
+
+fn files(words: &[&str]) -> FilesJob {
+    match asked(words) {
+        Ok(Request::Files(job) | Request::Ufo(job)) => job,
+        other => panic!("{words:?}: {other:?}"),
+    }
+}
+
+#[test]
+fn help_is_a_word_too() {
+    assert_eq!(asked(&["help"]), Ok(Request::Help(None)));
+    assert_eq!(asked(&["help", "ufo"]), Ok(Request::Help(Some(Tool::Ufo))));
+    for words in [&["help", "x"][..], &["help", "why", "chain"]] {
+        assert!(fault(words).contains("help is followed by the name of a tool"), "{words:?}");
+    }
+    assert_eq!(job(&["./help"]).inputs, [file("./help")]);
+}
+
+#[test]
+fn whole_files_are_closed_prepared_and_kept_unless_fewer() {
+    let closed = Settings { closed: true, ..Settings::default() };
+    let usual = Recipe { settings: closed, prepare: true, keep: true, cubic: false };
+    let ufo = files(&["ufo", "a.ufo", "-o", "b.ufo"]);
+    assert_eq!(
+        ufo,
+        FilesJob {
+            recipe: usual,
+            quiet: false,
+            jobs: 1,
+            inputs: vec!["a.ufo".into()],
+            out: Some("b.ufo".into()),
+            report: None
+        }
+    );
+    assert_eq!(files(&["ufo", "--output=b.ufo", "a.ufo"]), ufo);
+    let two = files(&["glif", "a", "-o", "d", "b", "-j4", "--report", "r", "--cubic", "-q", "--penalty=20"]);
+    assert_eq!(
+        (two.inputs, two.out, two.report),
+        (vec!["a".into(), "b".into()], Some("d".into()), Some("r".into()))
+    );
+    assert_eq!((two.jobs, two.quiet, two.recipe.cubic, two.recipe.settings.penalty), (4, true, true, 20));
+    let words = ["ufo", "a.ufo", "--in-place", "--no-closed", "--no-prepare", "--no-keep-unless-fewer"];
+    let without = files(&words);
+    let plain = Recipe { settings: Settings::default(), prepare: false, keep: false, cubic: false };
+    assert_eq!((without.recipe, without.out), (plain, None));
+    for words in [
+        &["ufo"][..],
+        &["ufo", "a"],
+        &["ufo", "-o", "b"],
+        &["ufo", "a", "b", "-o", "c"],
+        &["ufo", "-", "-o", "c"],
+        &["glif", "a", "-", "-o", "c"],
+    ] {
+        assert!(fault(words).contains(" needs one "), "{words:?}");
+    }
+    assert!(fault(&["ufo", "a", "-o", "b", "--in-place"]).contains("exclude each other"));
+    assert!(fault(&["ufo", "a", "-o", "b", "-o", "c"]).contains("-o is given twice"));
+    assert!(fault(&["ufo", "a", "-o"]).contains("-o needs a folder"));
+    assert!(fault(&["ufo", "a", "-o", "b", "--report="]).contains("--report needs a file"));
+}
+
+#[test]
+fn options_are_for_tools_that_they_change() {
+    for (words, told) in [
+        (&["why", "--prepare"][..], "--prepare is an option for crunching"),
+        (&["chain", "0", "--prepare"], "--prepare is an option for crunching"),
+        (&["clean", "--prepare"], "--prepare is an option for crunching"),
+        (&["--keep-unless-fewer"], "--keep-unless-fewer is an option of glyph crunch, glif and ufo"),
+        (&["glyph", "read", "--keep-unless-fewer"], "--keep-unless-fewer is an option of"),
+        (&["glyph", "crunch", "--cubic"], "--cubic is an option of glif and ufo"),
+        (&["--words"], "--words is an option of why"),
+        (&["check", "0", "--with-contour"], "--with-contour is an option of chain"),
+        (&["chain", "0", "--with-contour", "--segments"], "reads no segments and no fallen"),
+        (&["chain", "0", "--with-contour", "--fallen"], "reads no segments and no fallen"),
+        (&["-o", "b"], "-o is an option of ufo, and of glif with files"),
+        (&["glif", "read", "--in-place"], "--in-place is an option of ufo, and of glif with files"),
+        (&["glif", "a", "--report", "r"], "--report is an option of ufo"),
+        (&["--no-closed"], "--no-closed is an option of ufo"),
+        (&["glif", "a", "--no-prepare"], "--no-prepare is an option of ufo"),
+    ] {
+        assert!(fault(words).contains(told), "{words:?}: {}", fault(words));
+    }
+    for words in [
+        &["--prepare"][..],
+        &["editions", "--penalty=1", "--penalty=2", "--prepare"],
+        &["cubic", "--crunch", "--prepare"],
+        &["explicit", "--crunch", "--prepare"],
+        &["clean", "--crunch", "--prepare"],
+        &["glyph", "crunch", "--prepare"],
+        &["glif", "crunch", "--prepare"],
+    ] {
+        assert!(job(words).more.prepare, "{words:?}");
+    }
+    assert!(job(&["why", "-q"]).more.quiet);
+    assert_eq!(job(&["-j", "3"]).jobs, 3);
+    assert!(fault(&["-j"]).contains("1 to 256"));
+    assert!(fault(&["-jx"]).contains("no option -jx"));
 }

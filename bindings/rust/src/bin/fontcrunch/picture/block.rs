@@ -42,7 +42,7 @@ struct Panel {
 }
 
 pub fn drawn(subject: &Subject, top: f64) -> Block {
-    let Sketch { before, result, reading } = subject.sketch;
+    let Sketch { before, result, reading, .. } = subject.sketch;
     let after = result.as_ref().map_or(&[][..], |crunched| &crunched.points);
     let extent = Extent::of(before.iter().chain(after).map(|&point| Place::from(point)));
     let scale = fitting(&extent, PANEL - 2.0 * INSET, TALLEST);
@@ -103,7 +103,7 @@ fn outcome(subject: &Subject) -> String {
             let pairs = svg::counted(crunched.pairs, "pair");
             let change = match subject.sketch.reading.unchanged() {
                 Some(cause) => format!("unchanged: {cause}"),
-                None => saving(subject.sketch.before.len(), crunched.points.len()),
+                None => saving(subject.sketch, crunched.points.len()),
             };
             format!("{change}, {pairs} tried{}", falls(crunched.fallen))
         }
@@ -118,9 +118,13 @@ fn falls(number: usize) -> String {
     }
 }
 
-fn saving(before: usize, after: usize) -> String {
+/// Where a stretch is not written, points are not saved but gone with it, and no per cent are told.
+fn saving(sketch: &Sketch, after: usize) -> String {
+    let (before, lost) = (sketch.stood, sketch.reading.lost.len());
     let change = format!("{} \u{2192} {}", svg::grouped(before), svg::counted(after, "point"));
-    if after < before {
+    if lost > 0 {
+        format!("{change}, {} not written", svg::counted(lost, "segment"))
+    } else if after < before {
         let percent = (100 * (before - after) + before / 2) / before;
         format!("{change} (\u{2212}{percent} %)")
     } else {

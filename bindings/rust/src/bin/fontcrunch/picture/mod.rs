@@ -4,9 +4,9 @@
 mod block;
 mod grid;
 mod legend;
-mod outline;
-mod reading;
-mod svg;
+pub mod outline;
+pub mod reading;
+pub mod svg;
 mod view;
 
 use std::fs::File;
@@ -25,14 +25,21 @@ const MARGIN: f64 = 30.0;
 /// What is drawn of a contour: its points, what came of them, and what else is to be told.
 pub struct Sketch {
     before: Vec<Point>,
+    /// How many points stand in the file, which are others than `before` where the contour was prepared.
+    stood: usize,
     result: Result<Crunched, Refusal>,
     reading: Reading,
 }
 
 impl Sketch {
-    pub fn of(cruncher: &mut Cruncher, before: &[Point], result: Result<Crunched, Refusal>) -> Sketch {
+    pub fn of(
+        cruncher: &mut Cruncher,
+        before: &[Point],
+        stood: usize,
+        result: Result<Crunched, Refusal>,
+    ) -> Sketch {
         let reading = Reading::of(cruncher, before, &result);
-        Sketch { before: before.to_vec(), result, reading }
+        Sketch { before: before.to_vec(), stood, result, reading }
     }
 }
 
