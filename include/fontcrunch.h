@@ -250,7 +250,7 @@ typedef struct WhyReport {
  *
  * In the crate's mode the points come out in reverse order. In closed mode they come out in order, from the first
  * corner on; this start is not written again at the end, but stands for the end of the last piece, wherever that
- * break was rounded to. It is dropped itself where it is implied.
+ * break was rounded to. It stays, also where it is implied, so that what comes out starts on-curve.
  *
  * A run for which no chain is found leaves the whole contour unchanged: then its own points come out, in the
  * crate's mode reversed and with the start at both ends, in closed mode as they stand. That is no refusal.
