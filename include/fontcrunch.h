@@ -43,7 +43,9 @@
  * FONTCRUNCH_CRATE_PENALTY is that of the Rust that this follows, whose points come out at it.
  *
  * `whole_units` is 0 where breaks are rounded to half units, as the Rust rounds them. Any other number has them
- * rounded to whole units, for engines that misdraw implied points on half ones.
+ * rounded to whole units, for engines that misdraw implied points on half ones. It serves these together with
+ * `closed`, and only then: in closed mode no implied point lies on a half unit, while the crate's mode drops points
+ * that are no exact midpoints, on whole units too.
  *
  * `closed` is 0 for the crate's mode, that of the Rust, and any other number for closed mode, in which nothing is
  * lost: what lies before the first corner and after the last is a run too.
