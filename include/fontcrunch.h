@@ -49,7 +49,9 @@
  * FONTCRUNCH_CRATE_PENALTY is that of the Rust that this follows, whose points come out at it.
  *
  * `whole_units` is 0 where breaks are rounded to half units, as the Rust rounds them. Any other number has them
- * rounded to whole units, for engines that misdraw implied points on half ones.
+ * rounded to whole units, for engines that misdraw implied points on half ones. It serves these together with
+ * `closed`, and only then: in closed mode no implied point lies on a half unit, while the crate's mode drops points
+ * that are no exact midpoints, on whole units too.
  *
  * `closed` is 0 for the crate's mode, that of the Rust, and any other number for closed mode, in which nothing is
  * lost: what lies before the first corner and after the last is a run too.
@@ -300,8 +302,8 @@ typedef struct fontcrunch_why_report {
  * the sum of theirs, as OpenType has it. In the crate's mode the sum is cut to 16 bits and then halved toward 0.
  *
  * In the crate's mode the points come out in reverse order. In closed mode they come out in order, from the first
- * corner on. This start always stays. It is not written again at the end, but stands for the end of the last piece,
- * wherever that break was rounded to.
+ * corner on. This start always stays, also where it is implied, so that what comes out starts on-curve. It is not
+ * written again at the end, but stands for the end of the last piece, wherever that break was rounded to.
  *
  * A run for which no chain is found leaves the whole contour unchanged: then its own points come out, in the
  * crate's mode reversed and with the start at both ends, in closed mode as they stand. That is no refusal.

@@ -102,7 +102,8 @@ SETTINGS       --penalty N, --whole-units, --closed; without them 32, half units
                the crate's mode, in which what lies outside the corners is lost
 --penalty N    what each piece adds to a score, in sixteenths, 1 to 256. A larger one
                asks for fewer pieces; 16 is that of the Rust which this follows
---whole-units  rounds breaks to whole units, not to half ones
+--whole-units  rounds breaks to whole units, not to half ones, for engines that misdraw
+               implied points on half ones; it serves them with --closed, and only then
 --closed       a last run goes round from the last corner to the first, points come
                out in order from the first corner on, and nothing is lost
 ";
