@@ -16,7 +16,8 @@ use lib.Ieee.Casts.{toUnsigned-lt}
 use lib.Ieee.Order.{round-mono}
 use Rattle.float.specs.Numbers.{nought, two}
 use Rattle.float.proofs.Nearly.{at-most}
-use Rattle.float.proofs.NotNegative.{NotNegative, number, mul-plus, rounded-plus}
+use Rattle.float.proofs.NotNegative.{NotNegative, number, mul-plus, div-plus, rounded-plus}
+use Rattle.float.proofs.NotNegative as NotNegative
 use Rattle.geometry.specs.declared.Break.{Break}
 use Rattle.geometry.specs.declared.Quad.{Quad}
 use Rattle.outline.specs.Segments.{startOf}
@@ -36,7 +37,7 @@ use Rattle.survey.specs.Along.{LengthsRise}
 use Rattle.survey.proofs.Bounded.{Within, mul-within}
 use Rattle.survey.proofs.Inside.{int-value, int-within}
 use Rattle.survey.proofs.Reach.{Reached, run-reaches}
-use Rattle.survey.proofs.Speeds.{Size, length-size}
+use Rattle.survey.proofs.Speeds.{Size, endless, length-size}
 use Rattle.survey.proofs.Speeds as Speeds
 
 -- ---- breaks with the lengths of places: f k is the length at place k
@@ -240,48 +241,68 @@ length-is room qs row len e = by (filled room (lastStep (lastOf nowhere qs) y) (
     by Samples.full h = let q : _≡_ {A = ℕ} 0 1 = cc in absurd (omega arith)
     by (Samples.at r ix step) h = cc
 
--- a length that is no NaN, not negative and bounded
-upward : {y : Float} → Size y → (k : ℕ) → k ≤ 2 ^ 22 → Within k y → (n i j : ℕ) → i < j → j ≤ n → n < 2 ^ 31 → T (le (lengthAt y n i) (lengthAt y n j))
-upward (Speeds.number m d) k small w = lengths-rise m d k small w
+-- a row of breaks at the places of a run, whose length is no NaN, not negative and bounded
+pub record Lies (row : Row) : Type 0 where
+  len : Float
+  size : Size len
+  most : ℕ
+  small : most ≤ 2 ^ 22
+  within : Within most len
+  along : Along (lengthAt len (placesOf len)) 0 (suc (placesOf len)) row
 
-found-rise : (len : Float) {g : Finding} (row : Row) → ((i j : ℕ) → i < j → j ≤ placesOf len → T (le (lengthAt len (placesOf len) i) (lengthAt len (placesOf len) j))) →
-    Walked (lengthAt len (placesOf len)) (suc (placesOf len)) g → runBreaksOf g ≡ breaks row →
-    (i j : ℕ) → i < j → j < length row → T (le (breakAt row i .s) (breakAt row j .s))
-found-rise len row up (rows r a) e =
+found-lies : (len : Float) → Size len → (k : ℕ) → k ≤ 2 ^ 22 → Within k len → {g : Finding} (row : Row) →
+    Walked (lengthAt len (placesOf len)) (suc (placesOf len)) g → runBreaksOf g ≡ breaks row → Lies row
+found-lies len size k small w row (rows r a) e =
     let same : r ≡ row = cc in
-    subst (λ (l : Row). (i j : ℕ) → i < j → j < length l → T (le (breakAt l i .s) (breakAt l j .s))) same
-    (rises (lengthAt len (placesOf len)) (λ j k h below. up j k h (omega arith)) a)
-found-rise len row up is-full e = absurd (let q : _≡_ {A = ℕ} 0 1 = cc in omega arith)
-found-rise len row up is-last e = absurd (let q : _≡_ {A = ℕ} 0 1 = cc in omega arith)
-found-rise len row up is-past e = absurd (let q : _≡_ {A = ℕ} 0 1 = cc in omega arith)
+    subst Lies same (record { len = len; size = size; most = k; small = small; within = w; along = a })
+found-lies len size k small w row is-full e = absurd (let q : _≡_ {A = ℕ} 0 1 = cc in omega arith)
+found-lies len size k small w row is-last e = absurd (let q : _≡_ {A = ℕ} 0 1 = cc in omega arith)
+found-lies len size k small w row is-past e = absurd (let q : _≡_ {A = ℕ} 0 1 = cc in omega arith)
 
 module _ (sampleRow breakRow : ℕ) (xs ys : List ℤ) (fs : List ℕ) (first count : ℕ) (g : Grid) (samples : List Sample) (row : Row) (sx : Sixteen xs)
     (sy : Sixteen ys) where
   abbrev quads : List Quad
   quads = quadsOf xs ys fs first count
 
-  searched-rise : (len : Float) (drawn : List Sample) → thetasOf (sampleRoom sampleRow) quads ≡ Samples.sampled drawn len → (r : RunBreaks) →
-      breaksOf (breakRoom breakRow) drawn g len ≡ r → searched drawn r ≡ surveyed samples row →
-      (i j : ℕ) → i < j → j < length row → T (le (breakAt row i .s) (breakAt row j .s))
+  searched-lies : (len : Float) (drawn : List Sample) → thetasOf (sampleRoom sampleRow) quads ≡ Samples.sampled drawn len → (r : RunBreaks) →
+      breaksOf (breakRoom breakRow) drawn g len ≡ r → searched drawn r ≡ surveyed samples row → Lies row
   unfolding breaksOf
-  searched-rise len drawn e (breaks rs) is h =
+  searched-lies len drawn e (breaks rs) is h =
       let same : rs ≡ row = cc in
       let size = length-size xs ys sx sy fs (startOf fs first) count in
       let reach = run-reaches (sampleRoom sampleRow) (omega arith) quads drawn len size e in
-      let z : Size len = subst Size (length-is (sampleRoom sampleRow) quads drawn len e) size in
-      found-rise len row
-      (λ i j l below. upward z (reach .1 .size) (omega (arith, reach .0, reach .1 .more)) (reach .1 .is) (placesOf len) i j l below (toUnsigned-lt 31 _))
-      (walked (lengthAt len (placesOf len)) (suc (placesOf len)) (breakRoom breakRow) (placeOf drawn g len) (place-has drawn g len))
+      found-lies len (subst Size (length-is (sampleRoom sampleRow) quads drawn len e) size) (reach .1 .size) (omega (arith, reach .0, reach .1 .more))
+      (reach .1 .is) row (walked (lengthAt len (placesOf len)) (suc (placesOf len)) (breakRoom breakRow) (placeOf drawn g len) (place-has drawn g len))
       (is ∙ ap breaks same)
-  searched-rise len drawn e (Breaks.refused k) is h = absurd (let q : _≡_ {A = ℕ} 0 1 = cc in omega arith)
-  searched-rise len drawn e Breaks.unchanged is h = absurd (let q : _≡_ {A = ℕ} 0 1 = cc in omega arith)
+  searched-lies len drawn e (Breaks.refused k) is h = absurd (let q : _≡_ {A = ℕ} 0 1 = cc in omega arith)
+  searched-lies len drawn e Breaks.unchanged is h = absurd (let q : _≡_ {A = ℕ} 0 1 = cc in omega arith)
 
-  sampled-rise : (r : Run) → thetasOf (sampleRoom sampleRow) quads ≡ r → afterSampling (breakRoom breakRow) g r ≡ surveyed samples row →
-      (i j : ℕ) → i < j → j < length row → T (le (breakAt row i .s) (breakAt row j .s))
-  sampled-rise Samples.refused e h = absurd (let q : _≡_ {A = ℕ} 0 1 = cc in omega arith)
-  sampled-rise (Samples.sampled drawn len) e h = searched-rise len drawn e (breaksOf (breakRoom breakRow) drawn g len) refl h
+  sampled-lies : (r : Run) → thetasOf (sampleRoom sampleRow) quads ≡ r → afterSampling (breakRoom breakRow) g r ≡ surveyed samples row → Lies row
+  sampled-lies Samples.refused e h = absurd (let q : _≡_ {A = ℕ} 0 1 = cc in omega arith)
+  sampled-lies (Samples.sampled drawn len) e h = searched-lies len drawn e (breaksOf (breakRoom breakRow) drawn g len) refl h
+
+  pub lies : surveyOf sampleRow breakRow xs ys fs first count g ≡ surveyed samples row → Lies row
+  unfolding surveyOf
+  lies h = sampled-lies (thetasOf (sampleRoom sampleRow) (quadsOf xs ys fs first count)) refl h
+
+-- ---- what follows of their lengths
+
+upward : {y : Float} → Size y → (k : ℕ) → k ≤ 2 ^ 22 → Within k y → (n i j : ℕ) → i < j → j ≤ n → n < 2 ^ 31 → T (le (lengthAt y n i) (lengthAt y n j))
+upward (Speeds.number m d) k small w = lengths-rise m d k small w
 
 pub lengths-rising : LengthsRise
-unfolding surveyOf
 lengths-rising sampleRow breakRow xs ys fs first count g samples row sx sy h =
-    sampled-rise sampleRow breakRow xs ys fs first count g samples row sx sy (thetasOf (sampleRoom sampleRow) (quadsOf xs ys fs first count)) refl h
+    let l = lies sampleRow breakRow xs ys fs first count g samples row sx sy h in
+    let n = placesOf (l .len) in
+    rises (lengthAt (l .len) n) (λ j k p below. upward (l .size) (l .most) (l .small) (l .within) n j k p (omega arith) (toUnsigned-lt 31 _)) (l .along)
+
+-- none is negative
+length-plus : {y : Float} → Size y → (n i : ℕ) → NotNegative (lengthAt y n i)
+unfolding ofInt
+length-plus endless n i = div-plus (mul-plus NotNegative.endless (rounded-plus i 1)) (rounded-plus n 1)
+length-plus (Speeds.number m e) n i = div-plus (mul-plus (number m e) (rounded-plus i 1)) (rounded-plus n 1)
+
+pub lengths-plus : {row : Row} → Lies row → (i : ℕ) → i < length row → NotNegative (breakAt row i .s)
+lengths-plus l i h =
+    let a = at (lengthAt (l .len) (placesOf (l .len))) (l .along) i h in
+    subst NotNegative (sym (a .is)) (length-plus (l .size) (placesOf (l .len)) (a .place))
