@@ -74,7 +74,7 @@ unfolding numberedRun runsOf stopsOf cornerList
 run-has-segments closed xs ys fs k first count e =
     let corners = marksFrom (cornersOf xs ys fs 1024) 0 in
     let up : Up 0 (countOf fs) corners =
-        marks-up (countOf fs) (cornersOf xs ys fs 1024) 0 0 (omega arith) (omega arith) (λ j p. no-corner-past xs ys fs 1024 j (omega arith)) in
+    marks-up (countOf fs) (cornersOf xs ys fs 1024) 0 0 (omega arith) (omega arith) (λ j p. no-corner-past xs ys fs 1024 j (omega arith)) in
     let stops = stopsIn closed (countOf fs) corners in
     let found = run-up stops k first count (stops-up closed (countOf fs) corners up) (not-copied (isCopied xs ys fs (runAt (between stops) k)) e) in
     (found .0, omega (arith, found .1))

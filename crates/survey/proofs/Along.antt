@@ -223,7 +223,7 @@ module _ (m : ℕ) (e : ℤ) (k : ℕ) (small : k ≤ 2 ^ 22) (w : Within k (fin
       let many : n ≤ 2 ^ 31 = omega arith in
       let most : k * n ≤ 2 ^ 22 * 2 ^ 31 = mul-le-mul small many in
       let held : (a : ℕ) → a ≤ n → Within (k * n) (mul binary64 (fin false m e) (ofInt binary64 (pos a))) =
-          λ a below. mul-within w (int-within a n below few) (omega (arith, most)) in
+      λ a below. mul-within w (int-within a n below few) (omega (arith, most)) in
       div-rises (ofInt binary64 (pos n)) n (part i) (part j) (held i (omega arith)) (held j l)
       (mul-rises m e _ _ i j (int-value i (omega arith)) (int-value j (omega arith)) (omega arith)) (int-value n (omega arith)) (omega arith)
 
