@@ -3,3 +3,4 @@ mod Spans
 mod Steps
 pub mod Good
 pub mod Own
+pub mod Replaced

@@ -6,3 +6,4 @@ pub mod Entry
 pub mod Steps
 pub mod Good
 pub mod Own
+pub mod Replaced

@@ -6,3 +6,4 @@ pub mod Reach
 pub mod Inside
 pub mod Many
 pub mod Never
+pub mod Along
