@@ -50,10 +50,10 @@ impl Recipe {
 
     /// The file crunched by a cruncher of these settings, as it stands after.
     pub fn follow(self, cruncher: &mut Cruncher, bytes: &[u8]) -> Became {
-        let before = look::points_in(bytes).unwrap_or(0);
+        let before = stand_in(bytes);
         match self.crunched(cruncher, bytes) {
             Ok(made) => {
-                let points = Points { before, after: look::points_in(&made).unwrap_or(0) };
+                let points = Points { before, after: stand_in(&made) };
                 if self.keep && points.after >= points.before {
                     Became::Kept { points }
                 } else {
@@ -102,4 +102,11 @@ impl Recipe {
         });
         told.collect()
     }
+}
+
+/// The points of a file as they stand in it. Where the second reader does not read what the proved one reads, those that enter
+/// are counted.
+fn stand_in(bytes: &[u8]) -> usize {
+    let enter = || glif::read(bytes).map_or(0, |contours| contours.iter().map(Vec::len).sum());
+    look::points_in(bytes).unwrap_or_else(enter)
 }

@@ -123,7 +123,7 @@ fn refusals(items: &[Item], outcomes: &Outcomes) -> String {
     for (item, outcome) in items.iter().zip(&outcomes.each) {
         if let Some(Fate::Refused { number, words, .. }) = outcome.as_ref().map(|outcome| &outcome.fate) {
             let colon = if words.is_empty() { "" } else { ": " };
-            by_number.entry(*number).or_default().push(format!("  {}{colon}{words}\n", item.name));
+            by_number.entry(*number).or_default().push(format!("  {}{colon}{words}\n", plain(&item.name)));
         }
     }
     by_number
@@ -133,4 +133,10 @@ fn refusals(items: &[Item], outcomes: &Outcomes) -> String {
             format!("{reason} ({})\n{}", grouped(lines.len()), lines.concat())
         })
         .collect()
+}
+
+/// A name for a line: what would end the line, or move about on a screen, is escaped.
+fn plain(name: &str) -> String {
+    let each = |c: char| if c.is_control() { c.escape_unicode().to_string() } else { c.to_string() };
+    name.chars().map(each).collect()
 }

@@ -127,8 +127,9 @@ fn glyphs(layer: &Path, tree: &Tree, plan: &mut Plan) -> Result<Vec<(String, Pat
         let plain =
             matches!((parts.next(), parts.next()), (Some(Component::Normal(part)), None) if part == file);
         if !plain {
+            let (name, file) = (name.escape_debug(), file.display().to_string());
             let message =
-                format!("{}: glyph {name}: '{}' is no name of a file", list.display(), file.display());
+                format!("{}: glyph {name}: '{}' is no name of a file", list.display(), file.escape_debug());
             plan.wrong.push(message);
         } else if seen.insert(file.clone()) {
             glyphs.push((name, file));

@@ -2,7 +2,7 @@
 
 use std::ops::Range;
 
-use super::xml::{Fault, Kind, Scanner, Token};
+use super::xml::{word, Fault, Kind, Scanner, Token};
 
 #[derive(Clone, Copy, Debug, PartialEq, Eq)]
 pub enum PointKind {
@@ -114,7 +114,7 @@ impl Reader {
         let wrong = |what: String| Err(Fault { at, what });
         match (self.open.last(), name) {
             (None, "glyph") => Ok(Place::Root),
-            (None, _) => wrong(format!("the root element is {name}, not glyph")),
+            (None, _) => wrong(format!("the root element is {}, not glyph", word(name))),
             (Some(Place::Root), "outline") if self.has_outline => wrong("a second outline".to_owned()),
             (Some(Place::Root), "outline") => {
                 self.has_outline = true;
@@ -122,8 +122,8 @@ impl Reader {
             }
             (Some(Place::Outline), "contour") => Ok(Place::Contour),
             (Some(Place::Contour), "point") => Ok(Place::Point),
-            (Some(Place::Contour), _) => wrong(format!("an element {name} stands in a contour")),
-            (Some(Place::Point), _) => wrong(format!("an element {name} stands in a point")),
+            (Some(Place::Contour), _) => wrong(format!("an element {} stands in a contour", word(name))),
+            (Some(Place::Point), _) => wrong(format!("an element {} stands in a point", word(name))),
             _ => Ok(Place::Other),
         }
     }
@@ -142,7 +142,7 @@ impl Reader {
             return wrong("x or y is missing".to_owned());
         };
         let (Some(across), Some(up)) = (coordinate(x), coordinate(y)) else {
-            return wrong(format!("'{x}', '{y}' are no two numbers"));
+            return wrong(format!("'{}', '{}' are no two numbers", word(x), word(y)));
         };
         let kind = match value("type").map(String::as_str) {
             None | Some("offcurve") => PointKind::Off,
@@ -150,7 +150,7 @@ impl Reader {
             Some("line") => PointKind::Line,
             Some("curve") => PointKind::Curve,
             Some("qcurve") => PointKind::Qcurve,
-            Some(other) => return wrong(format!("there is no type {other}")),
+            Some(other) => return wrong(format!("there is no type {}", word(other))),
         };
         if kind == PointKind::Move && !contour.points.is_empty() {
             return wrong("a move is first in its contour".to_owned());

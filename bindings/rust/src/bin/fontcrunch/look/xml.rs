@@ -4,6 +4,8 @@
 
 use std::ops::Range;
 
+use crate::contour_line::shown;
+
 /// What is wrong with a file, and at which byte.
 #[derive(Debug, PartialEq, Eq)]
 pub struct Fault {
@@ -135,7 +137,9 @@ impl<'a> Scanner<'a> {
 
     fn ended(&self) -> Result<Option<Token<'a>>, Fault> {
         match self.open.last() {
-            Some(name) => fault(self.at, format!("the file ends, and the element {name} is not closed")),
+            Some(name) => {
+                fault(self.at, format!("the file ends, and the element {} is not closed", word(name)))
+            }
             None if !self.rooted => fault(self.at, "the file has no element"),
             None => Ok(None),
         }
@@ -262,8 +266,8 @@ impl<'a> Scanner<'a> {
         }
         match self.open.pop() {
             Some(open) if open == name => {}
-            Some(open) => return fault(from, format!("</{name}> closes the element {open}")),
-            None => return fault(from, format!("</{name}> closes no element")),
+            Some(open) => return fault(from, format!("</{}> closes the element {}", word(name), word(open))),
+            None => return fault(from, format!("</{}> closes no element", word(name))),
         }
         self.at += 2 + name.len() + blanks + 1;
         Ok(Token { span: from..self.at, kind: Kind::End { name } })
@@ -275,7 +279,7 @@ impl<'a> Scanner<'a> {
             return fault(from, "< begins no tag");
         }
         if self.open.is_empty() && self.rooted {
-            return fault(from, format!("a second root element, {name}"));
+            return fault(from, format!("a second root element, {}", word(name)));
         }
         self.at += 1 + name.len();
         let mut attributes: Vec<(&str, String)> = Vec::new();
@@ -291,7 +295,7 @@ impl<'a> Scanner<'a> {
             let at = self.at;
             let (key, value) = self.attribute(name, blank)?;
             if attributes.iter().any(|(other, _)| *other == key) {
-                return fault(at, format!("the attribute {key} stands twice"));
+                return fault(at, format!("the attribute {} stands twice", word(key)));
             }
             attributes.push((key, value));
             if self.open.len() + attributes.len() + 1 > MOST_NAMES {
@@ -320,29 +324,29 @@ impl<'a> Scanner<'a> {
         let from = self.at;
         let name = &self.rest()[..name_length(self.rest())];
         if name.is_empty() {
-            return fault(from, format!("the tag {tag} is not ended"));
+            return fault(from, format!("the tag {} is not ended", word(tag)));
         }
         if !blank {
-            return fault(from, format!("no blank stands before the attribute {name}"));
+            return fault(from, format!("no blank stands before the attribute {}", word(name)));
         }
         self.at += name.len();
         self.pass_blanks();
         if !self.rest().starts_with('=') {
-            return fault(from, format!("the attribute {name} has no value"));
+            return fault(from, format!("the attribute {} has no value", word(name)));
         }
         self.at += 1;
         self.pass_blanks();
         let Some(quote) = self.rest().chars().next().filter(|&c| c == '"' || c == '\'') else {
-            return fault(from, format!("the value of {name} stands in no quotation marks"));
+            return fault(from, format!("the value of {} stands in no quotation marks", word(name)));
         };
         self.at += 1;
         let mut value = String::new();
         loop {
             let Some(c) = self.rest().chars().next() else {
-                return fault(from, format!("the value of {name} is not ended"));
+                return fault(from, format!("the value of {} is not ended", word(name)));
             };
             if c == '<' {
-                return fault(self.at, format!("< stands in the value of {name}"));
+                return fault(self.at, format!("< stands in the value of {}", word(name)));
             }
             if c == '&' {
                 let (said, length) = self.reference()?;
@@ -357,6 +361,11 @@ impl<'a> Scanner<'a> {
             value.push(c);
         }
     }
+}
+
+/// A word of the file for a message.
+pub fn word(text: &str) -> String {
+    shown(text.as_bytes())
 }
 
 /// What stands between `<?xml` and `?>`.
