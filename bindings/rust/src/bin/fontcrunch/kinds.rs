@@ -18,11 +18,11 @@ pub fn font(start: &[u8]) -> Option<&'static str> {
     let four = start.get(..4)?;
     match four {
         [0, 1, 0, 0] | b"true" | b"ttcf" => {
-            Some("is a TrueType font; examples/python/font.py crunches one, and glyph takes its descriptions")
+            Some("is a TrueType font; python3 -m fontcrunch crunches one, and glyph takes its descriptions")
         }
         b"OTTO" => Some("is an OpenType font of cubic outlines; as a UFO, fontcrunch ufo --cubic takes it"),
         b"wOFF" | b"wOF2" => {
-            Some("is a web font, which is packed; examples/python/font.py takes one that is not")
+            Some("is a web font, which is packed; python3 -m fontcrunch takes one that is not")
         }
         _ => None,
     }
