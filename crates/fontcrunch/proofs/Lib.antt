@@ -4,6 +4,8 @@ mod Calls
 mod Laws
 mod Stated
 mod Solved
+mod Still
 mod Ends
 mod Curve
 mod Lost
+mod Table

@@ -1,13 +1,14 @@
--- A call of each of the three exports, with every row and number under its name in include/fontcrunch.h and in its order: what the caller gives, and what is
--- left when the call is over; and what each export promises of them. Definitions and statements; the theorems, of the contracts as the check reads them,
--- stand in proofs/Stated.
+-- A call of each of the three exports, with every row and number under its name in include/fontcrunch.h and in its order: what the caller gives (XGiven), and
+-- what is left when the call is over (XLeft). What each export promises of them: that it is its entry's promise (XIs); what its report shows of what the
+-- definition gives, field by field (XShows); and when two calls are of one order (XAlike). Definitions and statements; the theorems, of the contracts as the
+-- check reads them, stand in proofs/Stated.
 use Prim.Native.Nat.{ℕ, _<_}
 use mathlib.Core.List.{List}
 use mathlib.Core.Logic.{_↔_}
 use mathlib.Core.Path.{_≡_}
-use lib.Ieee.{Float, binary64, ofBits}
+use lib.Ieee.{Float, binary64, ofBits, toBits}
 use lib.IntN.{ℤ}
-use lib.ListN.{take}
+use lib.ListN.{length, take}
 use Rattle.rows.specs.Rows.{Work, work}
 use Rattle.rows.specs.Lent.{Inputs, inputs, Shown}
 use Rattle.settings.specs.Settings.{settingsOf}
@@ -16,12 +17,17 @@ use Rattle.survey.specs.Never.{Sixteen}
 use Rattle.contour.specs.Output.{outputs}
 use Rattle.pieces.specs.Slots.{chain}
 use Rattle.edition.specs.Scratch.{roomsOf}
+use Rattle.crunch.specs.Crunch as Crunched
 use Rattle.crunch.specs.Entry as Crunch
 use Rattle.crunch.specs.Determine as CrunchOnce
+use Rattle.chains.specs.Chains as Chained
 use Rattle.chains.specs.Entry as Chains
 use Rattle.checks.specs.Entry as Checks
 use Rattle.checks.specs.Checks.{GivenChain}
-use Rattle.checks.specs.Exactly.{Accepted, Unsettled}
+use Rattle.checks.specs.Exactly.{Accepted, Denied, Unsettled, RefusedBy}
+use Rattle.checks.specs.declared.Ruling.{Ruling}
+use Rattle.checks.specs.declared.Verdict as D
+use Rattle.checks.specs.declared.Verdict.the-variants as Verdict
 use Rattle.fontcrunch.specs.Exports.{crunchReport, checkReport, ChainShown}
 use Rattle.fontcrunch.specs.declared.CrunchReport.{CrunchReport}
 use Rattle.fontcrunch.specs.declared.ChainReport.{ChainReport}
@@ -73,6 +79,15 @@ crunchAfter l =
 -- the crunch entry's promise, for what the caller gave
 pub record CrunchIs (g : CrunchGiven) (l : CrunchLeft) : Type 0 where
   pub shown : Shown crunchReport (Crunch.Promise (crunchContour g) (crunchSettings g) (record { entry = crunchBefore g; exit = crunchAfter l })) (l .report)
+
+-- what the crunch entry's definition gives, for what the caller gave
+abbrev pub crunchDefined : CrunchGiven → Crunched.Outcome
+crunchDefined g = Crunch.wholeOf (crunchContour g) (crunchSettings g) (crunchBefore g)
+
+-- the report of a refusal shows its number and nothing else; of points that come out, how many they are, the pairs tried and the lookups that fell
+abbrev pub CrunchShows : Crunched.Outcome → CrunchReport → Type 0
+CrunchShows (Crunched.refused k) r = (r .number ≡ k) × (r .points ≡ 0) × (r .pairs ≡ 0) × (r .fallen ≡ 0)
+CrunchShows (Crunched.crunched ps t) r = (r .number ≡ 0) × (r .points ≡ length ps) × (r .pairs ≡ t .pairs) × (r .fallen ≡ t .fallen)
 
 -- one order, in rows of equal lengths
 pub record CrunchAlike (g g' : CrunchGiven) : Type 0 where
@@ -136,6 +151,18 @@ pub record ChainIs (g : ChainGiven) (l : ChainLeft) : Type 0 where
       (Chains.Promise (chainContour g) (chainSettings g) (g .k) (record { entry = chainBefore g; exit = chainAfter l })
       (record { entry = chainWork g; exit = chainWorked l })) (l .report)
 
+-- what the chain entry's definition gives, for what the caller gave
+abbrev pub chainDefined : ChainGiven → Chained.Outcome
+chainDefined g = Chains.wholeOf (chainContour g) (chainSettings g) (g .k) (chainBefore g) (chainWork g)
+
+-- the report of a refusal shows its number and nothing else; of a run that leaves its contour unchanged the pairs tried and the lookups that fell; of a chain
+-- also its pieces and the bits of its score. The bits of 0.0 are 0
+abbrev pub ChainShows : Chained.Outcome → ChainReport → Type 0
+ChainShows (Chained.refused k) r = (r .number ≡ k) × (r .pieces ≡ 0) × (r .pairs ≡ 0) × (r .«score_bits» ≡ 0) × (r .fallen ≡ 0)
+ChainShows (Chained.unchanged t) r = (r .number ≡ 0) × (r .pieces ≡ 0) × (r .pairs ≡ t .pairs) × (r .«score_bits» ≡ 0) × (r .fallen ≡ t .fallen)
+ChainShows (Chained.chained ps s t) r =
+    (r .number ≡ 0) × (r .pieces ≡ length ps) × (r .pairs ≡ t .pairs) × (r .«score_bits» ≡ toBits binary64 s) × (r .fallen ≡ t .fallen)
+
 pub record ChainAlike (g g' : ChainGiven) : Type 0 where
   pub contour : chainContour g ≡ chainContour g'
   pub settings : chainSettings g ≡ chainSettings g'
@@ -190,6 +217,16 @@ pub record CheckIs (g : CheckGiven) (l : CheckLeft) : Type 0 where
   pub shown : Shown checkReport
       (Checks.Promise (checkContour g) (checkSettings g) (g .k) (checkChain g) (record { entry = checkWork g; exit = checkWorked l })) (l .report)
 
+-- what the checker's definition gives, for what the caller gave
+abbrev pub checkDefined : CheckGiven → Ruling
+checkDefined g = Checks.wholeOf (checkContour g) (checkSettings g) (g .k) (checkChain g) (checkWork g)
+
+-- the report of a refusal shows its number and nothing else; of a verdict whether it is a yes, and the lookups that fell
+abbrev pub CheckShows : D.Verdict → ℕ → CheckReport → Type 0
+CheckShows (Verdict.Refused k) fallen r = (r .number ≡ k) × (r .accepted ≡ 0) × (r .fallen ≡ 0)
+CheckShows Verdict.Yes fallen r = (r .number ≡ 0) × (r .accepted ≡ 1) × (r .fallen ≡ fallen)
+CheckShows Verdict.No fallen r = (r .number ≡ 0) × (r .accepted ≡ 0) × (r .fallen ≡ fallen)
+
 pub record CheckAlike (g g' : CheckGiven) : Type 0 where
   pub contour : checkContour g ≡ checkContour g'
   pub settings : checkSettings g ≡ checkSettings g'
@@ -197,12 +234,26 @@ pub record CheckAlike (g g' : CheckGiven) : Type 0 where
   pub chain : checkChain g ≡ checkChain g'
   pub rooms : roomsOf (checkWork g) ≡ roomsOf (checkWork g')
 
--- accepted exactly when the chain that the caller gave obeys the user's rule, for the run, settings and rooms that the caller gave
+-- Of the chain, run, settings and rooms that the caller gave (checks/specs/Exactly):
+
+-- accepted exactly when nothing is refused and the chain obeys the user's rule
 abbrev pub CheckAccepts : CheckGiven → CheckLeft → Type 0
 CheckAccepts g l =
     (l .report .accepted ≡ 1) ↔ Accepted (roomsOf (checkWork g)) (checkSettings g) (g .xs) (g .ys) (g .flags) (g .k) (checkChain g)
 
--- refused by 8 exactly when a measure of that chain is refused; of rows of 16 bits, as C's are
+-- neither refused nor accepted exactly when nothing is refused, each measure is there and the chain does not obey it
+abbrev pub CheckDenies : CheckGiven → CheckLeft → Type 0
+CheckDenies g l =
+    ((l .report .number ≡ 0) × (l .report .accepted ≡ 0))
+    ↔ Denied (roomsOf (checkWork g)) (checkSettings g) (g .xs) (g .ys) (g .flags) (g .k) (checkChain g)
+
+-- refused by each number exactly when document 01 says so
+abbrev pub CheckRefuses : CheckGiven → CheckLeft → Type 0
+CheckRefuses g l =
+    (n : ℕ) → 0 < n →
+    (l .report .number ≡ n) ↔ RefusedBy (roomsOf (checkWork g)) (checkSettings g) (g .xs) (g .ys) (g .flags) (g .k) (checkChain g) n
+
+-- of rows of 16 bits, as C's are, by 8 exactly when a measure of a chain of good shape is refused
 abbrev pub CheckEight : CheckGiven → CheckLeft → Type 0
 CheckEight g l =
     Sixteen (g .xs) → Sixteen (g .ys) →
@@ -212,7 +263,6 @@ CheckEight g l =
 -- scratch rows of the same lengths
 
 pub record Handed (g : ChainGiven) (l : ChainLeft) (h : CheckGiven) : Type 0 where
-  pub some : 0 < l .report .pieces
   pub contour : checkContour h ≡ chainContour g
   pub settings : checkSettings h ≡ chainSettings g
   pub run : h .k ≡ g .k

@@ -4,4 +4,5 @@ pub mod Accepted
 pub mod Table
 pub mod Handed
 pub mod Calls
+pub mod Solved
 pub mod Wrong

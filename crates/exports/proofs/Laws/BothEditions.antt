@@ -1,14 +1,27 @@
--- What the promise of specs/Calls/BothEditions says of two calls. Assumes nothing.
+-- What the promise of specs/Calls/BothEditions says of both reports, and of two calls. Assumes nothing.
 use mathlib.Core.Path.{_≡_, refl, sym, ap, subst, _∙_}
 use Rattle.rows.specs.Rows.{Work, work}
 use Rattle.contour.specs.Output.{Outputs, outputs}
 use Rattle.contour.specs.Points.{Points}
+use Rattle.crunch.specs.Crunch.{Outcome, refused, crunched}
+use Rattle.crunch.specs.Entry as Crunch
 use Rattle.editions.specs.Determine as EditionsOnce
 use Rattle.editions.specs.declared.entry.Editions as Answers
 use Rattle.exports.specs.BothEditions as Reports
 use Rattle.exports.specs.Determine.{EqualReports, editions-equal-orders}
-use Rattle.exports.specs.Calls.BothEditions.{EditionsGiven, EditionsLeft, EditionsIs, EditionsAlike, editionsAfter}
+use Rattle.exports.specs.Calls.BothEditions.{EditionsGiven, EditionsLeft, EditionsIs, EditionShows, EditionsShow, EditionsAlike, editionDefinedA, editionDefinedB, editionsAfter}
 use Rattle.exports.specs.declared.both_editions.EditionsReport.{EditionsReport}
+
+edition-shows : (o : Outcome) → EditionShows o (Reports.reportOne (Crunch.answerOf o))
+edition-shows (refused k) = (refl, refl, refl, refl)
+edition-shows (crunched ps t) = (refl, refl, refl, refl)
+
+pub editions-show : {g : EditionsGiven} {l : EditionsLeft} → EditionsIs g l → EditionsShow g (l .report)
+editions-show {g} {l} p =
+    rw (p .shown .is) (record {
+      a = rw (p .shown .promise .to-a .answer) (edition-shows (editionDefinedA g));
+      b = rw (p .shown .promise .to-b .answer) (edition-shows (editionDefinedB g));
+    })
 
 -- the rows that both share are those of the first
 editionsLeftBy : EditionsReport → Outputs → Work → Points → Outputs → Work → Points → EditionsLeft

@@ -1,4 +1,4 @@
--- What the promises of specs/Calls/Cleaning say of two calls. Assumes nothing.
+-- What the promises of specs/Calls/Cleaning say of a report, and of two calls. Assumes nothing.
 use mathlib.Core.Path.{_≡_, refl, sym, subst, _∙_}
 use lib.ListN.{take}
 use Rattle.rows.specs.Lent.{Shown}
@@ -11,12 +11,19 @@ use Rattle.clean.specs.declared.Restored as D
 use Rattle.clean.specs.declared.Restored.the-variants as Restored
 use Rattle.exports.specs.Cleaning as Reports
 use Rattle.exports.specs.Determine.{clean-determined, clean-equal-orders, put-determined, put-equal-orders}
-use Rattle.exports.specs.Calls.Cleaning.{CleanGiven, CleanLeft, CleanIs, CleanAlike, cleanAfter, cleanWritten}
-use Rattle.exports.specs.Calls.Cleaning.{PutGiven, PutLeft, PutIs, PutAlike, putAfter, putWritten}
+use Rattle.exports.specs.Calls.Cleaning.{CleanGiven, CleanLeft, CleanIs, CleanShows, CleanAlike, cleanDefined, cleanAfter, cleanWritten}
+use Rattle.exports.specs.Calls.Cleaning.{PutGiven, PutLeft, PutIs, PutShows, PutAlike, putDefined, putAfter, putWritten}
 use Rattle.exports.specs.declared.cleaning.CleanReport.{CleanReport}
 use Rattle.exports.specs.declared.cleaning.PutReport.{PutReport}
 
 -- ---- cleaning
+
+pub clean-shows : {g : CleanGiven} {l : CleanLeft} → CleanIs g l → CleanShows (cleanDefined g) (l .report)
+clean-shows {g} {l} p = rw (p .shown .is, p .shown .promise .answer) (by (cleanDefined g))
+  where
+    by : (o : C.Cleaned) → CleanShows o (Reports.report o)
+    by (Cleaned.Refused k) = (refl, refl, refl)
+    by (Cleaned.Points n m) = (refl, refl, refl)
 
 cleanLeftBy : CleanReport → Rows → CleanLeft
 cleanLeftBy r (rows (outputs ox oy of) list) = record { report = r; ox = ox; oy = oy; of = of; list = list }
@@ -45,6 +52,13 @@ clean-equal {l = l} {l'} p q a =
     record { answer = same .answer; left = sym (clean-first l (p .shown)) ∙ same .left ∙ clean-first l' q' }
 
 -- ---- putting back
+
+pub put-shows : {g : PutGiven} {l : PutLeft} → PutIs g l → PutShows (putDefined g) (l .report)
+put-shows {g} {l} p = rw (p .shown .is, p .shown .promise .answer) (by (putDefined g))
+  where
+    by : (o : D.Restored) → PutShows o (Reports.putReport o)
+    by (Restored.Refused k) = (refl, refl)
+    by (Restored.Points n) = (refl, refl)
 
 putLeftBy : PutReport → Outputs → PutLeft
 putLeftBy r (outputs ox oy of) = record { report = r; ox = ox; oy = oy; of = of }

@@ -1,4 +1,4 @@
--- What the promise of specs/Calls/FromCubics says of two calls. Assumes nothing.
+-- What the promise of specs/Calls/FromCubics says of a report, and of two calls. Assumes nothing.
 use mathlib.Core.Path.{_≡_, refl, sym, subst, _∙_}
 use lib.ListN.{take}
 use Rattle.rows.specs.Lent.{Shown}
@@ -8,8 +8,15 @@ use Rattle.cubics.specs.declared.Replaced as D
 use Rattle.cubics.specs.declared.Replaced.the-variants as Replaced
 use Rattle.exports.specs.FromCubics as Reports
 use Rattle.exports.specs.Determine.{cubic-determined, cubic-equal-orders}
-use Rattle.exports.specs.Calls.FromCubics.{CubicGiven, CubicLeft, CubicIs, CubicAlike, cubicAfter, cubicWritten}
+use Rattle.exports.specs.Calls.FromCubics.{CubicGiven, CubicLeft, CubicIs, CubicShows, CubicAlike, cubicDefined, cubicAfter, cubicWritten}
 use Rattle.exports.specs.declared.from_cubics.CubicReport.{CubicReport}
+
+pub cubic-shows : {g : CubicGiven} {l : CubicLeft} → CubicIs g l → CubicShows (cubicDefined g) (l .report)
+cubic-shows {g} {l} p = rw (p .shown .is, p .shown .promise .answer) (by (cubicDefined g))
+  where
+    by : (o : D.Replaced) → CubicShows o (Reports.report o)
+    by (Replaced.Refused k) = (refl, refl)
+    by (Replaced.Quads n) = (refl, refl)
 
 cubicLeftBy : CubicReport → Outputs → CubicLeft
 cubicLeftBy r (outputs ox oy of) = record { report = r; ox = ox; oy = oy; of = of }

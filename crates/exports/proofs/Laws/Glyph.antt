@@ -1,21 +1,31 @@
--- What the promises of specs/Calls/Glyph say of two calls. Assumes nothing.
+-- What the promises of specs/Calls/Glyph say of a report, and of two calls. Assumes nothing.
 use Prim.Native.Nat.{ℕ}
 use mathlib.Core.List.{List}
 use mathlib.Core.Path.{_≡_, refl, sym, subst}
 use Rattle.rows.specs.Rows.{Work, work}
 use Rattle.contour.specs.Points.{Points}
-use Rattle.glyf.specs.Layout.{Glyph}
+use Rattle.glyf.specs.Layout.{Glyph, Outcome, done, refused}
+use Rattle.glyfread.specs.Reads as Reads
 use Rattle.glyfread.specs.Determine as Reading
+use Rattle.glyfwrite.specs.Writes as Writes
 use Rattle.glyfwrite.specs.Determine as Writing
 use Rattle.glyphs.specs.Determine as Crunching
+use Rattle.exports.specs.Glyph.{readReport, writeReport}
 use Rattle.exports.specs.Determine.{read-determined, read-equal-orders, write-determined, write-equal-orders, crunch-determined, crunch-equal-orders}
-use Rattle.exports.specs.Calls.Glyph.{ReadGlyphGiven, ReadGlyphLeft, ReadGlyphIs, ReadGlyphAlike, readGlyphRows}
-use Rattle.exports.specs.Calls.Glyph.{WriteGlyphGiven, WriteGlyphLeft, WriteGlyphIs, WriteGlyphAlike, writeGlyphRow}
-use Rattle.exports.specs.Calls.Glyph.{CrunchGlyphGiven, CrunchGlyphLeft, CrunchGlyphIs, CrunchGlyphAlike, crunchGlyphRows}
+use Rattle.exports.specs.Calls.Glyph.{ReadGlyphGiven, ReadGlyphLeft, ReadGlyphIs, ReadGlyphShows, ReadGlyphAlike, readGlyphDefined, readGlyphRows}
+use Rattle.exports.specs.Calls.Glyph.{WriteGlyphGiven, WriteGlyphLeft, WriteGlyphIs, GlyphBytesShow, WriteGlyphAlike, writeGlyphDefined, writeGlyphRow}
+use Rattle.exports.specs.Calls.Glyph.{CrunchGlyphGiven, CrunchGlyphLeft, CrunchGlyphIs, CrunchGlyphAlike, crunchGlyphDefined, crunchGlyphRows}
 use Rattle.exports.specs.declared.glyph.GlyphReadReport.{GlyphReadReport}
 use Rattle.exports.specs.declared.glyph.GlyphWriteReport.{GlyphWriteReport}
 
 -- ---- read
+
+pub read-shows : {g : ReadGlyphGiven} {l : ReadGlyphLeft} → ReadGlyphIs g l → ReadGlyphShows (readGlyphDefined g) (l .report)
+read-shows {g} {l} p = rw (p .shown .is, p .shown .promise .answer) (by (readGlyphDefined g))
+  where
+    by : (o : Outcome Glyph) → ReadGlyphShows o (readReport (Reads.answerOf o))
+    by (refused k) = (refl, refl, refl, refl)
+    by (done g) = (refl, refl, refl, refl)
 
 readGlyphLeftBy : GlyphReadReport → Glyph → ReadGlyphLeft
 readGlyphLeftBy r g = record { report = r; ends = g .ends; xs = g .xs; ys = g .ys; flags = g .flags; instructions = g .instructions }
@@ -32,6 +42,13 @@ read-equal p q a = read-equal-orders (a .rooms) (p .shown) (rw (← a .bytes) at
 
 -- ---- written
 
+bytes-show : (o : Outcome (List ℕ)) → GlyphBytesShow o (writeReport (Writes.answerOf o))
+bytes-show (refused k) = (refl, refl)
+bytes-show (done bytes) = (refl, refl)
+
+pub write-shows : {g : WriteGlyphGiven} {l : WriteGlyphLeft} → WriteGlyphIs g l → GlyphBytesShow (writeGlyphDefined g) (l .report)
+write-shows {g} {l} p = rw (p .shown .is, p .shown .promise .answer) (bytes-show (writeGlyphDefined g))
+
 writeGlyphLeftBy : GlyphWriteReport → List ℕ → WriteGlyphLeft
 writeGlyphLeftBy r out = record { report = r; out = out }
 
@@ -46,6 +63,9 @@ pub write-equal : {g g' : WriteGlyphGiven} {l l' : WriteGlyphLeft} → WriteGlyp
 write-equal p q a = write-equal-orders (a .room) (p .shown) (rw (← a .glyph) at (q .shown))
 
 -- ---- crunched
+
+pub crunch-shows : {g : CrunchGlyphGiven} {l : CrunchGlyphLeft} → CrunchGlyphIs g l → GlyphBytesShow (crunchGlyphDefined g) (l .report)
+crunch-shows {g} {l} p = rw (p .shown .is, p .shown .promise .answer) (bytes-show (crunchGlyphDefined g))
 
 crunchGlyphLeftBy : GlyphWriteReport → List ℕ → Glyph → Work → Points → CrunchGlyphLeft
 crunchGlyphLeftBy r out g (work s b a l) p = record {

@@ -1,4 +1,4 @@
--- What the promise of specs/Calls/WrittenOut says of two calls. Assumes nothing.
+-- What the promise of specs/Calls/WrittenOut says of a report, and of two calls. Assumes nothing.
 use mathlib.Core.Path.{_≡_, refl, sym, subst, _∙_}
 use lib.ListN.{take}
 use Rattle.rows.specs.Lent.{Shown}
@@ -8,8 +8,15 @@ use Rattle.explicit.specs.declared.Explicit as D
 use Rattle.explicit.specs.declared.Explicit.the-variants as Explicit
 use Rattle.exports.specs.WrittenOut as Reports
 use Rattle.exports.specs.Determine.{explicit-determined, explicit-equal-orders}
-use Rattle.exports.specs.Calls.WrittenOut.{ExplicitGiven, ExplicitLeft, ExplicitIs, ExplicitAlike, explicitAfter, explicitWritten}
+use Rattle.exports.specs.Calls.WrittenOut.{ExplicitGiven, ExplicitLeft, ExplicitIs, ExplicitShows, ExplicitAlike, explicitDefined, explicitAfter, explicitWritten}
 use Rattle.exports.specs.declared.written_out.ExplicitReport.{ExplicitReport}
+
+pub explicit-shows : {g : ExplicitGiven} {l : ExplicitLeft} → ExplicitIs g l → ExplicitShows (explicitDefined g) (l .report)
+explicit-shows {g} {l} p = rw (p .shown .is, p .shown .promise .answer) (by (explicitDefined g))
+  where
+    by : (o : D.Explicit) → ExplicitShows o (Reports.report o)
+    by (Explicit.Refused k) = (refl, refl)
+    by (Explicit.Points n) = (refl, refl)
 
 explicitLeftBy : ExplicitReport → Outputs → ExplicitLeft
 explicitLeftBy r (outputs ox oy of) = record { report = r; ox = ox; oy = oy; of = of }

@@ -1,10 +1,10 @@
 -- The contracts of the exports, as the check reads them off src/cleaning.rt, of any call (proofs/Calls), its rows and numbers by name (specs/Calls): nothing
--- is asked of a caller; each contract IS the entry's promise for what the caller gave; what is given fixes the report and every lent row; and of the lent
--- rows their lengths alone fix the report and what is written. Assumes nothing.
+-- is asked of a caller; each contract IS the entry's promise for what the caller gave; the report shows, field by field, what the definition gives; what is
+-- given fixes the report and every lent row; and of the lent rows their lengths alone fix the report and what is written. Assumes nothing.
 use mathlib.Core.Path.{_≡_}
 use Rattle.clean.specs.Determine.{Same}
-use Rattle.exports.specs.Calls.Cleaning.{CleanIs, CleanAlike, cleanWritten}
-use Rattle.exports.specs.Calls.Cleaning.{PutIs, PutAlike, putWritten}
+use Rattle.exports.specs.Calls.Cleaning.{CleanIs, CleanShows, CleanAlike, cleanDefined, cleanWritten}
+use Rattle.exports.specs.Calls.Cleaning.{PutIs, PutShows, PutAlike, putDefined, putWritten}
 use Rattle.exports.proofs.Calls.Cleaning.{CleanCall, cleanGiven, cleanLeft, PutCall, putGiven, putLeft}
 use Rattle.exports.proofs.Laws.Cleaning as Laws
 use Rattle.exports.proofs.cleaning.fontcrunch_clean.Reads as clean
@@ -17,6 +17,9 @@ clean-asks-nothing κs a = tt
 
 pub clean-is : (c : CleanCall) → CleanIs (cleanGiven c) (cleanLeft c)
 clean-is c = record { shown = c .said }
+
+pub clean-shows : (c : CleanCall) → CleanShows (cleanDefined (cleanGiven c)) (c .r)
+clean-shows c = Laws.clean-shows (clean-is c)
 
 pub clean-leaves : (c c' : CleanCall) → cleanGiven c ≡ cleanGiven c' → cleanLeft c ≡ cleanLeft c'
 clean-leaves c c' e = Laws.clean-left (clean-is c) (clean-is c') e
@@ -32,6 +35,9 @@ put-asks-nothing κs a = tt
 
 pub put-is : (c : PutCall) → PutIs (putGiven c) (putLeft c)
 put-is c = record { shown = c .said }
+
+pub put-shows : (c : PutCall) → PutShows (putDefined (putGiven c)) (c .r)
+put-shows c = Laws.put-shows (put-is c)
 
 pub put-leaves : (c c' : PutCall) → putGiven c ≡ putGiven c' → putLeft c ≡ putLeft c'
 put-leaves c c' e = Laws.put-left (put-is c) (put-is c') e

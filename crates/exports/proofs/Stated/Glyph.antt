@@ -1,13 +1,13 @@
 -- The contracts of the exports, as the check reads them off src/glyph.rt, of any call (proofs/Calls), its rows and numbers by name (specs/Calls): nothing is
--- asked of a caller; each contract IS the entry's promise for what the caller gave; what is given fixes the report and every lent row; and of the lent rows
--- their lengths alone fix the report and what is written. Assumes nothing.
+-- asked of a caller; each contract IS the entry's promise for what the caller gave; the report shows, field by field, what the definition gives; what is given
+-- fixes the report and every lent row; and of the lent rows their lengths alone fix the report and what is written. Assumes nothing.
 use mathlib.Core.Path.{_≡_}
 use Rattle.glyfread.specs.Determine as Reading
 use Rattle.glyfwrite.specs.Determine as Writing
 use Rattle.glyphs.specs.Determine as Crunching
-use Rattle.exports.specs.Calls.Glyph.{ReadGlyphIs, ReadGlyphAlike, readGlyphRows}
-use Rattle.exports.specs.Calls.Glyph.{WriteGlyphIs, WriteGlyphAlike, writeGlyphRow}
-use Rattle.exports.specs.Calls.Glyph.{CrunchGlyphIs, CrunchGlyphAlike, crunchGlyphRows}
+use Rattle.exports.specs.Calls.Glyph.{ReadGlyphIs, ReadGlyphShows, ReadGlyphAlike, readGlyphDefined, readGlyphRows}
+use Rattle.exports.specs.Calls.Glyph.{WriteGlyphIs, GlyphBytesShow, WriteGlyphAlike, writeGlyphDefined, writeGlyphRow}
+use Rattle.exports.specs.Calls.Glyph.{CrunchGlyphIs, CrunchGlyphAlike, crunchGlyphDefined, crunchGlyphRows}
 use Rattle.exports.proofs.Calls.Glyph.{ReadGlyphCall, readGlyphGiven, readGlyphLeft, WriteGlyphCall, writeGlyphGiven, writeGlyphLeft, CrunchGlyphCall, crunchGlyphGiven, crunchGlyphLeft}
 use Rattle.exports.proofs.Laws.Glyph as Laws
 use Rattle.exports.proofs.glyph.fontcrunch_read_glyph.Reads as read
@@ -21,6 +21,9 @@ read-asks-nothing κs a = tt
 
 pub read-is : (c : ReadGlyphCall) → ReadGlyphIs (readGlyphGiven c) (readGlyphLeft c)
 read-is c = record { shown = c .said }
+
+pub read-shows : (c : ReadGlyphCall) → ReadGlyphShows (readGlyphDefined (readGlyphGiven c)) (c .r)
+read-shows c = Laws.read-shows (read-is c)
 
 pub read-leaves : (c c' : ReadGlyphCall) → readGlyphGiven c ≡ readGlyphGiven c' → readGlyphLeft c ≡ readGlyphLeft c'
 read-leaves c c' e = Laws.read-left (read-is c) (read-is c') e
@@ -43,6 +46,9 @@ write-is c = record {
   };
 }
 
+pub write-shows : (c : WriteGlyphCall) → GlyphBytesShow (writeGlyphDefined (writeGlyphGiven c)) (c .r)
+write-shows c = Laws.write-shows (write-is c)
+
 pub write-leaves : (c c' : WriteGlyphCall) → writeGlyphGiven c ≡ writeGlyphGiven c' → writeGlyphLeft c ≡ writeGlyphLeft c'
 write-leaves c c' e = Laws.write-left (write-is c) (write-is c') e
 
@@ -57,6 +63,9 @@ crunch-asks-nothing κs a = tt
 
 pub crunch-is : (c : CrunchGlyphCall) → CrunchGlyphIs (crunchGlyphGiven c) (crunchGlyphLeft c)
 crunch-is c = record { shown = c .said }
+
+pub crunch-shows : (c : CrunchGlyphCall) → GlyphBytesShow (crunchGlyphDefined (crunchGlyphGiven c)) (c .r)
+crunch-shows c = Laws.crunch-shows (crunch-is c)
 
 pub crunch-leaves : (c c' : CrunchGlyphCall) → crunchGlyphGiven c ≡ crunchGlyphGiven c' → crunchGlyphLeft c ≡ crunchGlyphLeft c'
 crunch-leaves c c' e = Laws.crunch-left (crunch-is c) (crunch-is c') e

@@ -4,13 +4,17 @@ use mathlib.Core.List.{List}
 use mathlib.Core.Path.{_≡_}
 use lib.Ieee.{Float}
 use lib.IntN.{ℤ}
+use lib.ListN.{length}
 use Rattle.rows.specs.Lent.{Inputs, inputs, Shown}
 use Rattle.contour.specs.Output.{outputs}
-use Rattle.editions.specs.Editions.{orderOf}
-use Rattle.editions.specs.Entry.{Rows, Promise}
+use Rattle.crunch.specs.Crunch.{Outcome, refused, crunched}
+use Rattle.crunch.specs.Entry as Crunch
+use Rattle.editions.specs.Editions.{orderOf, settingsA, settingsB}
+use Rattle.editions.specs.Entry.{Rows, rowsA, rowsB, Promise}
 use Rattle.editions.specs.Determine.{AlikeBoth}
 use Rattle.editions.specs.declared.work.Order.{Order}
 use Rattle.exports.specs.BothEditions as Reports
+use Rattle.exports.specs.declared.both_editions.EditionReport.{EditionReport}
 use Rattle.exports.specs.declared.both_editions.EditionsReport.{EditionsReport}
 
 pub record EditionsGiven : Type 0 where
@@ -78,6 +82,22 @@ editionsAfter l = record {
 -- the promise of the entry of two editions, for what the caller gave
 pub record EditionsIs (g : EditionsGiven) (l : EditionsLeft) : Type 0 where
   pub shown : Shown Reports.report (Promise (editionsContour g) (editionsOrder g) (record { entry = editionsBefore g; exit = editionsAfter l })) (l .report)
+
+-- what the crunch entry's definition gives for each edition, with its own penalty and rows and the shared ones
+abbrev pub editionDefinedA : EditionsGiven → Outcome
+editionDefinedA g = Crunch.wholeOf (editionsContour g) (settingsA (editionsOrder g)) (rowsA (editionsBefore g))
+
+abbrev pub editionDefinedB : EditionsGiven → Outcome
+editionDefinedB g = Crunch.wholeOf (editionsContour g) (settingsB (editionsOrder g)) (rowsB (editionsBefore g))
+
+-- the report of a refusal shows its number and nothing else; of points that come out, how many they are, the pairs tried and the lookups that fell
+abbrev pub EditionShows : Outcome → EditionReport → Type 0
+EditionShows (refused k) r = (r .number ≡ k) × (r .points ≡ 0) × (r .pairs ≡ 0) × (r .fallen ≡ 0)
+EditionShows (crunched ps t) r = (r .number ≡ 0) × (r .points ≡ length ps) × (r .pairs ≡ t .pairs) × (r .fallen ≡ t .fallen)
+
+pub record EditionsShow (g : EditionsGiven) (r : EditionsReport) : Type 0 where
+  pub a : EditionShows (editionDefinedA g) (r .a)
+  pub b : EditionShows (editionDefinedB g) (r .b)
 
 -- one order, in rows of equal lengths
 pub record EditionsAlike (g g' : EditionsGiven) : Type 0 where

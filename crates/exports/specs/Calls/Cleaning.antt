@@ -3,11 +3,15 @@ use Prim.Native.Nat.{ℕ}
 use mathlib.Core.List.{List}
 use mathlib.Core.Path.{_≡_}
 use lib.IntN.{ℤ}
-use lib.ListN.{take}
+use lib.ListN.{length, take}
 use Rattle.rows.specs.Lent.{Inputs, inputs, Shown}
 use Rattle.contour.specs.Output.{Outputs, outputs}
-use Rattle.clean.specs.Entry.{Rows, rows, Promise, PutPromise}
+use Rattle.clean.specs.Entry.{Rows, rows, listRoom, pointRoom, wholeOf, Promise, outputRoom, restoredOf, PutPromise}
 use Rattle.clean.specs.Determine.{placesOf, pointPlaces}
+use Rattle.clean.specs.declared.Cleaned as D
+use Rattle.clean.specs.declared.Cleaned.the-variants as Cleaned
+use Rattle.clean.specs.declared.Restored as R
+use Rattle.clean.specs.declared.Restored.the-variants as Restored
 use Rattle.exports.specs.Cleaning as Reports
 use Rattle.exports.specs.declared.cleaning.CleanReport.{CleanReport}
 use Rattle.exports.specs.declared.cleaning.PutReport.{PutReport}
@@ -42,6 +46,15 @@ cleanAfter l = rows (outputs (l .ox) (l .oy) (l .of)) (l .list)
 -- the cleaning entry's promise, for what the caller gave
 pub record CleanIs (g : CleanGiven) (l : CleanLeft) : Type 0 where
   pub shown : Shown Reports.report (Promise (cleanContour g) (record { entry = cleanBefore g; exit = cleanAfter l })) (l .report)
+
+-- what the cleaning entry's definition gives, for what the caller gave
+abbrev pub cleanDefined : CleanGiven → D.Cleaned
+cleanDefined g = wholeOf (cleanContour g) (listRoom (cleanBefore g)) (pointRoom (cleanBefore g))
+
+-- the report of a refusal shows its number and nothing else; else the points kept and those dropped
+abbrev pub CleanShows : D.Cleaned → CleanReport → Type 0
+CleanShows (Cleaned.Refused k) r = (r .number ≡ k) × (r .kept ≡ 0) × (r .dropped ≡ 0)
+CleanShows (Cleaned.Points kept dropped) r = (r .number ≡ 0) × (r .kept ≡ kept) × (r .dropped ≡ dropped)
 
 -- one contour, in rows of equal lengths
 pub record CleanAlike (g g' : CleanGiven) : Type 0 where
@@ -83,6 +96,15 @@ putAfter l = outputs (l .ox) (l .oy) (l .of)
 -- the promise of the entry that puts back, for what the caller gave
 pub record PutIs (g : PutGiven) (l : PutLeft) : Type 0 where
   pub shown : Shown Reports.putReport (PutPromise (putContour g) (g .list) (record { entry = putBefore g; exit = putAfter l })) (l .report)
+
+-- what the definition of putting back gives, for what the caller gave
+abbrev pub putDefined : PutGiven → R.Restored
+putDefined g = restoredOf (putContour g) (length (g .list)) (outputRoom (putBefore g))
+
+-- the report of a refusal shows its number and nothing else; else the points written
+abbrev pub PutShows : R.Restored → PutReport → Type 0
+PutShows (Restored.Refused k) r = (r .number ≡ k) × (r .points ≡ 0)
+PutShows (Restored.Points points) r = (r .number ≡ 0) × (r .points ≡ points)
 
 pub record PutAlike (g g' : PutGiven) : Type 0 where
   pub contour : putContour g ≡ putContour g'

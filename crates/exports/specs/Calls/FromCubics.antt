@@ -6,8 +6,10 @@ use lib.IntN.{ℤ}
 use lib.ListN.{take}
 use Rattle.rows.specs.Lent.{Inputs, inputs, Shown}
 use Rattle.contour.specs.Output.{Outputs, outputs}
-use Rattle.cubics.specs.Entry.{Promise}
+use Rattle.cubics.specs.Entry.{roomOf, wholeOf, Promise}
 use Rattle.cubics.specs.Determine.{placesOf}
+use Rattle.cubics.specs.declared.Replaced as D
+use Rattle.cubics.specs.declared.Replaced.the-variants as Replaced
 use Rattle.exports.specs.FromCubics as Reports
 use Rattle.exports.specs.declared.from_cubics.CubicReport.{CubicReport}
 
@@ -37,6 +39,15 @@ cubicAfter l = outputs (l .ox) (l .oy) (l .of)
 -- the promise of the entry that makes quads of cubics, for what the caller gave
 pub record CubicIs (g : CubicGiven) (l : CubicLeft) : Type 0 where
   pub shown : Shown Reports.report (Promise (cubicContour g) (record { entry = cubicBefore g; exit = cubicAfter l })) (l .report)
+
+-- what the entry's definition gives, for what the caller gave
+abbrev pub cubicDefined : CubicGiven → D.Replaced
+cubicDefined g = wholeOf (cubicContour g) (roomOf (cubicBefore g))
+
+-- the report of a refusal shows its number and nothing else; else the points written
+abbrev pub CubicShows : D.Replaced → CubicReport → Type 0
+CubicShows (Replaced.Refused k) r = (r .number ≡ k) × (r .points ≡ 0)
+CubicShows (Replaced.Quads points) r = (r .number ≡ 0) × (r .points ≡ points)
 
 -- one contour, in rows of equal lengths
 pub record CubicAlike (g g' : CubicGiven) : Type 0 where

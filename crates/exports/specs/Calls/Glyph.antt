@@ -11,7 +11,7 @@ use Rattle.rows.specs.Rows.{work}
 use Rattle.rows.specs.Lent.{Lent, Shown}
 use Rattle.settings.specs.Settings.{settingsOf}
 use Rattle.settings.specs.declared.Settings.{Settings}
-use Rattle.glyf.specs.Layout.{Glyph, glyph, roomsOf}
+use Rattle.glyf.specs.Layout.{Glyph, glyph, roomsOf, Outcome, done, refused, readOf, writtenOf}
 use Rattle.glyfread.specs.Entry as Reading
 use Rattle.glyfwrite.specs.Entry as Writing
 use Rattle.glyphs.specs.Entry as Crunching
@@ -47,6 +47,16 @@ readGlyphRows g l = record {
 pub record ReadGlyphIs (g : ReadGlyphGiven) (l : ReadGlyphLeft) : Type 0 where
   pub shown : Shown readReport (Reading.Promise (g .bytes) (readGlyphRows g l)) (l .report)
 
+-- what the reader's definition gives, for what the caller gave
+abbrev pub readGlyphDefined : ReadGlyphGiven → Outcome Glyph
+readGlyphDefined g = readOf (roomsOf (glyph (g .ends) (g .xs) (g .ys) (g .flags) (g .instructions))) (g .bytes)
+
+-- the report of a refusal shows its number and nothing else; else how many contours, points and instruction bytes there are
+abbrev pub ReadGlyphShows : Outcome Glyph → GlyphReadReport → Type 0
+ReadGlyphShows (refused k) r = (r .number ≡ k) × (r .contours ≡ 0) × (r .points ≡ 0) × (r .instructions ≡ 0)
+ReadGlyphShows (done g) r =
+    (r .number ≡ 0) × (r .contours ≡ length (g .ends)) × (r .points ≡ length (g .flags)) × (r .instructions ≡ length (g .instructions))
+
 -- one description, in rows of equal lengths
 pub record ReadGlyphAlike (g g' : ReadGlyphGiven) : Type 0 where
   pub bytes : g .bytes ≡ g' .bytes
@@ -77,6 +87,15 @@ writeGlyphRow g l = record { entry = record { ptr = (0, 0); name = 0; now = g .o
 -- the writer's promise, for what the caller gave
 pub record WriteGlyphIs (g : WriteGlyphGiven) (l : WriteGlyphLeft) : Type 0 where
   pub shown : Shown writeReport (Writing.Promise (writeGlyphGlyph g) (writeGlyphRow g l)) (l .report)
+
+-- what the writer's definition gives, for what the caller gave
+abbrev pub writeGlyphDefined : WriteGlyphGiven → Outcome (List ℕ)
+writeGlyphDefined g = writtenOf (length (g .out)) (writeGlyphGlyph g)
+
+-- the report of a refusal shows its number and nothing else; else how many bytes are written, of a glyph that is written or crunched
+abbrev pub GlyphBytesShow : Outcome (List ℕ) → GlyphWriteReport → Type 0
+GlyphBytesShow (refused k) r = (r .number ≡ k) × (r .bytes ≡ 0)
+GlyphBytesShow (done bytes) r = (r .number ≡ 0) × (r .bytes ≡ length bytes)
 
 -- one glyph, in rows of equal length
 pub record WriteGlyphAlike (g g' : WriteGlyphGiven) : Type 0 where
@@ -141,6 +160,10 @@ crunchGlyphRows g l = record { entry = crunchGlyphBefore g; exit = crunchGlyphAf
 -- the promise of the entry that crunches a description, for what the caller gave
 pub record CrunchGlyphIs (g : CrunchGlyphGiven) (l : CrunchGlyphLeft) : Type 0 where
   pub shown : Shown writeReport (Crunching.Promise (g .bytes) (crunchGlyphSettings g) (crunchGlyphRows g l)) (l .report)
+
+-- what the definition of crunching a description gives, for what the caller gave
+abbrev pub crunchGlyphDefined : CrunchGlyphGiven → Outcome (List ℕ)
+crunchGlyphDefined g = Crunching.wholeOf (g .bytes) (crunchGlyphSettings g) (crunchGlyphBefore g)
 
 -- one order, in rows of equal lengths
 pub record CrunchGlyphAlike (g g' : CrunchGlyphGiven) : Type 0 where

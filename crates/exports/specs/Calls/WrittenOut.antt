@@ -6,8 +6,10 @@ use lib.IntN.{ℤ}
 use lib.ListN.{take}
 use Rattle.rows.specs.Lent.{Inputs, inputs, Shown}
 use Rattle.contour.specs.Output.{Outputs, outputs}
-use Rattle.explicit.specs.Entry.{Promise}
+use Rattle.explicit.specs.Entry.{roomOf, wholeOf, Promise}
 use Rattle.explicit.specs.Determine.{placesOf}
+use Rattle.explicit.specs.declared.Explicit as D
+use Rattle.explicit.specs.declared.Explicit.the-variants as Explicit
 use Rattle.exports.specs.WrittenOut as Reports
 use Rattle.exports.specs.declared.written_out.ExplicitReport.{ExplicitReport}
 
@@ -37,6 +39,15 @@ explicitAfter l = outputs (l .ox) (l .oy) (l .of)
 -- the promise of the entry that writes implied points out, for what the caller gave
 pub record ExplicitIs (g : ExplicitGiven) (l : ExplicitLeft) : Type 0 where
   pub shown : Shown Reports.report (Promise (explicitContour g) (record { entry = explicitBefore g; exit = explicitAfter l })) (l .report)
+
+-- what the entry's definition gives, for what the caller gave
+abbrev pub explicitDefined : ExplicitGiven → D.Explicit
+explicitDefined g = wholeOf (explicitContour g) (roomOf (explicitBefore g))
+
+-- the report of a refusal shows its number and nothing else; else the points written
+abbrev pub ExplicitShows : D.Explicit → ExplicitReport → Type 0
+ExplicitShows (Explicit.Refused k) r = (r .number ≡ k) × (r .points ≡ 0)
+ExplicitShows (Explicit.Points points) r = (r .number ≡ 0) × (r .points ≡ points)
 
 -- one contour, in rows of equal lengths
 pub record ExplicitAlike (g g' : ExplicitGiven) : Type 0 where
