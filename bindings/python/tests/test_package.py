@@ -83,6 +83,10 @@ class Version(Case):
     def test_of_the_shared_library(self):
         self.assertIn(f"\0libfontcrunch.so.{self.version.split('.')[0]}\0".encode(), _entries.library_file().read_bytes())
 
+    def test_of_the_pages(self):
+        for name, pattern in (("README.md", r"one version, (\S+):"), ("bindings/python/README.md", r"fontcrunch-([\d.]+)-py3")):
+            self.assertEqual(re.search(pattern, (TOP / name).read_text())[1], self.version, name)
+
     def test_of_the_changes(self):
         self.assertEqual(re.search(r"^## (\d\S*)$", (TOP / "CHANGELOG.md").read_text(), re.M)[1], self.version)
 
