@@ -13,7 +13,7 @@ from fontTools.ttLib.tables import _g_l_y_f, otTraverse
 
 from ._contours import Settings
 from ._glyphs import Glyph, crunch_glyph, read_glyph, write_glyph
-from ._idle import without_idle_controls
+from ._controls import without_idle_controls
 from ._refusal import Refused
 from ._uploads import explicit
 

@@ -4,7 +4,7 @@ import unittest
 import xml.etree.ElementTree
 
 import fontcrunch
-from fontcrunch._idle import without_idle_controls
+from fontcrunch._controls import without_idle_controls
 from fontcrunch._picture import drawn
 
 from .common import Case, points
