@@ -44,12 +44,13 @@ alone is no entry of the library and outside the proofs. `prepared` does these t
 `crunch`, `editions`, `crunch_glyph` and `crunch_glif` before they crunch, where prepare is true.
 
 Glyphs. `read_glyph` and `write_glyph` take OpenType's simple glyph descriptions, bytes, to a Glyph and back;
-`crunch_glyph` crunches one, bytes in and bytes out, with explicit=True after writing out implied points. `read_glif`, `write_glif` and `crunch_glif` do the same for files of UFO's
-GLIF, whose other bytes stay as they are.
+`crunch_glyph` crunches one, bytes in and bytes out, with explicit=True after writing out implied points. `read_glif`,
+`write_glif` and `crunch_glif` do the same for files of UFO's GLIF, whose other bytes stay as they are.
 
 Editions. `editions` crunches a contour at two penalties from one sampling.
 
-Fonts. `python3 -m fontcrunch IN.ttf OUT.ttf` crunches a whole font, and `fontcrunch.pens` has pens; both are of use with fontTools, which the rest does not need.
+Fonts. `python3 -m fontcrunch IN.ttf OUT.ttf` crunches a whole font, by way of fontTools, which nothing else needs.
+`fontcrunch.pens` has pens for users of fontTools and ufoLib.
 
 Threads. Every function may be called in any thread. The library works outside Python's lock, so that threads do work at
 the same time; answers do not depend on them.

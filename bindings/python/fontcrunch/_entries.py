@@ -10,6 +10,7 @@ from __future__ import annotations
 import ctypes
 import os
 import pathlib
+import sys
 from typing import Any
 
 from ._refusal import Refused
@@ -112,7 +113,14 @@ def _entries() -> dict[str, Any]:
     return {name: _entry(library, name) for name in SIGNATURES}
 
 
-_ENTRIES = _entries()
+try:
+    _ENTRIES = _entries()
+except (ImportError, OSError) as error:
+    # so sys.argv begins while Python looks for the module that `python3 -m` names: a command says what is wrong in a line
+    if sys.argv[:1] != ["-m"]:
+        raise
+    print(f"fontcrunch: {error}", file=sys.stderr)
+    raise SystemExit(2) from None
 
 
 def told(name: str, *values: Any) -> Any:

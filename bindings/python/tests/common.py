@@ -75,12 +75,19 @@ def model(folder):
     return module
 
 
-def needs_fonttools(case):
-    """A class of tests that is passed over where fontTools is missing, which is said."""
-    if importlib.util.find_spec("fontTools"):
-        return case
-    print(f"{case.__module__}.{case.__name__} is passed over: fontTools is missing (Debian's python3-fonttools)", file=sys.stderr)
-    return unittest.skip("fontTools is missing")(case)
+def needs(found, what):
+    """A class of tests that is passed over where something is missing, which is said in a line."""
+
+    def around(case):
+        if found:
+            return case
+        print(f"{case.__module__}.{case.__name__} is passed over: {what} is missing", file=sys.stderr)
+        return unittest.skip(f"{what} is missing")(case)
+
+    return around
+
+
+needs_fonttools = needs(importlib.util.find_spec("fontTools"), "fontTools (Debian's python3-fonttools)")
 
 
 class Case(unittest.TestCase):

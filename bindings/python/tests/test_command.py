@@ -58,6 +58,12 @@ class Words(Command):
             self.assert_wrong("from 1 to 256", f"--penalty={number}", "a", "b")
             self.assert_wrong("from 1 to 256", f"--jobs={number}", "a", "b")
 
+    def test_without_the_library(self):
+        done = subprocess.run([sys.executable, "-m", "fontcrunch", "a.ttf", "b.ttf"], capture_output=True, text=True,
+                              env={**os.environ, "PYTHONPATH": MODULE, "FONTCRUNCH_LIB_DIR": str(self.folder)})
+        self.assertEqual((done.returncode, done.stdout, len(done.stderr.splitlines())), (2, "", 1), done.stderr)
+        self.assertTrue(done.stderr.startswith("fontcrunch: there is no libfontcrunch.so in "), done.stderr)
+
     def test_without_fonttools(self):
         (self.folder / "fontTools.py").write_text("raise ImportError\n")
         around = {**os.environ, "PYTHONPATH": f"{self.folder}{os.pathsep}{MODULE}"}

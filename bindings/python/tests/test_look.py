@@ -10,7 +10,7 @@ import unittest
 import fontcrunch
 from fontcrunch import Settings
 
-from .common import TOP, Case, letter, points
+from .common import TOP, Case, letter, needs, points
 
 
 def loaded():
@@ -41,8 +41,10 @@ class Drawn(Case):
         self.assertIn((50.0, 50.0), places)
         self.assertEqual(len(places), 2 + self.look.PARTS - 1)
 
-    @unittest.skipUnless(shutil.which("rt"), "the kit is missing")
-    def test_the_letter(self):
+
+@needs(shutil.which("rt"), "the kit")
+class Letter(Case):
+    def test_before_and_after(self):
         done = subprocess.run([sys.executable, TOP / "tools/look"], capture_output=True, text=True)
         self.assertEqual((done.returncode, done.stderr), (0, ""))
         lines = done.stdout.splitlines()
@@ -50,7 +52,8 @@ class Drawn(Case):
         after = [fontcrunch.crunch(contour, Settings(16, closed=True)).points for contour in letter()]
         counts = [sum(map(len, side)) for side in (letter(), after)]
         self.assertEqual(lines[1].split(), f"{counts[0]} points before {counts[1]} points after".split())
-        self.assertEqual(len(lines), 3 + self.look.ROWS)
+        self.assertEqual(lines[-1], "with its points: build/look.svg")
+        self.assertTrue(all(set(line) <= set(" ▀▄█'.#") for line in lines[2:-1]))
         self.assertIn("<svg ", (TOP / "build/look.svg").read_text())
 
 

@@ -13,7 +13,7 @@ import zipfile
 import fontcrunch
 from fontcrunch import _entries
 
-from .common import TOP, Case
+from .common import TOP, Case, needs
 
 
 # asked of a process of its own, since setuptools changes the one that imports it
@@ -24,11 +24,9 @@ except ImportError:
     import wheel.bdist_wheel
 import pip"""
 CAN_BUILD = subprocess.run([sys.executable, "-c", NEEDED], capture_output=True).returncode == 0
-if not CAN_BUILD:
-    print("tests.test_package.Wheel is passed over: pip, setuptools or wheel is missing", file=sys.stderr)
 
 
-@unittest.skipUnless(CAN_BUILD, "pip, setuptools or wheel is missing")
+@needs(CAN_BUILD, "pip, setuptools or wheel")
 class Wheel(Case):
     def built(self, folder):
         """The wheel, built of a copy, so that nothing is left in the tree."""
@@ -84,6 +82,10 @@ class Version(Case):
 
     def test_of_the_shared_library(self):
         self.assertIn(f"\0libfontcrunch.so.{self.version.split('.')[0]}\0".encode(), _entries.library_file().read_bytes())
+
+    def test_of_the_pages(self):
+        for name, pattern in (("README.md", r"one version, (\S+):"), ("bindings/python/README.md", r"fontcrunch-([\d.]+)-py3")):
+            self.assertEqual(re.search(pattern, (TOP / name).read_text())[1], self.version, name)
 
     def test_of_the_changes(self):
         self.assertEqual(re.search(r"^## (\d\S*)$", (TOP / "CHANGELOG.md").read_text(), re.M)[1], self.version)
