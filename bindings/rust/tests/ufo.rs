@@ -601,6 +601,10 @@ fn killed_in_place_no_glyph_is_crunched_twice() {
             assert!(bytes == whole[&place] || bytes == before[&place], "{place:?}");
         }
     }
+    // a copy of what is half done says so, and has no journal
+    let (_, messages, _) = told(&at, &["ufo", "A.ufo", "-o", "C.ufo"]);
+    assert!(messages.contains("glyphs/.fontcrunch-journal: was left by a call in place"), "{messages}");
+    assert_eq!(ours(&at.join("C.ufo/glyphs")), 0);
     told(&at, &words);
     assert_eq!(held(&at.join("A.ufo")), whole);
     assert_eq!(ours(&at.join("A.ufo/glyphs")), 0);
@@ -666,12 +670,13 @@ fn a_journal_of_other_settings_or_bytes_counts_for_nothing() {
     told(&at, &["ufo", "A.ufo", "-o", "whole.ufo", "--penalty=20"]);
     for journal in ["", "x", "fontcrunch 0\n6 6 6\n", "\u{0}\n\n"] {
         fs::create_dir_all(at.join("B.ufo/glyphs")).unwrap();
+        fs::write(at.join("B.ufo/.fontcrunch-2-2.tmp"), "half").unwrap();
         fs::write(at.join("B.ufo/glyphs/.fontcrunch-journal"), journal).unwrap();
         fs::write(at.join("B.ufo/glyphs/.fontcrunch-1-1.tmp"), "half").unwrap();
         let (out, _, _) = told(&at, &["ufo", "A.ufo", "-o", "B.ufo", "--penalty=20"]);
         assert!(!out.contains("earlier"), "{out}");
         assert_eq!(held(&at.join("B.ufo")), held(&at.join("whole.ufo")));
-        assert_eq!(ours(&at.join("B.ufo/glyphs")), 0);
+        assert_eq!((ours(&at.join("B.ufo")), ours(&at.join("B.ufo/glyphs"))), (0, 0));
     }
 }
 

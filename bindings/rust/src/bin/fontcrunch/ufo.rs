@@ -7,12 +7,13 @@ use std::io::{self, Read};
 use std::path::{Component, Path, PathBuf};
 
 use crate::arguments::FilesJob;
-use crate::beside::{Beside, OURS};
+use crate::beside::{remove_temporary, Beside, OURS};
+use crate::interrupt;
 use crate::look::xml::line_and_column;
 use crate::plist;
 use crate::service::{complain, Status};
 use crate::summary;
-use crate::whole::{self, set_mode, Item};
+use crate::whole::{self, set_mode, Item, Journals, Outcomes};
 
 /// The folder of the default layer, in every format of UFO.
 const LAYER: &str = "glyphs";
@@ -42,23 +43,34 @@ struct Plan {
 }
 
 fn done(plan: &Plan, from: &Path, job: &FilesJob) -> Status {
+    interrupt::goes_on();
     let mut wrong = plan.wrong.clone();
-    let mut stopped = None;
-    if let Some(out) = &job.out {
-        stopped = copied(plan, from, out, &mut wrong, |path| path != Path::new(LAST)).err();
-    }
-    let mut outcomes = match &stopped {
-        None => whole::work(&plan.items, job),
-        Some(_) => whole::Outcomes { each: plan.items.iter().map(|_| None).collect(), stopped: None },
-    };
-    if let (Some(out), None) = (&job.out, outcomes.stopped.as_ref().or(stopped.as_ref())) {
-        stopped = copied(plan, from, out, &mut wrong, |path| path == Path::new(LAST))
-            .and_then(|()| modes(plan, from, out))
-            .err();
-    }
-    outcomes.stopped = outcomes.stopped.or(stopped);
+    let outcomes = worked(plan, from, job, &mut wrong).unwrap_or_else(|why| Outcomes::none(&plan.items, why));
     let told = summary::Told { what: "glyph", wrong, notes: plan.notes.clone() };
     summary::tell(job, &plan.items, &outcomes, told)
+}
+
+/// An error is that nothing could be done.
+fn worked(plan: &Plan, from: &Path, job: &FilesJob, wrong: &mut Vec<String>) -> Result<Outcomes, String> {
+    if let Some(out) = &job.out {
+        make_folders(plan, out)?;
+    }
+    let journals = Journals::open(&plan.items, &job.recipe)?;
+    if let Some(out) = &job.out {
+        plan.folders.iter().for_each(|place| remove_temporary(&out.join(place)));
+        remove_temporary(out);
+        copy_others(plan, from, out, wrong, |path| path != Path::new(LAST))?;
+    }
+    let mut outcomes = whole::work(&plan.items, job, &journals);
+    if outcomes.stopped.is_some() {
+        return Ok(outcomes);
+    }
+    if let Some(out) = &job.out {
+        let ended = copy_others(plan, from, out, wrong, |path| path == Path::new(LAST));
+        outcomes.stopped = ended.and_then(|()| set_modes(plan, from, out)).err();
+    }
+    journals.remove();
+    Ok(outcomes)
 }
 
 // ---- the plan
@@ -86,6 +98,11 @@ fn planned(from: &Path, out: Option<&Path>) -> Result<Plan, Vec<String>> {
     if let Some(out) = out {
         apart(from, out).map_err(one)?;
         nothing_else(&tree, from, out).map_err(one)?;
+        if let Some(left) = tree.ours.first() {
+            let note =
+                "was left by a call in place, which --in-place goes on with: some glyphs here are crunched";
+            plan.notes.push(format!("{}: {note}", from.join(left).display()));
+        }
     }
     let glyphs = glyphs(&layer, &tree, &mut plan).map_err(one)?;
     let written = out.unwrap_or(from).join(LAYER);
@@ -194,8 +211,7 @@ fn nothing_else(tree: &Tree, from: &Path, out: &Path) -> Result<(), String> {
     there.walk(out, Path::new("")).map_err(|error| format!("{}: {error}", out.display()))?;
     let files: HashSet<&PathBuf> = tree.files.iter().collect();
     let folders: HashSet<&PathBuf> = tree.folders.iter().collect();
-    let ours = |path: &Path| file_of(path).as_os_str().as_encoded_bytes().starts_with(OURS.as_bytes());
-    let other_file = there.files.iter().find(|path| !files.contains(path) && !ours(path));
+    let other_file = there.files.iter().find(|path| !files.contains(path));
     let other = other_file.or_else(|| there.folders.iter().find(|path| !folders.contains(path)));
     match other {
         None => Ok(()),
@@ -224,6 +240,8 @@ struct Tree {
     links: Links,
     files: Vec<PathBuf>,
     folders: Vec<PathBuf>,
+    /// What is left of a call that was interrupted.
+    ours: Vec<PathBuf>,
     wrong: Vec<String>,
     /// The folders on the way, so that a link does not lead round.
     way: Vec<PathBuf>,
@@ -245,7 +263,11 @@ impl Tree {
             fs::read_dir(&folder)?.map(|entry| Ok(entry?.file_name())).collect::<io::Result<Vec<_>>>()?;
         names.sort();
         for name in names {
-            self.take(root, place.join(name))?;
+            if name.as_encoded_bytes().starts_with(OURS.as_bytes()) {
+                self.ours.push(place.join(name));
+            } else {
+                self.take(root, place.join(name))?;
+            }
         }
         self.way.pop();
         Ok(())
@@ -274,23 +296,27 @@ impl Tree {
 
 // ---- copies
 
-/// The folders, and of the other files those that are asked for. A file that cannot be read is told and left out; where
-/// nothing can be written, that ends it.
-fn copied(
+fn unwritten(path: &Path, error: io::Error) -> String {
+    format!("{}: {error}", path.display())
+}
+
+fn make_folders(plan: &Plan, out: &Path) -> Result<(), String> {
+    fs::create_dir_all(out).map_err(|error| unwritten(out, error))?;
+    for folder in plan.folders.iter().map(|place| out.join(place)).filter(|folder| !folder.is_dir()) {
+        fs::create_dir(&folder).map_err(|error| unwritten(&folder, error))?;
+    }
+    Ok(())
+}
+
+/// Of the other files those that are asked for. One that cannot be read is told and left out; where nothing can be
+/// written, that ends it.
+fn copy_others(
     plan: &Plan,
     from: &Path,
     out: &Path,
     wrong: &mut Vec<String>,
     asked: impl Fn(&Path) -> bool,
 ) -> Result<(), String> {
-    let unwritten = |path: &Path, error: io::Error| format!("{}: {error}", path.display());
-    fs::create_dir_all(out).map_err(|error| unwritten(out, error))?;
-    for place in &plan.folders {
-        let folder = out.join(place);
-        if !folder.is_dir() {
-            fs::create_dir(&folder).map_err(|error| unwritten(&folder, error))?;
-        }
-    }
     for place in plan.others.iter().filter(|place| asked(place)) {
         let (read, written) = (from.join(place), out.join(place));
         match File::open(&read) {
@@ -341,7 +367,7 @@ fn same(a: &mut File, b: &mut File) -> io::Result<bool> {
 }
 
 /// The folders get the modes that they have, from the innermost on, when all is in them.
-fn modes(plan: &Plan, from: &Path, out: &Path) -> Result<(), String> {
+fn set_modes(plan: &Plan, from: &Path, out: &Path) -> Result<(), String> {
     let root = PathBuf::new();
     for place in plan.folders.iter().rev().chain([&root]) {
         let folder = out.join(place);
@@ -362,7 +388,17 @@ pub fn run_files(job: &FilesJob) -> Status {
             Status::Wrong
         }
         Ok(items) => {
-            let outcomes = whole::work(&items, job);
+            interrupt::goes_on();
+            let outcomes = match Journals::open(&items, &job.recipe) {
+                Err(why) => Outcomes::none(&items, why),
+                Ok(journals) => {
+                    let outcomes = whole::work(&items, job, &journals);
+                    if outcomes.stopped.is_none() {
+                        journals.remove();
+                    }
+                    outcomes
+                }
+            };
             summary::tell(job, &items, &outcomes, summary::Told { what: "file", ..Default::default() })
         }
     }

@@ -13,7 +13,6 @@ use fontcrunch::Cruncher;
 
 use crate::arguments::FilesJob;
 use crate::beside::{self, folder_of, Beside};
-use crate::interrupt;
 use crate::journal::{Journal, Line};
 use crate::recipe::{Became, Points, Recipe};
 use crate::sha256;
@@ -62,17 +61,18 @@ pub struct Outcomes {
 /// Where nothing more can be written, the work is given up.
 struct GivenUp(String);
 
-/// The journals of the folders that are written to.
-struct Journals(HashMap<PathBuf, Journal>);
+/// The journals of the folders that are written to: as long as they are held, no other call works there.
+pub struct Journals(HashMap<PathBuf, Journal>);
 
 impl Journals {
-    fn open(items: &[Item], recipe: &Recipe) -> Result<Journals, GivenUp> {
+    /// A folder that is not there has none: what is to be read there is not there either.
+    pub fn open(items: &[Item], recipe: &Recipe) -> Result<Journals, String> {
         let mut journals = HashMap::new();
         for item in items {
             let folder = folder_of(&item.to);
-            if !journals.contains_key(folder) {
+            if !journals.contains_key(folder) && folder.is_dir() {
                 let journal = Journal::open(folder, recipe)
-                    .map_err(|error| GivenUp(format!("{}: {error}", folder.display())))?;
+                    .map_err(|error| format!("{}: {error}", folder.display()))?;
                 journals.insert(folder.to_owned(), journal);
             }
         }
@@ -83,7 +83,8 @@ impl Journals {
         self.0.get(folder_of(&item.to))
     }
 
-    fn remove(self) {
+    /// The call is whole.
+    pub fn remove(self) {
         for (folder, journal) in self.0 {
             journal.remove();
             beside::sync_folder(&folder);
@@ -91,25 +92,23 @@ impl Journals {
     }
 }
 
-/// Does them all. The folders that they are written to are there.
-pub fn work(items: &[Item], job: &FilesJob) -> Outcomes {
-    interrupt::goes_on();
+impl Outcomes {
+    /// Where the work was given up before the first.
+    pub fn none(items: &[Item], stopped: String) -> Outcomes {
+        Outcomes { each: items.iter().map(|_| None).collect(), stopped: Some(stopped) }
+    }
+}
+
+/// Does them all.
+pub fn work(items: &[Item], job: &FilesJob, journals: &Journals) -> Outcomes {
     let mut outcomes = Outcomes { each: items.iter().map(|_| None).collect(), stopped: None };
-    let journals = match Journals::open(items, &job.recipe) {
-        Ok(journals) => journals,
-        Err(GivenUp(why)) => {
-            outcomes.stopped = Some(why);
-            return outcomes;
-        }
-    };
     let next = AtomicUsize::new(0);
     let stop = AtomicBool::new(false);
     thread::scope(|scope| {
         let (sender, done) = channel();
         for _ in 0..job.jobs.min(items.len()) {
-            let line =
-                Belt { items, job, journals: &journals, next: &next, stop: &stop, done: sender.clone() };
-            scope.spawn(move || line.work_off());
+            let belt = Belt { items, job, journals, next: &next, stop: &stop, done: sender.clone() };
+            scope.spawn(move || belt.work_off());
         }
         drop(sender);
         let mut progress = Progress::new(items.len(), job.quiet);
@@ -122,9 +121,6 @@ pub fn work(items: &[Item], job: &FilesJob) -> Outcomes {
         }
         progress.end();
     });
-    if outcomes.stopped.is_none() {
-        journals.remove();
-    }
     outcomes
 }
 
