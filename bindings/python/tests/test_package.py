@@ -81,7 +81,8 @@ class Version(Case):
             self.assertEqual(re.search(r'name = "fontcrunch"\nversion = "([^"]*)"', text)[1], self.version, name)
 
     def test_of_the_shared_library(self):
-        self.assertIn(f"\0libfontcrunch.so.{self.version.split('.')[0]}\0".encode(), _entries.library_file().read_bytes())
+        name = f"libfontcrunch.so.{self.version.split('.')[0]}"
+        self.assertTrue(f"\0{name}\0".encode() in _entries.library_file().read_bytes(), f"the shared library is not named {name}")
 
     def test_of_the_pages(self):
         for name, pattern in (("README.md", r"one version, (\S+):"), ("bindings/python/README.md", r"fontcrunch-([\d.]+)-py3")):
