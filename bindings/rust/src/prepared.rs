@@ -27,7 +27,7 @@ impl Cruncher {
     /// ```
     /// use fontcrunch::{Cruncher, Point, Settings};
     ///
-    /// let mut closed = Cruncher::new(Settings { closed: true, ..Settings::default() });
+    /// let mut closed = Cruncher::new(Settings::default().with_closed(true));
     /// // starts off-curve, and has a repeated point
     /// let contour = [Point::off(50, 100), Point::on(0, 0), Point::on(0, 0), Point::on(100, 0)];
     /// let crunched = closed.prepared(&contour)?;

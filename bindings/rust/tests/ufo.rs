@@ -165,7 +165,7 @@ fn glyphs_are_crunched_kept_or_refused_and_the_rest_is_copied() {
 
 /// The entries, called one by one.
 fn by_entries(bytes: &[u8]) -> Option<Vec<u8>> {
-    let mut cruncher = Cruncher::new(Settings { closed: true, ..Settings::default() });
+    let mut cruncher = Cruncher::new(Settings::default().with_closed(true));
     let contours = glif::read(bytes).ok()?;
     let made: Vec<Vec<Point>> = contours
         .iter()
@@ -281,7 +281,7 @@ fn cubic_files_are_taken_where_that_is_asked_for() {
         Point::on(0, 0),
     ];
     let quads = fontcrunch::from_cubics(&points).unwrap();
-    let mut cruncher = Cruncher::new(Settings { closed: true, ..Settings::default() });
+    let mut cruncher = Cruncher::new(Settings::default().with_closed(true));
     let crunched = cruncher.crunch(&quads).unwrap().points;
     let alone = format!("<glyph><outline><contour><point x=\"0\"{}", rest);
     assert_eq!(glif::read(alone.as_bytes()).unwrap(), [fontcrunch::explicit(&crunched).unwrap()]);

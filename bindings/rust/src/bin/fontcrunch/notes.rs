@@ -60,7 +60,7 @@ mod tests {
     fn told(closed: bool, numbers: &[i16]) -> Vec<String> {
         let points: Vec<Point> =
             numbers.chunks(3).map(|p| Point { x: p[0], y: p[1], on_curve: p[2] == 1 }).collect();
-        let mut cruncher = Cruncher::new(Settings { closed, ..Settings::of_crate() });
+        let mut cruncher = Cruncher::new(Settings::of_crate().with_closed(closed));
         let after = cruncher.crunch(&points).unwrap().points;
         of(&mut cruncher, &points, &after)
     }

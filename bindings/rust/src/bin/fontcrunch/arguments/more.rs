@@ -133,7 +133,7 @@ impl MoreChosen {
     /// For files that go to files: closed, prepared, and kept unless fewer, where nothing else is said.
     pub fn recipe(&self, settings: Settings) -> Recipe {
         Recipe {
-            settings: Settings { closed: self.closed.unwrap_or(true), ..settings },
+            settings: settings.with_closed(self.closed.unwrap_or(true)),
             prepare: self.prepare.unwrap_or(true),
             keep: self.keep.unwrap_or(true),
             cubic: self.cubic,

@@ -310,7 +310,7 @@ fn help_is_a_word_too() {
 
 #[test]
 fn whole_files_are_closed_prepared_and_kept_unless_fewer() {
-    let closed = Settings { closed: true, ..Settings::default() };
+    let closed = Settings::default().with_closed(true);
     let usual = Recipe { settings: closed, prepare: true, keep: true, cubic: false };
     let ufo = files(&["ufo", "a.ufo", "-o", "b.ufo"]);
     assert_eq!(

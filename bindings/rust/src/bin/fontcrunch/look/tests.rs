@@ -7,7 +7,7 @@ fn points(numbers: &[i16]) -> Vec<Point> {
 }
 
 fn cruncher(whole_units: bool) -> Cruncher {
-    Cruncher::new(Settings { whole_units, closed: true, ..Settings::of_crate() })
+    Cruncher::new(Settings::of_crate().with_whole_units(whole_units).with_closed(true))
 }
 
 /// What is seen of a contour that is refused.
