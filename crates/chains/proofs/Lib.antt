@@ -1,5 +1,8 @@
 -- What the proofs share.
 mod Spans
 mod Steps
+mod Solved
 pub mod Good
 pub mod Own
+pub mod Points
+pub mod Controls

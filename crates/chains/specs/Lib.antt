@@ -6,3 +6,5 @@ pub mod Entry
 pub mod Steps
 pub mod Good
 pub mod Own
+pub mod Points
+pub mod Controls
