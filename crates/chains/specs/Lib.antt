@@ -7,3 +7,5 @@ pub mod Steps
 pub mod Good
 pub mod Own
 pub mod Replaced
+pub mod Points
+pub mod Controls

@@ -11,6 +11,7 @@ use lib.Pow.{pow-pos}
 use lib.IntN.{pos, negsuc}
 use lib.Ieee.{Float, binary64, fits, add, ofBits}
 use lib.Ieee.Fits.{add-fits}
+use Rattle.float.specs.Numbers.{four}
 use Rattle.float.specs.Float.{rootOf}
 use Rattle.float.proofs.NotNegative.{NotNegative, add-plus, mul-plus, squares-plus, less-finite}
 use Rattle.float.proofs.Nearly.{
@@ -38,7 +39,7 @@ use Rattle.arclen.specs.Arclen.{tenth, arclenFunctorOf, speedOf}
 use Rattle.arclen.specs.Stages.{timeAt}
 use Rattle.arclen.specs.declared.ArclenFunctor.{ArclenFunctor}
 use Rattle.measure.specs.Early.{Shows}
-use Rattle.measure.specs.Ahead.{four, nearlyTwo, mostSquare, squareAt, WellBefore, EvenStep, Even}
+use Rattle.measure.specs.Ahead.{nearlyTwo, mostSquare, squareAt, WellBefore, EvenStep, Even}
 use Rattle.measure.proofs.Ahead.{least-is, speck-some, Fast, Least, NoLonger, Share, own-share, within, Shares, Factor, seen-by}
 
 -- ---- one step more

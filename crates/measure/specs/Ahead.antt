@@ -6,7 +6,7 @@ use mathlib.Core.List.{List}
 use lib.ListN.{length}
 use lib.IntN.{pos}
 use lib.Ieee.{Float, binary64, add, sub, mul, lt, le, ofInt, ofBits}
-use Rattle.float.specs.Numbers.{nought}
+use Rattle.float.specs.Numbers.{nought, four}
 use Rattle.geometry.specs.Geometry.{squareNormOf}
 use Rattle.arclen.specs.Rk4.{halfOf}
 use Rattle.arclen.specs.Arclen.{tenth, derivOf}
@@ -30,8 +30,6 @@ pub record WellBefore (row : List (List Float)) (s0 s1 factor : Float) : Type 0 
   pub before-end : lt (add binary64 s0 (mul binary64 factor (sub binary64 s1 s0))) (ofInt binary64 (pos (length row - 1))) ≡ true
 
 -- ---- how the speed changes
-abbrev pub four : Float
-four = ofBits binary64 0x4010_0000_0000_0000
 
 -- 31 / 16
 abbrev pub nearlyTwo : Float
