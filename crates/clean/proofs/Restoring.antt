@@ -10,13 +10,16 @@ use lib.Dec.{eqb, leb, ltb}
 use lib.IntN.{ℤ}
 use lib.ListN.{length, getD, set, take, drop, length-map, List·getD-map}
 use lib.Seq.{take-all, take-at, drop-cons, drop-length}
+use denote.Triple.Both.{Both}
 use Rattle.refusals.specs.Refusals.{rowsDiffer, noPoint}
-use Rattle.rows.specs.Lent.{inputs}
+use Rattle.rows.specs.Lent.{Inputs, inputs}
 use Rattle.rows.proofs.Filled.{Filled, more, filled}
 use Rattle.contour.specs.Output.{Outputs, outputs}
 use Rattle.clean.specs.Clean.{upFrom}
 use Rattle.clean.specs.PutBack.{numberOf, whyOf, insertAt, restored, putBack, markFor, copiedSpot, keptSpot, bitBy, spotsOf}
-use Rattle.clean.specs.Entry.{spotsInto, PutPromise}
+use Rattle.clean.specs.Entry.{spotsInto, outputRoom, PutReport, putRefusing, putting, putReport, orRefuse, restoredOf, putValuesOf, leftBack}
+use Rattle.clean.specs.Entry.{PutPromise}
+use Rattle.clean.specs.declared.Restored as R
 use Rattle.clean.specs.declared.Restored.the-variants.{Refused, Points}
 use Rattle.clean.specs.Determine.{length-up}
 use Rattle.clean.proofs.Inserting.{insert-end}
@@ -124,6 +127,30 @@ pub spots-are : (n : ℕ) (list : List (List ℕ)) {kept row : List (List ℕ)} 
 unfolding spotsOf
 spots-are n list all first = rw (all, first)
 
+abbrev refused : ℕ → Bool → R.Restored → R.Restored
+refused = orRefuse Refused Points
+
+abbrev number : ℕ → Bool → PutReport → PutReport
+number = orRefuse putRefusing putting
+
+report-so : (s t u v : Bool) (n : ℕ) →
+    putReport (refused 1 s (refused 2 t (refused 3 u (refused 9 v (Points n))))) ≡ number 1 s (number 2 t (number 3 u (number 9 v (putting n))))
+report-so true t u v n = refl
+report-so false true u v n = refl
+report-so false false true v n = refl
+report-so false false false true n = refl
+report-so false false false false n = refl
+
+report-back : (i : Inputs) (drops room : ℕ) → putReport (restoredOf i drops room) ≡ putValuesOf i drops room
+report-back (inputs xs ys fs) drops room =
+    let n = length fs in
+    report-so (rowsDiffer (length xs) (length ys) n) (noPoint n) (ltb 1024 (n + drops)) (ltb room (n + drops)) (n + drops)
+
+-- the documents' values are those of the answer
+back : {i : Inputs} {list : List (List ℕ)} {w : Both Outputs Outputs} {r : R.Restored} → r ≡ restoredOf i (length list) (outputRoom (w .entry)) →
+    w .exit ≡ leftBack r i list (w .entry) → PutPromise i list w r
+back {i} {list} {w} e left = record { answer = e; values = ap putReport e ∙ report-back i (length list) (outputRoom (w .entry)); left = left }
+
 module _ (xs ys : List ℤ) (fs : List ℕ) (list : List (List ℕ)) (ox oy : List ℤ) (of : List ℕ) where
   abbrev lent-out : Outputs
   lent-out = outputs ox oy of
@@ -133,21 +160,21 @@ module _ (xs ys : List ℤ) (fs : List ℕ) (list : List (List ℕ)) (ox oy : Li
 
   module _ {t : Bool} (uneven : t ≡ rowsDiffer (length xs) (length ys) (length fs)) where
     pub put-1 : t ≡ true → Refuses 1
-    put-1 h = record { answer = rw (← uneven, h); left = refl }
+    put-1 h = back (rw (← uneven, h)) refl
 
     module _ (even : t ≡ false) {u : Bool} (empty : u ≡ noPoint (length fs)) where
       pub put-2 : u ≡ true → Refuses 2
-      put-2 h = record { answer = rw (← uneven, even, ← empty, h); left = refl }
+      put-2 h = back (rw (← uneven, even, ← empty, h)) refl
 
       module _ (some : u ≡ false) {v : Bool} (many : v ≡ ltb 1024 (length fs + length list)) where
         pub put-3 : v ≡ true → Refuses 3
-        put-3 h = record { answer = rw (← uneven, even, ← empty, some, ← many, h); left = refl }
+        put-3 h = back (rw (← uneven, even, ← empty, some, ← many, h)) refl
 
         module _ (few : v ≡ false) {m n : ℕ} (two : m ≡ min (length ox) (length oy)) (three : n ≡ min m (length of)) where
           pub put-9 : n < length fs + length list → Refuses 9
           put-9 h =
               let short : ltb (min (min (length ox) (length oy)) (length of)) (length fs + length list) ≡ true = rw (← two, ← three) (lt-ltb n (length fs + length list) h) in
-              record { answer = rw (← uneven, even, ← empty, some, ← many, few, short); left = refl }
+              back (rw (← uneven, even, ← empty, some, ← many, few, short)) refl
 
           pub put-fits : length fs + length list ≤ n →
               (length fs + length list ≤ 1024) × (length fs + length list ≤ length ox) × (length fs + length list ≤ length oy) × (length fs + length list ≤ length of)
@@ -159,7 +186,7 @@ module _ (xs ys : List ℤ) (fs : List ℕ) (list : List (List ℕ)) (ox oy : Li
               PutPromise (inputs xs ys fs) list (record { entry = lent-out; exit = outputs ox' oy' of' }) (Points (length fs + length list))
           put-done h e =
               let fits : ltb (min (min (length ox) (length oy)) (length of)) (length fs + length list) ≡ false = rw (← two, ← three) (le-ltb n (length fs + length list) h) in
-              record { answer = rw (← uneven, even, ← empty, some, ← many, few, fits); left = e }
+              back (rw (← uneven, even, ← empty, some, ← many, few, fits)) e
 
 over-is : (n m : ℕ) (t : Bool) → n ≤ 1024 → ltb (1024 - n) m ≡ t → t ≡ ltb 1024 (n + m)
 over-is n m true h e = let g = ltb-true (1024 - n) m e in sym (lt-ltb 1024 (n + m) (omega arith))

@@ -67,7 +67,10 @@ abbrev countsOf : D.Cleaned → ℕ → ℕ → Type 0
 countsOf (Cleaned.Refused k) a b = Unit {0}
 countsOf (Cleaned.Points n m) a b = (n ≡ a) × (m ≡ b)
 
-counted : (s t : Bool) (a b : ℕ) → countsOf (refuseIf 18 s (refuseIf 9 t (Cleaned.Points a b))) a b
+abbrev refused : ℕ → Bool → D.Cleaned → D.Cleaned
+refused = refuseIf Cleaned.Refused Cleaned.Points
+
+counted : (s t : Bool) (a b : ℕ) → countsOf (refused 18 s (refused 9 t (Cleaned.Points a b))) a b
 counted true t a b = tt
 counted false true a b = tt
 counted false false a b = (refl, refl)
@@ -162,7 +165,10 @@ abbrev totalOf : R.Restored → ℕ → Type 0
 totalOf (Restored.Refused k) n = Unit {0}
 totalOf (Restored.Points m) n = m ≡ n
 
-totals : (s t u v : Bool) (n : ℕ) → totalOf (orRefuse 1 s (orRefuse 2 t (orRefuse 3 u (orRefuse 9 v (Restored.Points n))))) n
+abbrev unless : ℕ → Bool → R.Restored → R.Restored
+unless = orRefuse Restored.Refused Restored.Points
+
+totals : (s t u v : Bool) (n : ℕ) → totalOf (unless 1 s (unless 2 t (unless 3 u (unless 9 v (Restored.Points n))))) n
 totals true t u v n = tt
 totals false true u v n = tt
 totals false false true v n = tt

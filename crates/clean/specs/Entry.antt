@@ -51,17 +51,58 @@ listRoom (rows o list) = length list
 
 -- ---- the answer
 
-abbrev pub refuseIf : ℕ → Bool → D.Cleaned → D.Cleaned
-refuseIf k true later = Cleaned.Refused k
-refuseIf k false later = later
+-- the documents' values for each answer: its number, which is 0 where nothing is refused, the points kept and the points dropped
+pub record Report : Type 0 where
+  pub number : ℕ
+  pub kept : ℕ
+  pub dropped : ℕ
 
--- 18: the list row is too short for the drops; last 9: an output row is too short for the points kept
-abbrev pub answerIn : ℕ → ℕ → Cleaning → D.Cleaned
-answerIn list points (cleaned kept drops) =
-    refuseIf 18 (ltb list (length drops)) (refuseIf 9 (ltb points (length kept)) (Cleaned.Points (length kept) (length drops)))
+abbrev pub refusing : ℕ → Report
+refusing k = record { number = k; kept = 0; dropped = 0 }
+
+abbrev pub keeping : ℕ → ℕ → Report
+keeping n m = record { number = 0; kept = n; dropped = m }
+
+abbrev pub report : D.Cleaned → Report
+report (Cleaned.Refused k) = refusing k
+report (Cleaned.Points n m) = keeping n m
+
+abbrev pub judgedOf : Inputs → Judged
+judgedOf (inputs xs ys fs) = judged xs ys fs
 
 abbrev pub cleaningOf : Inputs → Cleaning
 cleaningOf (inputs xs ys fs) = cleanOf xs ys fs (length fs - 1)
+
+-- what becomes of a contour: said by an answer, or by the documents' values
+module _ {A : Type 0} (refused : ℕ → A) (points-said : ℕ → ℕ → A) where
+  abbrev pub refuseIf : ℕ → Bool → A → A
+  refuseIf k true later = refused k
+  refuseIf k false later = later
+
+  -- 18: the list row is too short for the drops; last 9: an output row is too short for the points kept
+  abbrev pub saidIn : ℕ → ℕ → Cleaning → A
+  saidIn list points (cleaned kept drops) =
+      refuseIf 18 (ltb list (length drops)) (refuseIf 9 (ltb points (length kept)) (points-said (length kept) (length drops)))
+
+  -- 1 to 5 first
+  abbrev pub saidAfter : Judged → A → A
+  saidAfter (Judged.Refused k) later = refused k
+  saidAfter Judged.Fine later = later
+
+  abbrev pub saidOf : Inputs → ℕ → ℕ → A
+  saidOf i list points = saidAfter (judgedOf i) (saidIn list points (cleaningOf i))
+
+abbrev pub answerIn : ℕ → ℕ → Cleaning → D.Cleaned
+answerIn = saidIn Cleaned.Refused Cleaned.Points
+
+abbrev pub afterJudging : Judged → D.Cleaned → D.Cleaned
+afterJudging = saidAfter Cleaned.Refused Cleaned.Points
+
+abbrev pub wholeOf : Inputs → ℕ → ℕ → D.Cleaned
+wholeOf = saidOf Cleaned.Refused Cleaned.Points
+
+abbrev pub valuesOf : Inputs → ℕ → ℕ → Report
+valuesOf = saidOf refusing keeping
 
 abbrev pub writtenIn : Inputs → Cleaning → Rows → Rows
 writtenIn i (cleaned kept drops) (rows o list) = rows (pointsInto i kept o) (front drops list)
@@ -76,20 +117,10 @@ pub record Written (i : Inputs) (c : Cleaning) (w : Both Rows Rows) (r : D.Clean
   pub answer : r ≡ answerIn (listRoom (w .entry)) (pointRoom (w .entry)) c
   pub left : w .exit ≡ leftBy r i c (w .entry)
 
--- 1 to 5 first
-abbrev pub afterJudging : Judged → D.Cleaned → D.Cleaned
-afterJudging (Judged.Refused k) later = Cleaned.Refused k
-afterJudging Judged.Fine later = later
-
-abbrev pub judgedOf : Inputs → Judged
-judgedOf (inputs xs ys fs) = judged xs ys fs
-
-abbrev pub wholeOf : Inputs → ℕ → ℕ → D.Cleaned
-wholeOf i list points = afterJudging (judgedOf i) (answerIn list points (cleaningOf i))
-
--- the entry's contract: what it hands back, and what it leaves in the rows w
+-- the entry's contract: what it hands back, by its case and by the documents' values, and what it leaves in the rows w
 pub record Promise (i : Inputs) (w : Both Rows Rows) (r : D.Cleaned) : Type 0 where
   pub answer : r ≡ wholeOf i (listRoom (w .entry)) (pointRoom (w .entry))
+  pub values : report r ≡ valuesOf i (listRoom (w .entry)) (pointRoom (w .entry))
   pub left : w .exit ≡ leftBy r i (cleaningOf i) (w .entry)
 
 -- ---- putting back: kept points and a list
@@ -110,17 +141,40 @@ lentOutputs ox oy of = record { entry = outputs (before ox) (before oy) (before 
 abbrev pub outputRoom : Outputs → ℕ
 outputRoom (outputs ox oy of) = min (min (length ox) (length oy)) (length of)
 
-abbrev pub orRefuse : ℕ → Bool → R.Restored → R.Restored
-orRefuse k true later = Restored.Refused k
-orRefuse k false later = later
+-- the documents' values: the number, and the points written
+pub record PutReport : Type 0 where
+  pub number : ℕ
+  pub points : ℕ
 
--- 1: the kept rows differ in length; 2: no point is kept; 3: more than 1,024 points with the drops; last 9: an output row is too short for them
+abbrev pub putRefusing : ℕ → PutReport
+putRefusing k = record { number = k; points = 0 }
+
+abbrev pub putting : ℕ → PutReport
+putting n = record { number = 0; points = n }
+
+abbrev pub putReport : R.Restored → PutReport
+putReport (Restored.Refused k) = putRefusing k
+putReport (Restored.Points n) = putting n
+
+-- said by an answer, or by these values
+module _ {A : Type 0} (refused back : ℕ → A) where
+  abbrev pub orRefuse : ℕ → Bool → A → A
+  orRefuse k true later = refused k
+  orRefuse k false later = later
+
+  -- 1: the kept rows differ in length; 2: no point is kept; 3: more than 1,024 points with the drops; last 9: an output row is too short for them
+  abbrev pub backOf : Inputs → ℕ → ℕ → A
+  backOf (inputs xs ys fs) drops room =
+      let n = length fs in
+      orRefuse 1 (rowsDiffer (length xs) (length ys) n)
+      (orRefuse 2 (noPoint n)
+      (orRefuse 3 (ltb 1024 (n + drops)) (orRefuse 9 (ltb room (n + drops)) (back (n + drops)))))
+
 abbrev pub restoredOf : Inputs → ℕ → ℕ → R.Restored
-restoredOf (inputs xs ys fs) drops room =
-    let n = length fs in
-    orRefuse 1 (rowsDiffer (length xs) (length ys) n)
-    (orRefuse 2 (noPoint n)
-    (orRefuse 3 (ltb 1024 (n + drops)) (orRefuse 9 (ltb room (n + drops)) (Restored.Points (n + drops)))))
+restoredOf = backOf Restored.Refused Restored.Points
+
+abbrev pub putValuesOf : Inputs → ℕ → ℕ → PutReport
+putValuesOf = backOf putRefusing putting
 
 abbrev pub spotsFor : Inputs → List (List ℕ) → List (List ℕ)
 spotsFor (inputs xs ys fs) list = spotsOf (length fs) list
@@ -131,4 +185,5 @@ leftBack (Restored.Points n) i list o = spotsInto i (spotsFor i list) o
 
 pub record PutPromise (i : Inputs) (list : List (List ℕ)) (w : Both Outputs Outputs) (r : R.Restored) : Type 0 where
   pub answer : r ≡ restoredOf i (length list) (outputRoom (w .entry))
+  pub values : putReport r ≡ putValuesOf i (length list) (outputRoom (w .entry))
   pub left : w .exit ≡ leftBack r i list (w .entry)
