@@ -51,7 +51,7 @@ pub fn sum(
         let q = shape::quad_of(breaks, p);
         let a = breaks::read(breaks, p.from);
         let b = breaks::read(breaks, p.to);
-        let Counted::At(m, n) = plain::measure(samples, a.s, b.s, q) else {
+        let Counted::At(m, n) = measure::measure_quad(samples, a.s, b.s, q) else {
             return Total {
                 sum: Summed::Missing,
                 fallen: 0,

@@ -42,8 +42,8 @@ read-requires-2 c κs = rw (c .before .read .ensures) (numbers (c .before .befor
 read-requires-3 : tie.Need-read-requires-3 Inv-loop μ-loop
 read-requires-3 c κs = rw (c .before .before .read .ensures) (numbers (c .before .before .before) .1)
 
-measure-requires : tie.Need-measure-requires Inv-loop μ-loop
-measure-requires c κs = tt
+measure-quad-requires : tie.Need-measure-quad-requires Inv-loop μ-loop
+measure-quad-requires c κs = tt
 
 enum-known-m : tie.Need-enum-known-m Inv-loop μ-loop
 enum-known-m c = c .match .keys1
@@ -56,7 +56,7 @@ returns c =
     let measuring = c .before .before in
     let drawing = measuring .before .before .before in
     let turning = drawing .before .before in
-    let none = rw (c .enum-told .given .1) at (measuring .measure .ensures) in
+    let none = rw (c .enum-told .given .1) at (measuring .measure-quad .ensures) in
     let is =
     one-refused _ _ _ _ _ _ _ _ _ _ (turning .before .loop .inv .1) (turning .loop-test .taken) _ (drawing .before .read .ensures) _ (drawing .quad-of .ensures)
     _ _ (measuring .before .before .read2 .ensures) (measuring .before .read3 .ensures) none in
@@ -72,7 +72,7 @@ add-fallen c =
     let drawing = measuring .before .before .before in
     let turning = drawing .before .before in
     let start = turning .before .before .before .before .before .before in
-    let told = rw (found .m .given .1) at (measuring .measure .ensures) in
+    let told = rw (found .m .given .1) at (measuring .measure-quad .ensures) in
     let few =
     counted-few _ _ _ _ _ _ (turning .before .loop .inv .2) (turning .loop-test .taken) _ (drawing .before .read .ensures) _ (drawing .quad-of .ensures)
     _ _ (measuring .before .before .read2 .ensures) (measuring .before .read3 .ensures) (told .1) in
@@ -92,7 +92,7 @@ loop-again c =
     let measuring = found .before .before in
     let drawing = measuring .before .before .before in
     let turning = drawing .before .before in
-    let told = rw (found .m .given .1) at (measuring .measure .ensures) in (
+    let told = rw (found .m .given .1) at (measuring .measure-quad .ensures) in (
       omega arith,
       sums-on _ _ _ _ _ _ _ _ _ _ (turning .before .loop .inv .1) (turning .loop-test .taken) _ (drawing .before .read .ensures) _ (drawing .quad-of .ensures)
           _ _ (measuring .before .before .read2 .ensures) (measuring .before .read3 .ensures) _ _ (told .0) (c .before .joint .ensures),
@@ -116,7 +116,7 @@ sum-spec =
     quad-of-requires
     read-requires-2
     read-requires-3
-    measure-requires
+    measure-quad-requires
     enum-known-m
     enum-told
     returns
