@@ -2,7 +2,7 @@
 use mathlib.Core.Bool.{false}
 use mathlib.Core.List.{List, [], _∷_, _++_}
 use mathlib.Core.Path.{_≡_, sym, _∙_, subst}
-use Rattle.measure.specs.Statements.{hasNan}
+use Rattle.quickmeasure.specs.Statements.{hasNan}
 use Rattle.runs.specs.declared.Run.the-variants.{Between}
 use Rattle.survey.specs.Survey.{surveyed}
 use Rattle.settings.specs.Settings.{gridOf, penaltyOf}

@@ -7,7 +7,7 @@ use mathlib.Core.Path.{_≡_}
 use lib.Ieee.{Float}
 use lib.IntN.{ℤ}
 use lib.ListN.{length}
-use Rattle.measure.specs.Statements.{hasNan}
+use Rattle.quickmeasure.specs.Statements.{hasNan}
 use Rattle.breaks.specs.Breaks.{Row, breakAt}
 use Rattle.runs.specs.Runs.{numberedRun}
 use Rattle.runs.specs.declared.Run.the-variants.{Between}

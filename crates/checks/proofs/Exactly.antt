@@ -32,8 +32,7 @@ use Rattle.chain.specs.Rule.{Valid}
 use Rattle.chain.proofs.Rule.{valid-exactly}
 use Rattle.chain.specs.declared.Checked.{Checked}
 use Rattle.chain.specs.declared.Checked.the-variants as Checked
-use Rattle.edition.specs.Edition.{Rooms, answerRoom}
-use Rattle.edition.specs.Scratch.{roomsOf}
+use Rattle.rows.specs.Scratch.{Rooms, answerRoom, roomsOf}
 use Rattle.checks.specs.Checks.{GivenChain, verdictOf, unlessShort, ofSurvey, ofRun, afterJudging}
 use Rattle.checks.specs.Checks as Checks
 use Rattle.checks.specs.Exactly.{Reached, Unmeasured, Accepted, Denied, Unsettled, Turned, unfit, no-run, unsurveyed, short}

@@ -6,7 +6,7 @@ use lib.Ieee.{Float}
 use Rattle.rows.specs.Rows.{Work}
 use Rattle.rows.specs.Lent.{Lent, before, Inputs, inputs}
 use Rattle.settings.specs.declared.Settings.{Settings}
-use Rattle.edition.specs.Scratch.{Scratch, roomsOf, cleared}
+use Rattle.rows.specs.Scratch.{Scratch, roomsOf, cleared}
 use Rattle.checks.specs.Checks.{GivenChain, checkOf}
 use Rattle.checks.specs.declared.Verdict as D
 use Rattle.checks.specs.declared.Verdict.the-variants as Verdict

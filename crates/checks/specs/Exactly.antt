@@ -23,8 +23,7 @@ use Rattle.chain.specs.Rule.{Valid}
 use Rattle.chain.specs.declared.Summed.the-variants as Summed
 use Rattle.rows.specs.Rows.{Work}
 use Rattle.rows.specs.Lent.{inputs}
-use Rattle.edition.specs.Edition.{Rooms, answerRoom}
-use Rattle.edition.specs.Scratch.{roomsOf}
+use Rattle.rows.specs.Scratch.{Rooms, answerRoom, roomsOf}
 use Rattle.checks.specs.Checks.{GivenChain}
 use Rattle.checks.specs.Entry.{wholeOf}
 use Rattle.checks.specs.declared.Verdict.the-variants as Verdict

@@ -14,8 +14,7 @@ use Rattle.arclen.specs.Rk4.{moved, grownAll, rk4, walk}
 use Rattle.arclen.specs.Arclen.{arclenFunctorOf, derivOf, speedOf, arclenOf}
 use Rattle.lookup.specs.Lookup.{lookedUp}
 use Rattle.measure.specs.Measure.{errorOf, applyOf, stretchOf, walkedBy, measureOf}
-use Rattle.measure.specs.Terms.{measured}
-use Rattle.measure.specs.declared.Measured.the-variants.{Missing}
+use Rattle.measure.specs.declared.Measured.the-variants.{At, Missing}
 
 -- n / d, rounded
 abbrev num : ℕ → ℕ → Float
@@ -32,6 +31,6 @@ abbrev arch : Quad
 arch = record { p0 = whole 0 0; p1 = whole 2 1; p2 = whole 4 0 }
 
 -- against all six 1.5588225325488967; against the first four the work meets the last stored place
-errors : measureOf samples nought four arch ∷ measureOf (take 4 samples) nought four arch ∷ [] ≡ measured (ofBits binary64 0x3ff8_f0ef_e559_0be8) ∷ Missing ∷ []
+errors : measureOf samples nought four arch ∷ measureOf (take 4 samples) nought four arch ∷ [] ≡ At (record { error = ofBits binary64 0x3ff8_f0ef_e559_0be8 }) ∷ Missing ∷ []
 unfolding closeTo tiny absOf wholeBy moved grownAll rk4 walk arclenFunctorOf derivOf speedOf arclenOf lookedUp errorOf applyOf stretchOf walkedBy measureOf rootOf rootUnits rootNear rootDown Ieee.ofBits Ieee.round Ieee.size Ieee.add Ieee.sub Ieee.mul Ieee.div Ieee.lt Ieee.toUnsigned
 errors = refl

@@ -21,11 +21,11 @@ use Rattle.geometry.specs.declared.Quad.{Quad}
 use Rattle.geometry.specs.declared.Crossing.{Crossing}
 use Rattle.geometry.specs.declared.Crossing.the-variants as Crossing
 use Rattle.geometry.proofs.Whole.{whole-finite, near-finite}
-use Rattle.measure.specs.Statements.{hasNan}
+use Rattle.quickmeasure.specs.Statements.{hasNan}
 use Rattle.measure.specs.declared.Measure as M
 use Rattle.measure.specs.declared.Measured.{Measured}
 use Rattle.measure.specs.declared.Measured.the-variants as Measured
-use Rattle.measure.proofs.Spoilt.{spoils}
+use Rattle.quickmeasure.proofs.Spoilt.{spoils}
 use Rattle.breaks.specs.Breaks.{Row, unpackedOf, breakAt}
 use Rattle.attempt.specs.Answers.{Leg, Statelet, first, on, scoreOf, legOf, Best, none, best, isCurve, smoothAfter, okForHalf, jointOf, previousScore, builtOn, isLess, replacedIf, mayBuild, combinedIf, combined}
 use Rattle.optimize.specs.Optimize.{Measure, measureBy, bestAt, States, refused, states, xy, measured, tryQuad, tryIf, straight, bentQuad, bentAt, bent, thenBent, tryLineQuad}

@@ -6,7 +6,7 @@ use mathlib.Core.List.{List}
 use mathlib.Core.Path.{_≡_}
 use lib.Ieee.{Float}
 use lib.ListN.{length}
-use Rattle.measure.specs.Statements.{hasNan}
+use Rattle.quickmeasure.specs.Statements.{hasNan}
 use Rattle.breaks.specs.Breaks.{Row, breakAt}
 use Rattle.attempt.specs.Answers.{Leg, Statelet, first, on}
 use Rattle.optimize.specs.Optimize.{measureBy, solved, optimizeOf}

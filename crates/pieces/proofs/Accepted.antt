@@ -18,7 +18,7 @@ use Rattle.measure.specs.Measure.{measureOf}
 use Rattle.measure.specs.declared.Measure as M
 use Rattle.measure.specs.declared.Measured.{Measured}
 use Rattle.measure.specs.declared.Measured.the-variants as Measured
-use Rattle.measure.proofs.Still.{still}
+use Rattle.quickmeasure.proofs.Still.{still}
 use Rattle.breaks.specs.Breaks.{Row, breakAt}
 use Rattle.chain.specs.declared.Before.the-variants.{Start}
 use Rattle.chain.specs.declared.Piece as C

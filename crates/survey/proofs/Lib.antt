@@ -1,5 +1,5 @@
--- What the proofs share.
-mod Rooms
+-- What the proofs share, here and in the crates that build on this one.
+pub mod Rooms
 pub mod Bounded
 pub mod Speeds
 pub mod Reach

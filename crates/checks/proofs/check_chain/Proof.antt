@@ -1,7 +1,7 @@
 -- `checks::check_chain` meets its contract. Assumes nothing.
 use mathlib.Core.Path.{refl, _∙_}
 use Rattle.checks.specs.Checks.{GivenChain}
-use Rattle.edition.specs.Laws.{cleared-work}
+use Rattle.rows.specs.Scratch.{cleared-work}
 use Rattle.checks.proofs.Steps.{whole-is}
 use Rattle.checks.proofs.check_chain.Statement.{statement}
 use Rattle.checks.proofs.check_chain.Tie as tie
