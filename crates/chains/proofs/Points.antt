@@ -28,6 +28,7 @@ use Rattle.contour.specs.Implied.{finished}
 use Rattle.pieces.specs.Pieces.{piecesOf}
 use Rattle.pieces.specs.Slots.{quadsOf}
 use Rattle.pieces.proofs.Drawn.{quads-drawn}
+use Rattle.pieces.proofs.Accepted.{accepted-any}
 use Rattle.assembly.specs.Assembly.{State, added, closedUp, itself, resultOf, runIf, afterRun, crunchAll, crunchIn, crunchRuns}
 use Rattle.assembly.specs.Assembly as State
 use Rattle.assembly.specs.Laws.{stays-refused, stays-ended}
@@ -80,6 +81,7 @@ module _ (rooms : Rooms) (settings : Settings) (xs ys : List ℤ) (fs : List ℕ
           score = scoreOf a;
           tally = t;
           chain = λ room h. worked-is room e (Edition.solved a t) is ∙ ap (λ (b : Bool). Chains.overIf b (piecesOf a) (scoreOf a) t) (le-ltb room (length (piecesOf a)) h);
+          accepted = accepted-any (o .samples) (o .breaks) (penaltyOf settings) (o .fine .some) (o .fine .fit-x) (o .fine .fit-y) a (t .pairs) (o .is);
           points = ap piecesPoints (quads-drawn (measureBy (o .samples) (o .breaks)) (o .breaks) (penaltyOf settings) a (t .pairs) (o .is));
         })
 

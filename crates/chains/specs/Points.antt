@@ -1,6 +1,6 @@
 -- The points of a contour that comes out are those of its runs' chains: each worked run adds the points of the chain that the chain entry gives for it with the
--- same settings, in both modes, and a copied run its end. So what the checker says of these chains it says of the points. The theorem `points-are-chains` of
--- proofs/Points is of the statement here. Definitions and statements.
+-- same settings, in both modes, and a copied run its end; and the checker accepts that chain. So it accepts what was filed. The theorem `points-are-chains`
+-- of proofs/Points is of the statement here. Definitions and statements.
 use Prim.Native.Nat.{ℕ, _≤_, _<_}
 use mathlib.Core.Bool.{Bool, true, false}
 use mathlib.Core.List.{List, [], _∷_, _++_, map}
@@ -14,11 +14,12 @@ use Rattle.runs.specs.Runs.{stopsOf, runsOf, runAt, isCopied, numberedRun}
 use Rattle.runs.specs.declared.Run.the-variants.{Between}
 use Rattle.samples.specs.Samples.{Sample}
 use Rattle.survey.specs.Survey.{surveyed, surveyOf}
-use Rattle.settings.specs.Settings.{gridOf}
+use Rattle.settings.specs.Settings.{gridOf, penaltyOf}
 use Rattle.settings.specs.declared.Settings.{Settings}
 use Rattle.optimize.specs.declared.Tally.{Tally}
 use Rattle.edition.specs.Edition.{Rooms}
-use Rattle.chain.specs.Valid.{pieceQuad}
+use Rattle.chain.specs.Valid.{pieceQuad, checkedChain}
+use Rattle.chain.specs.declared.Checked.the-variants as Checked
 use Rattle.chain.specs.declared.Piece.{Piece}
 use Rattle.contour.specs.Points.{Points, pointsOf, piecesPoints, pointAs, startPoint, unchangedIn, around}
 use Rattle.contour.specs.Implied.{finished}
@@ -37,7 +38,7 @@ allOf (p ∷ ps) = p ++ allOf ps
 module _ (rooms : Rooms) (settings : Settings) (xs ys : List ℤ) (fs : List ℕ) where
   -- ---- what run k adds
 
-  -- the chain that the chain entry gives for it, in chain rows that have room for it; and the breaks that the run's survey found
+  -- the chain that the chain entry gives for it, in chain rows that have room for it, and that the checker accepts; with the breaks of the run's survey
   pub record ByChain (k : ℕ) (added : Points) : Type 0 where
     pub first : ℕ
     pub count : ℕ
@@ -49,6 +50,7 @@ module _ (rooms : Rooms) (settings : Settings) (xs ys : List ℤ) (fs : List ℕ
     pub score : Float
     pub tally : Tally
     pub chain : (room : ℕ) → length pieces ≤ room → chainOf rooms room settings xs ys fs k ≡ chained pieces score tally
+    pub accepted : checkedChain samples breaks (penaltyOf settings) pieces score ≡ Checked.Yes
     pub points : added ≡ chainPoints breaks pieces
 
   -- the end of a line, for which the chain entry gives 10
