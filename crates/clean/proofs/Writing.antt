@@ -17,8 +17,8 @@ use Rattle.rows.proofs.Filled.{Filled, more, filled}
 use Rattle.rows.specs.Lent.{Inputs}
 use Rattle.contour.specs.Output.{outputs, front}
 use Rattle.clean.specs.Clean.{Cleaning, cleaned}
-use Rattle.clean.specs.Entry.{Rows, rows, pointRoom, listRoom, pointsInto, cleaningOf, judgedOf, leftBy, Written, Promise}
-use Rattle.clean.specs.Entry.{Report, report, refusing, keeping, refuseIf, saidIn, saidAfter, answerIn, afterJudging, wholeOf, valuesOf}
+use Rattle.clean.specs.Entry.{Rows, rows, pointRoom, listRoom, pointsInto, judgedOf, Written, Sifts}
+use Rattle.clean.specs.Entry.{Report, report, refusing, keeping, refuseIf, saidIn, answerIn}
 use Rattle.clean.specs.declared.Cleaned as D
 use Rattle.clean.specs.declared.Cleaned.the-variants as Cleaned
 use Rattle.clean.specs.declared.Cleaned.the-variants.{Refused, Points}
@@ -81,28 +81,15 @@ report-so false false n m = refl
 report-in : (list points : ℕ) (c : Cleaning) → report (answerIn list points c) ≡ saidIn refusing keeping list points c
 report-in list points (cleaned kept drops) = report-so (ltb list (length drops)) (ltb points (length kept)) (length kept) (length drops)
 
-report-after : (j : Judged) (a : D.Cleaned) (v : Report) → report a ≡ v → report (afterJudging j a) ≡ saidAfter refusing keeping j v
-report-after (Judged.Refused k) a v e = refl
-report-after Judged.Fine a v e = e
+pub refused-first : (i : Inputs) (c : Cleaning) (r : Rows) {j : Judged} {k : ℕ} → j ≡ judgedOf i → j ≡ Judged.Refused k → Sifts i c (record { entry = r; exit = r }) (Refused k)
+refused-first i c r is h = record { answer = rw (← is, h); values = rw (← is, h); left = refl }
 
-report-whole : (i : Inputs) (list points : ℕ) → report (wholeOf i list points) ≡ valuesOf i list points
-report-whole i list points =
-    report-after (judgedOf i) (answerIn list points (cleaningOf i)) (saidIn refusing keeping list points (cleaningOf i)) (report-in list points (cleaningOf i))
-
--- the documents' values are those of the answer
-promised : {i : Inputs} {w : Both Rows Rows} {r : D.Cleaned} → r ≡ wholeOf i (listRoom (w .entry)) (pointRoom (w .entry)) →
-    w .exit ≡ leftBy r i (cleaningOf i) (w .entry) → Promise i w r
-promised {i} {w} e left = record {
-  answer = e;
-  values = ap report e ∙ report-whole i (listRoom (w .entry)) (pointRoom (w .entry));
-  left = left;
+pub after-judging : (i : Inputs) {c : Cleaning} {w : Both Rows Rows} {j : Judged} {r : D.Cleaned} → j ≡ judgedOf i → j ≡ Judged.Fine → Written i c w r → Sifts i c w r
+after-judging i {c} {w} is h written = record {
+  answer = rw (← is, h) (written .answer);
+  values = rw (← is, h) (ap report (written .answer) ∙ report-in (listRoom (w .entry)) (pointRoom (w .entry)) c);
+  left = written .left;
 }
-
-pub refused-first : (i : Inputs) (r : Rows) {j : Judged} {k : ℕ} → j ≡ judgedOf i → j ≡ Judged.Refused k → Promise i (record { entry = r; exit = r }) (Refused k)
-refused-first i r is h = promised (rw (← is, h)) refl
-
-pub after-judging : (i : Inputs) {w : Both Rows Rows} {j : Judged} {r : D.Cleaned} → j ≡ judgedOf i → j ≡ Judged.Fine → Written i (cleaningOf i) w r → Promise i w r
-after-judging i is h written = promised (rw (← is, h) (written .answer)) (written .left)
 
 -- of another cleaning that is the same
 pub written-of : (i : Inputs) {c c' : Cleaning} {w : Both Rows Rows} {r : D.Cleaned} → c ≡ c' → Written i c w r → Written i c' w r

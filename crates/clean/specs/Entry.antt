@@ -7,7 +7,7 @@ use lib.Dec.{ltb}
 use lib.IntN.{ℤ, pos}
 use lib.ListN.{length, getD}
 use denote.Triple.Both.{Both}
-use Rattle.refusals.specs.Refusals.{rowsDiffer, noPoint, judged}
+use Rattle.refusals.specs.Refusals.{rowsDiffer, noPoint, judged, refuse}
 use Rattle.refusals.specs.declared.Judged.{Judged}
 use Rattle.refusals.specs.declared.Judged.the-variants as Judged
 use Rattle.contour.specs.Output.{Outputs, outputs, front}
@@ -89,8 +89,8 @@ module _ {A : Type 0} (refused : ℕ → A) (points-said : ℕ → ℕ → A) wh
   saidAfter (Judged.Refused k) later = refused k
   saidAfter Judged.Fine later = later
 
-  abbrev pub saidOf : Inputs → ℕ → ℕ → A
-  saidOf i list points = saidAfter (judgedOf i) (saidIn list points (cleaningOf i))
+  abbrev pub saidOf : Inputs → Cleaning → ℕ → ℕ → A
+  saidOf i c list points = saidAfter (judgedOf i) (saidIn list points c)
 
 abbrev pub answerIn : ℕ → ℕ → Cleaning → D.Cleaned
 answerIn = saidIn Cleaned.Refused Cleaned.Points
@@ -98,10 +98,10 @@ answerIn = saidIn Cleaned.Refused Cleaned.Points
 abbrev pub afterJudging : Judged → D.Cleaned → D.Cleaned
 afterJudging = saidAfter Cleaned.Refused Cleaned.Points
 
-abbrev pub wholeOf : Inputs → ℕ → ℕ → D.Cleaned
+abbrev pub wholeOf : Inputs → Cleaning → ℕ → ℕ → D.Cleaned
 wholeOf = saidOf Cleaned.Refused Cleaned.Points
 
-abbrev pub valuesOf : Inputs → ℕ → ℕ → Report
+abbrev pub valuesOf : Inputs → Cleaning → ℕ → ℕ → Report
 valuesOf = saidOf refusing keeping
 
 abbrev pub writtenIn : Inputs → Cleaning → Rows → Rows
@@ -117,11 +117,15 @@ pub record Written (i : Inputs) (c : Cleaning) (w : Both Rows Rows) (r : D.Clean
   pub answer : r ≡ answerIn (listRoom (w .entry)) (pointRoom (w .entry)) c
   pub left : w .exit ≡ leftBy r i c (w .entry)
 
--- the entry's contract: what it hands back, by its case and by the documents' values, and what it leaves in the rows w
-pub record Promise (i : Inputs) (w : Both Rows Rows) (r : D.Cleaned) : Type 0 where
-  pub answer : r ≡ wholeOf i (listRoom (w .entry)) (pointRoom (w .entry))
-  pub values : report r ≡ valuesOf i (listRoom (w .entry)) (pointRoom (w .entry))
-  pub left : w .exit ≡ leftBy r i (cleaningOf i) (w .entry)
+-- the contract of an entry that keeps and lists what c says: what it hands back, by its case and by the documents' values, and what it leaves in the rows w
+pub record Sifts (i : Inputs) (c : Cleaning) (w : Both Rows Rows) (r : D.Cleaned) : Type 0 where
+  pub answer : r ≡ wholeOf i c (listRoom (w .entry)) (pointRoom (w .entry))
+  pub values : report r ≡ valuesOf i c (listRoom (w .entry)) (pointRoom (w .entry))
+  pub left : w .exit ≡ leftBy r i c (w .entry)
+
+-- the cleaning entry's
+abbrev pub Promise : Inputs → Both Rows Rows → D.Cleaned → Type 0
+Promise i w r = Sifts i (cleaningOf i) w r
 
 -- ---- putting back: kept points and a list
 
@@ -156,19 +160,23 @@ abbrev pub putReport : R.Restored → PutReport
 putReport (Restored.Refused k) = putRefusing k
 putReport (Restored.Points n) = putting n
 
+-- 1: the kept rows differ in length; 2: no point is kept; 3: more than 1,024 points with the drops; last 9: an output row is too short for them
+abbrev pub judgedBack : ℕ → ℕ → ℕ → ℕ → ℕ → Judged
+judgedBack x y n drops room =
+    refuse 1 (rowsDiffer x y n)
+    (refuse 2 (noPoint n) (refuse 3 (ltb 1024 (n + drops)) (refuse 9 (ltb room (n + drops)) Judged.Fine)))
+
 -- said by an answer, or by these values
 module _ {A : Type 0} (refused back : ℕ → A) where
-  abbrev pub orRefuse : ℕ → Bool → A → A
-  orRefuse k true later = refused k
-  orRefuse k false later = later
+  abbrev pub saidBack : Judged → ℕ → A
+  saidBack (Judged.Refused k) n = refused k
+  saidBack Judged.Fine n = back n
 
-  -- 1: the kept rows differ in length; 2: no point is kept; 3: more than 1,024 points with the drops; last 9: an output row is too short for them
   abbrev pub backOf : Inputs → ℕ → ℕ → A
-  backOf (inputs xs ys fs) drops room =
-      let n = length fs in
-      orRefuse 1 (rowsDiffer (length xs) (length ys) n)
-      (orRefuse 2 (noPoint n)
-      (orRefuse 3 (ltb 1024 (n + drops)) (orRefuse 9 (ltb room (n + drops)) (back (n + drops)))))
+  backOf (inputs xs ys fs) drops room = saidBack (judgedBack (length xs) (length ys) (length fs) drops room) (length fs + drops)
+
+abbrev pub unlessRefused : Judged → ℕ → R.Restored
+unlessRefused = saidBack Restored.Refused Restored.Points
 
 abbrev pub restoredOf : Inputs → ℕ → ℕ → R.Restored
 restoredOf = backOf Restored.Refused Restored.Points
@@ -179,11 +187,16 @@ putValuesOf = backOf putRefusing putting
 abbrev pub spotsFor : Inputs → List (List ℕ) → List (List ℕ)
 spotsFor (inputs xs ys fs) list = spotsOf (length fs) list
 
+-- by where each point comes from
 abbrev pub leftBack : R.Restored → Inputs → List (List ℕ) → Outputs → Outputs
-leftBack (Restored.Refused k) i list o = o
-leftBack (Restored.Points n) i list o = spotsInto i (spotsFor i list) o
+leftBack (Restored.Refused k) i spots o = o
+leftBack (Restored.Points n) i spots o = spotsInto i spots o
 
-pub record PutPromise (i : Inputs) (list : List (List ℕ)) (w : Both Outputs Outputs) (r : R.Restored) : Type 0 where
-  pub answer : r ≡ restoredOf i (length list) (outputRoom (w .entry))
-  pub values : putReport r ≡ putValuesOf i (length list) (outputRoom (w .entry))
-  pub left : w .exit ≡ leftBack r i list (w .entry)
+-- the contract of an entry that puts so many drops back by these spots
+pub record Restores (i : Inputs) (drops : ℕ) (spots : List (List ℕ)) (w : Both Outputs Outputs) (r : R.Restored) : Type 0 where
+  pub answer : r ≡ restoredOf i drops (outputRoom (w .entry))
+  pub values : putReport r ≡ putValuesOf i drops (outputRoom (w .entry))
+  pub left : w .exit ≡ leftBack r i spots (w .entry)
+
+abbrev pub PutPromise : Inputs → List (List ℕ) → Both Outputs Outputs → R.Restored → Type 0
+PutPromise i list w r = Restores i (length list) (spotsFor i list) w r
