@@ -34,7 +34,8 @@ chainGiven starts ends cxs cys score = record { starts = before starts; ends = b
 abbrev pub wholeOf : Inputs → Settings → ℕ → GivenChain → Work → Ruling
 wholeOf (inputs xs ys fs) settings k c w = checkOf (roomsOf w) settings xs ys fs c k
 
--- the entry's contract: what it hands back, and what it leaves in the scratch rows w
+-- the entry's contract: what it hands back, with document 01's values, and what it leaves in the scratch rows w
 pub record Promise (i : Inputs) (settings : Settings) (k : ℕ) (c : GivenChain) (w : Scratch) (r : Ruling) : Type 0 where
   pub ruling : r ≡ wholeOf i settings k c (w .entry)
+  pub values : report r ≡ report (wholeOf i settings k c (w .entry))
   pub left : w .exit ≡ cleared (w .entry)
