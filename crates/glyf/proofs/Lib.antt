@@ -6,3 +6,4 @@ pub mod Back
 pub mod Box
 pub mod Again
 pub mod Sound
+pub mod After

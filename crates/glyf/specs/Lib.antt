@@ -1,2 +1,3 @@
 pub mod Layout
 pub mod Trips
+pub mod After
