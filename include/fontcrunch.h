@@ -459,7 +459,8 @@ GlyphReadReport fontcrunch_read_glyph(const uint8_t *bytes, size_t bytes_len, ui
 
 /*
  * Writes the description to the first places of `out`; no other place is touched. Points after the last end are
- * not written. 12 + 2 * ends_len + instructions_len + 5 * points places always suffice.
+ * not written. 12 + 2 * ends_len + instructions_len + 5 * points places always suffice. A description that was read
+ * and is written again says the same, but may be longer than it was.
  *
  * Refusals, in this order: 1 (xs, ys and flags differ in length), 12, 13, 14 (a difference outside 16 bits, more
  * than 32,767 contours, more than 65,535 instruction bytes), and last 9, `out` too short. A refusal writes

@@ -7,3 +7,5 @@ pub mod Box
 pub mod Again
 pub mod Sound
 pub mod After
+mod Values
+pub mod Long
