@@ -517,7 +517,8 @@ fontcrunch_read_glyph_report fontcrunch_read_glyph(
 
 /*
  * Writes the description to the first places of `out`; no other place is touched. Points after the last end are
- * not written. 12 + 2 * ends_len + instructions_len + 5 * points places always suffice.
+ * not written. 12 + 2 * ends_len + instructions_len + 5 * points places always suffice. A description that was read
+ * and is written again says the same, but may be longer than it was.
  *
  * Refusals, in this order: 1 12 13 14 9. Here 14 is a difference outside 16 bits, more than 32,767 contours, or more
  * than 65,535 instruction bytes. A refusal writes nothing.
