@@ -13,6 +13,7 @@ pub fn answer(cruncher: &mut Cruncher, points: &[Point], penalty: u32, fallen: F
     Reply {
         text: format!("a {}\nb {}", text_of(&a, fallen), text_of(&b, fallen)),
         status: if refused { Status::SomeRefused } else { Status::AllCrunched },
+        message: None,
     }
 }
 

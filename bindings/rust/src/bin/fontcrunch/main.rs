@@ -14,10 +14,13 @@ mod glyph;
 mod inputs;
 mod jobs;
 mod outlet;
+mod page;
 mod picture;
 mod reasons;
 mod service;
+mod sketch;
 mod stream;
+mod trace;
 mod worker;
 
 use std::env;
@@ -33,6 +36,7 @@ fn main() -> ExitCode {
         Ok(Request::Version) => print(&arguments::version()),
         Ok(Request::Crunch(job)) => service::run(&job),
         Ok(Request::File(settings, name)) => glif::crunch_file(settings, &name),
+        Ok(Request::FilePage(job, name)) => service::file_page(&job, &name),
         Err(wrong) => {
             service::complain(&wrong);
             Status::Wrong

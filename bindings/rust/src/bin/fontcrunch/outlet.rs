@@ -1,35 +1,40 @@
-//! Where answers go: standard output, standard error, the picture, and the exit status.
+//! Where answers go: standard output, standard error, pictures and pages, and the exit status.
 
 use std::io::{self, ErrorKind, Write};
 use std::path::Path;
 
-use fontcrunch::Settings;
-
 use crate::inputs::Source;
-use crate::picture::{Picture, Sketch};
 use crate::service::{complain, Status};
+use crate::sketch::Sketch;
 use crate::worker::Answer;
+
+/// A file that contours are drawn to as they come.
+pub trait Canvas: Send {
+    fn add(&mut self, source: &Source, sketch: &Sketch) -> io::Result<()>;
+
+    fn finish(self: Box<Self>) -> io::Result<()>;
+}
 
 pub struct Outlet<W> {
     answers: W,
-    drawing: Option<Drawing>,
+    drawings: Vec<Drawing>,
     status: Status,
 }
 
 struct Drawing {
     name: String,
-    picture: Picture,
+    canvas: Box<dyn Canvas>,
 }
 
 impl<W: Write> Outlet<W> {
     pub fn new(answers: W) -> Outlet<W> {
-        Outlet { answers, drawing: None, status: Status::AllCrunched }
+        Outlet { answers, drawings: vec![], status: Status::AllCrunched }
     }
 
-    pub fn start_drawing(&mut self, path: &Path, settings: Settings) {
+    pub fn start_drawing(&mut self, path: &Path, canvas: io::Result<Box<dyn Canvas>>) {
         let name = path.to_string_lossy().into_owned();
-        match Picture::create(path, settings) {
-            Ok(picture) => self.drawing = Some(Drawing { name, picture }),
+        match canvas {
+            Ok(canvas) => self.drawings.push(Drawing { name, canvas }),
             Err(error) => self.wrong(&format!("{name}: {error}")),
         }
     }
@@ -67,23 +72,20 @@ impl<W: Write> Outlet<W> {
         }
     }
 
-    /// A picture that fails is given up; the answers go on.
-    fn draw(&mut self, source: &Source, sketch: &Sketch) {
-        let Some(drawing) = &mut self.drawing else {
-            return;
-        };
-        let title = format!("{}, line {}", source.name, source.line);
-        if let Err(error) = drawing.picture.add(&title, sketch) {
-            let message = format!("{}: {error}", drawing.name);
-            self.drawing = None;
-            self.wrong(&message);
+    /// A drawing that fails is given up; the answers go on.
+    pub fn draw(&mut self, source: &Source, sketch: &Sketch) {
+        for mut drawing in std::mem::take(&mut self.drawings) {
+            match drawing.canvas.add(source, sketch) {
+                Ok(()) => self.drawings.push(drawing),
+                Err(error) => self.wrong(&format!("{}: {error}", drawing.name)),
+            }
         }
     }
 
-    /// The picture is ended; the worst that was met.
+    /// Drawings are ended; the worst that was met.
     pub fn finish(mut self) -> Status {
-        if let Some(drawing) = self.drawing.take() {
-            if let Err(error) = drawing.picture.finish() {
+        for drawing in std::mem::take(&mut self.drawings) {
+            if let Err(error) = drawing.canvas.finish() {
                 self.wrong(&format!("{}: {error}", drawing.name));
             }
         }

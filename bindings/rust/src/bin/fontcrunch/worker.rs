@@ -1,6 +1,6 @@
 //! A line answered: what goes out for it, what is said of it, and what a picture shows.
 
-use fontcrunch::{Crunched, Cruncher, Point, Refusal, Verdict};
+use fontcrunch::{Crunched, Cruncher, Point, Refusal, Settings, Verdict};
 
 use crate::arguments::{Job, Tool};
 use crate::chain_line;
@@ -13,9 +13,10 @@ use crate::explicit;
 use crate::fallen::Fallen;
 use crate::glif;
 use crate::glyph;
-use crate::picture::Sketch;
 use crate::reasons;
 use crate::service::Status;
+use crate::sketch::Sketch;
+use crate::trace;
 
 /// All that comes of a line.
 pub struct Answer {
@@ -30,11 +31,13 @@ pub struct Answer {
 pub struct Reply {
     pub text: String,
     pub status: Status,
+    /// What goes to standard error besides.
+    pub message: Option<String>,
 }
 
 impl From<String> for Reply {
     fn from(text: String) -> Reply {
-        Reply { text, status: Status::AllCrunched }
+        Reply { text, status: Status::AllCrunched, message: None }
     }
 }
 
@@ -44,6 +47,8 @@ pub struct Worker {
     fallen: Fallen,
     draws: bool,
     cruncher: Cruncher,
+    /// Of a second edition, which is drawn too.
+    second: Option<Cruncher>,
     points: Vec<Point>,
 }
 
@@ -52,20 +57,26 @@ impl Worker {
         Worker {
             tool: job.tool,
             fallen: job.fallen,
-            draws: job.picture.is_some(),
+            draws: job.drawing.is_asked(),
             cruncher: Cruncher::new(job.settings),
+            second: second(job),
             points: Vec::new(),
         }
     }
 
     pub fn answer(&mut self, line: &[u8]) -> Answer {
         let mut sketch = None;
-        let (text, status, message) = match self.told(line, &mut sketch) {
-            Ok(Ok(reply)) => (reply.text, reply.status, None),
+        let told = self.told(line, &mut sketch);
+        let (text, status, message) = match told {
+            Ok(Ok(reply)) => (reply.text, reply.status, reply.message),
             Ok(Err(refusal)) => {
                 (refused_text(refusal, self.fallen), Status::SomeRefused, Some(refusal.to_string()))
             }
-            Err(fault) => ("malformed".to_owned(), Status::Wrong, Some(format!("malformed: {fault}"))),
+            Err(fault) if self.tool == Tool::Trace => return trace::malformed(&fault),
+            Err(fault) => {
+                sketch = self.draws.then(|| Sketch::Malformed(fault.to_string()));
+                ("malformed".to_owned(), Status::Wrong, Some(format!("malformed: {fault}")))
+            }
         };
         Answer { text, status, message, sketch }
     }
@@ -81,6 +92,7 @@ impl Worker {
                 contour_line::parse(line, points)?;
                 self.crunch(sketch)
             }
+            Tool::Trace => return Ok(Ok(trace::answer(cruncher, contour(line, points)?))),
             Tool::Clean { crunch: false } => cleaning::clean(contour(line, points)?),
             Tool::Clean { crunch: true } => cleaning::clean_and_crunch(cruncher, contour(line, points)?),
             Tool::Cubic { crunch: false } => cubics::cubic(contour(line, points)?),
@@ -97,10 +109,23 @@ impl Worker {
             Tool::Chain { run, segments } => cruncher
                 .chain(contour(line, points)?, run)
                 .map(|chain| fallen.after(chain_text(&chain, segments), chain.fallen)),
-            Tool::Glyph { step, explicit } => glyph::answer(step, explicit, cruncher, line)?,
-            Tool::Glif { step } => glif::answer(step, cruncher, line)?,
+            Tool::Glyph { step, explicit } => {
+                let told = glyph::answer(step, explicit, cruncher, line)?;
+                *sketch = self.draws.then(|| Sketch::of_glyph_line(cruncher, line, explicit)).flatten();
+                told
+            }
+            Tool::Glif { step } => {
+                let told = glif::answer(step, cruncher, line)?;
+                *sketch = self.draws.then(|| Sketch::of_glif_line(cruncher, line)).flatten();
+                told
+            }
             Tool::Editions { penalty } => {
-                return Ok(Ok(editions::answer(cruncher, contour(line, points)?, penalty, fallen)))
+                let reply = editions::answer(cruncher, contour(line, points)?, penalty, fallen);
+                *sketch = self
+                    .second
+                    .as_mut()
+                    .map(|second| Sketch::Contour(vec![cruncher.trace(points), second.trace(points)]));
+                return Ok(Ok(reply));
             }
             Tool::Check { run } => {
                 let chain = chain_line::parse(line, points)?;
@@ -111,13 +136,24 @@ impl Worker {
     }
 
     fn crunch(&mut self, sketch: &mut Option<Sketch>) -> Result<String, Refusal> {
-        let result = self.cruncher.crunch(&self.points);
         let told = |crunched: &Crunched| self.fallen.after(crunched_text(crunched), crunched.fallen);
-        let text = result.as_ref().map(told).map_err(|refusal| *refusal);
-        if self.draws {
-            *sketch = Some(Sketch::of(&mut self.cruncher, &self.points, result));
+        if !self.draws {
+            return self.cruncher.crunch(&self.points).map(|crunched| told(&crunched));
         }
+        let trace = self.cruncher.trace(&self.points);
+        let text = trace.result.as_ref().map(told).map_err(|refusal| *refusal);
+        *sketch = Some(Sketch::Contour(vec![trace]));
         text
+    }
+}
+
+/// Where two editions are drawn.
+fn second(job: &Job) -> Option<Cruncher> {
+    match job.tool {
+        Tool::Editions { penalty } if job.drawing.is_asked() => {
+            Some(Cruncher::new(Settings { penalty, ..job.settings }))
+        }
+        _ => None,
     }
 }
 
@@ -130,7 +166,7 @@ fn contour<'a>(line: &[u8], points: &'a mut Vec<Point>) -> Result<&'a [Point], M
 fn verdict(said: Verdict, fallen: Fallen) -> Reply {
     let (word, status) =
         if said.accepted { ("yes", Status::AllCrunched) } else { ("no", Status::SomeRefused) };
-    Reply { text: fallen.after(word.to_owned(), said.fallen), status }
+    Reply { text: fallen.after(word.to_owned(), said.fallen), status, message: None }
 }
 
 /// No lookup of what is refused counts.
