@@ -4,7 +4,7 @@ use std::fs;
 use std::io::{self, BufWriter, Write};
 use std::path::Path;
 
-use fontcrunch::{glif as files, Cruncher, DEFAULT_PENALTY};
+use fontcrunch::{Cruncher, DEFAULT_PENALTY};
 
 use crate::arguments::{Input, Job, Tool};
 use crate::glif;
@@ -66,7 +66,7 @@ pub fn file_page(job: &Job, path: &Path) -> Status {
     }
     start_drawings(job, &mut outlet);
     if let Ok(bytes) = fs::read(path) {
-        let sketch = Sketch::of_contours(&mut Cruncher::new(job.settings), files::read(&bytes));
+        let sketch = Sketch::of_glif(&mut Cruncher::new(job.settings), &bytes);
         outlet.draw(&Source { name: path.to_string_lossy().into(), line: 0 }, &sketch);
     }
     outlet.finish().max(glif::crunch_file(job.settings, path))

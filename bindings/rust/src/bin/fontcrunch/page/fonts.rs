@@ -7,7 +7,7 @@ use std::sync::atomic::{AtomicUsize, Ordering};
 use std::sync::mpsc::{sync_channel, SyncSender};
 use std::thread;
 
-use fontcrunch::{glif, Cruncher, Refusal};
+use fontcrunch::{Cruncher, Refusal};
 
 use crate::arguments::{Input, Job};
 use crate::service::{complain, Status};
@@ -161,20 +161,22 @@ fn traced(cruncher: &mut Cruncher, upload: &Upload) -> Traced {
     let sketch = match &upload.from {
         From::Description(bytes) => Sketch::of_description(cruncher, bytes, true),
         From::File(path) => match fs::read(path) {
-            Ok(bytes) => Sketch::of_contours(cruncher, glif::read(&bytes)),
+            Ok(bytes) => Sketch::of_glif(cruncher, &bytes),
             Err(error) => {
                 message = Some(format!("{}: {error}", path.display()));
-                Sketch::of_contours(cruncher, Err(Refusal::Malformed))
+                Sketch::of_nothing(Refusal::Malformed)
             }
         },
     };
     let letter = letter_text(&upload.name, &sketch);
-    let Sketch::Glyph { contours, refused } = sketch else {
+    let Sketch::Glyph { contours, refused, stood } = sketch else {
         return Traced { letter, before: 0, after: 0, refused: false, message };
     };
-    let before = contours.iter().map(|trace| trace.points.len()).sum();
-    let points =
-        |trace: &fontcrunch::Trace| trace.result.as_ref().map_or(trace.points.len(), |out| out.points.len());
-    let after = contours.iter().map(points).sum();
-    Traced { letter, before, after, refused: refused.is_some(), message }
+    // what is refused stays as it stands
+    if refused.is_some() {
+        return Traced { letter, before: stood, after: stood, refused: true, message };
+    }
+    let came = contours.iter().filter_map(|trace| trace.result.as_ref().ok());
+    let after = came.map(|crunched| crunched.points.len()).sum();
+    Traced { letter, before: stood, after, refused: false, message }
 }

@@ -154,7 +154,7 @@ fn contour_text(traces: &[Trace]) -> String {
 
 /// A letter of a glyph.
 fn letter_text(name: &str, sketch: &Sketch) -> String {
-    let Sketch::Glyph { contours, refused } = sketch else {
+    let Sketch::Glyph { contours, refused, stood } = sketch else {
         return String::new();
     };
     let each: Vec<String> = contours.iter().map(|trace| contour_text(std::slice::from_ref(trace))).collect();
@@ -164,7 +164,7 @@ fn letter_text(name: &str, sketch: &Sketch) -> String {
         format!(",\"refused\":{{\"number\":{},\"reason\":{}}}", refusal.number(), quoted(reason))
     });
     format!(
-        "{{\"name\":{},\"contours\":[{}]{}}}",
+        "{{\"name\":{},\"stood\":{stood},\"contours\":[{}]{}}}",
         quoted(name),
         each.join(",\n"),
         refused.unwrap_or_default()

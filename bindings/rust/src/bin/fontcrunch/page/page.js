@@ -105,15 +105,17 @@ function letterOf(entry) {
   if (!entry.letter) {
     const data = parsed(entry.element);
     const contours = data.contours.map(readContour);
-    entry.letter = {name: data.name, refused: data.refused || null, contours, ...counts(contours)};
+    entry.letter = {name: data.name, refused: data.refused || null, contours, ...counts(contours, data)};
   }
   return entry.letter;
 }
 
-function counts(contours) {
+// A glyph that is refused stays as it stands in its file, where implied points may not be written.
+function counts(contours, {stood, refused}) {
   const real = contours.filter(contour => contour.malformed === undefined);
-  const before = real.reduce((sum, contour) => sum + contour.points.length, 0);
-  const after = EDITION_NAMES.map((_, e) => real.reduce((sum, {points, editions}) => sum + (editions[e].out || points).length, 0));
+  const before = stood === undefined ? real.reduce((sum, contour) => sum + contour.points.length, 0) : stood;
+  const came = e => real.reduce((sum, {points, editions}) => sum + (editions[e].out || points).length, 0);
+  const after = EDITION_NAMES.map((_, e) => refused && stood !== undefined ? stood : came(e));
   const farthest = Math.max(0, ...real.flatMap(({editions}) => editions.flatMap(({pieces}) => pieces.map(distanceOf))));
   const lost = real.reduce((sum, {editions}) => sum + editions[0].trace.beside.lost.length, 0);
   return {before, after, farthest, lost, malformed: contours.length - real.length};
@@ -147,7 +149,7 @@ function filledAfter(contour, e) {
 function changeWords(before, after, lost = 0) {
   const change = `${before.toLocaleString('en')} \u2192 ${counted(after, 'point')}`;
   if (lost) return `${change}, ${counted(lost, 'segment')} not written`;
-  return after < before ? `${change} (\u2212${Math.round(100 * (before - after) / before)} %)` : change;
+  return after < before ? `${change} (\u2212${Math.round(100 * (before - after) / before)}\u00a0%)` : change;
 }
 
 const LISTED = {x: 'x', y: 'y'};

@@ -1,5 +1,5 @@
 use super::*;
-use fontcrunch::{Cruncher, Point};
+use fontcrunch::Cruncher;
 
 #[test]
 fn numbers_are_cut_and_text_is_not() {
@@ -25,15 +25,12 @@ fn the_page_asks_no_network() {
 #[test]
 fn a_glyph_with_a_name_of_signs() {
     let mut cruncher = Cruncher::new(Settings::of_crate());
-    let sketch = Sketch::of_contours(&mut cruncher, Ok(vec![vec![Point::on(7, 9)]]));
-    let text = letter_text("</script><b>\"&", &sketch);
-    assert!(
-        text.starts_with(r#"{"name":"\u003c/script\u003e\u003cb\u003e\"\u0026","contours":[{"traces":[{"#),
-        "{text}"
-    );
-    let refused = Sketch::of_contours(&mut cruncher, Err(fontcrunch::Refusal::Composite));
+    let file = b"<glyph><outline><contour><point x='7' y='9' type='line'/></contour></outline></glyph>";
+    let text = letter_text("</script><b>\"&", &Sketch::of_glif(&mut cruncher, file));
+    let start = r#"{"name":"\u003c/script\u003e\u003cb\u003e\"\u0026","stood":1,"contours":[{"traces":[{"#;
+    assert!(text.starts_with(start), "{text}");
     assert_eq!(
-        letter_text("a", &refused),
-        r#"{"name":"a","contours":[],"refused":{"number":15,"reason":"the glyph is composite"}}"#
+        letter_text("a", &Sketch::of_nothing(fontcrunch::Refusal::Composite)),
+        r#"{"name":"a","stood":0,"contours":[],"refused":{"number":15,"reason":"the glyph is composite"}}"#
     );
 }
