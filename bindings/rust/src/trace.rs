@@ -150,9 +150,10 @@ pub struct Piece {
     pub beside: Option<Share>,
 }
 
-/// A curve of the result. Where it starts or ends at a point that is implied, that is midway between two controls. In the
-/// crate's mode the first one starts where the contour does, also where that is no corner, and in closed mode the last
-/// one ends at the first corner.
+/// A curve of the result. Where it starts or ends at a point that is implied, that is midway between two controls. It
+/// starts where the one before it ends, which need not be its own first break: the last break of a run may be off the
+/// corner. In the crate's mode the first one starts where the contour does, also where that is no corner, and in closed
+/// mode the last one ends at the first corner.
 #[derive(Clone, Copy, Debug, PartialEq)]
 pub struct Written {
     /// Where it starts, in the order of the contour that came in.

@@ -169,6 +169,8 @@ function cornerWords(segment, limit) {
   return told.join('; ');
 }
 
+const away = distance => `${distance > 0 && distance < .01 ? 'under 0.01' : short(distance)} units`;
+
 const span = ([first, last]) => first === last ? `segment ${first}` : `segments ${first} to ${last}`;
 
 // The numbers of the segments from the first to the last, going round.
@@ -182,7 +184,7 @@ const inRun = (run, s, total) => (s - run.first + total) % total < run.count;
 // ---- state
 
 const LAYERS = [['fill', 'Fill', '--after'], ['pieces', 'Pieces', '--after'], ['segments', 'Segments', '--before'], ['corners', 'Corners', '--corner'],
-  ['breaks', 'Breaks', '--break'], ['points', 'Points', '--before'], ['numbers', 'Numbers', '--quiet'], ['grid', 'Grid', '--grid']];
+  ['breaks', 'Breaks', '--break'], ['points', 'Points', '--before'], ['numbers', 'Numbers', '--quiet'], ['grid', 'Grid', '--base']];
 const VIEWS = EDITIONS > 1 ? [['beside', 'Editions beside each other'], ['side', 'Before, a, b'], ['overlay', 'All overlaid']]
   : [['overlay', 'Overlaid'], ['side', 'Side by side']];
 const PICKS = [['piece', 'Pieces'], ['segment', 'Segments'], ['corner', 'Corners']];
@@ -394,7 +396,7 @@ function place() {
 function gridPath(width, height) {
   const fine = META.whole_units ? 1 : .5;
   let gap = fine;
-  for (const next of [fine, 1, 10, 50, 100, 500, 1000, 10000, 100000]) {
+  for (const next of [fine, 1, 2, 5, 10, 20, 50, 100, 200, 500, 1000, 2000, 5000, 10000, 100000]) {
     gap = next;
     if (gap * state.scale >= (gap === fine ? 8 : 26)) break;
   }
@@ -598,10 +600,10 @@ function pieceCard(contour, {c, e, i}) {
   const copied = run.came === 'copied';
   const kind = copied ? 'a copied line' : told && told.straight ? 'straight' : 'bent';
   const segments = spread(piece.segments, contour.segments.length);
-  const lead = `replaces ${span(piece.segments)}${told && told.distance !== undefined && !copied ? `; at most ${short(told.distance)} units away` : ''}`;
+  const lead = `replaces ${span(piece.segments)}${told && told.distance !== undefined && !copied ? `; at most ${away(told.distance)} away` : ''}`;
   rows.push(...row('shape', `${kind}, ${curveWords(curve)}`, !copied));
   if (!copied && told) {
-    rows.push(...row('distance', `${short(told.distance)} units at ${at(told.at)}, the cross`, true));
+    rows.push(...row('distance', `${away(told.distance)} at ${at(told.at)}${told.distance > 0 ? ', the cross' : ''}`, true));
     rows.push(...row('share', `${short(told.share)} of the run\u2019s score ${short(run.chain.score)}: ${counted(told.penalties, 'penalty').replace('penaltys', 'penalties')} ` +
       `of ${short(META.penalties[e] / 16, 4)}, and ${short(told.measure)} for its distance`, true));
   }
@@ -677,7 +679,7 @@ function letterCard() {
   const whole = letter.refused ? [made('p', {class: 'warn'}, `The glyph is refused by ${letter.refused.number}: ${letter.refused.reason}.`)] : [];
   const {lost} = letter;
   const rows = [...row('contours', String(letter.contours.length)), ...letter.after.flatMap((after, e) => row(EDITIONS > 1 ? `edition ${EDITION_NAMES[e]}` : 'points', changeWords(letter.before, after))),
-    ...row('farthest', `${short(letter.farthest)} units from the upload`, true)];
+    ...row('farthest', `${away(letter.farthest)} from the upload`, true)];
   const lostWords = lost ? [made('p', {class: 'lead'}, `${counted(lost, 'segment')} outside the first and the last corner ${lost === 1 ? 'is' : 'are'} not written, and dashed. In closed mode nothing is lost.`)] : [];
   return [title('Point at a piece', 'or at a segment or a corner'), ...whole, ...bad, ...lostWords, made('dl', {}, ...rows), made('p', {class: 'foot'}, FOOT)];
 }
@@ -702,7 +704,7 @@ const cameWords = run => run.came === 'refused' ? `refused by ${run.refused.numb
 
 function pieceRow(c, e, i, {piece, run}) {
   const thing = {kind: 'piece', c, e, i};
-  const far = piece.beside && run.came !== 'copied' && piece.beside.distance !== undefined ? `${short(piece.beside.distance)} units away` : '';
+  const far = piece.beside && run.came !== 'copied' && piece.beside.distance !== undefined ? `${away(piece.beside.distance)} away` : '';
   return made('li', {}, made('button', {type: 'button', 'data-key': keyOf(thing), onclick: () => { choose(thing); keepInView(); }},
     made('span', {}, `piece ${i}`), made('span', {}, span(piece.segments)), made('span', {}, far)));
 }
@@ -834,7 +836,7 @@ function tipWords({kind, c, e, i}) {
   if (kind === 'corner') return `segment ${i} at ${at(contour.segments[i].segment.start)}: ${cornerWords(contour.segments[i].segment, contour.limit)}`;
   if (kind === 'segment') return `segment ${i} of contour ${c}`;
   const {piece, run} = contour.editions[e].pieces[i];
-  const far = piece.beside && run.came !== 'copied' && piece.beside.distance !== undefined ? `, ${short(piece.beside.distance)} units away` : '';
+  const far = piece.beside && run.came !== 'copied' && piece.beside.distance !== undefined ? `, ${away(piece.beside.distance)} away` : '';
   return `${editionWords(e)}piece ${i} replaces ${span(piece.segments)}${far}`;
 }
 
