@@ -112,7 +112,8 @@ fn write_page(job: &Job, mut page: Page, uploads: &[Upload]) -> io::Result<Statu
         page.add_letter(&traced.letter)
     })?;
     page.end()?;
-    writeln!(io::stdout(), "{shown} glyphs, {refused} refused, {before} points before, {after} after")?;
+    let glyphs = if shown == 1 { "glyph" } else { "glyphs" };
+    writeln!(io::stdout(), "{shown} {glyphs}, {refused} refused, {before} points before, {after} after")?;
     Ok(match (failed, refused) {
         (true, _) => Status::Wrong,
         (false, 0) => Status::AllCrunched,
