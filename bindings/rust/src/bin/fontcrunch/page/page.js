@@ -105,7 +105,7 @@ function letterOf(entry) {
   if (!entry.letter) {
     const data = parsed(entry.element);
     const contours = data.contours.map(readContour);
-    entry.letter = {name: data.name, refused: data.refused || null, contours, ...counts(contours, data)};
+    entry.letter = {name: data.name, refused: data.refused || null, writtenOut: data.stood !== undefined, contours, ...counts(contours, data)};
   }
   return entry.letter;
 }
@@ -167,6 +167,12 @@ function cornerWords(segment, limit) {
     else told.push(`bend of ${bend} degrees, within the limit of ${most}`);
   }
   return told.join('; ');
+}
+
+// In a glyph of a file implied points are written out first, so that a contour has more than stand there.
+function contourWords(contour, {out, trace}) {
+  if (!state.letter.writtenOut) return changeWords(contour.points.length, out.length, trace.beside.lost.length);
+  return `${counted(contour.points.length, 'point')} with those implied \u2192 ${out.length.toLocaleString('en')}`;
 }
 
 const away = distance => `${distance > 0 && distance < .01 ? 'under 0.01' : short(distance)} units`;
@@ -388,8 +394,21 @@ function place() {
       element.setAttribute('transform', `translate(${(x + off[0]).toFixed(2)} ${(y + off[1]).toFixed(2)})`);
     }
   }
+  state.panes.forEach(thinNumbers);
   state.gridWords = grid.words;
   readOut(null);
+}
+
+// Numbers that would stand over others are left out until there is room for them.
+function thinNumbers(pane) {
+  const taken = new Map();
+  for (const [element, where, off] of pane.moved) {
+    if (element.tagName !== 'text') continue;
+    const [x, y] = onScreen(where), [column, line] = [Math.round((x + off[0]) / 9), Math.round((y + off[1]) / 8)];
+    const near = [-2, -1, 0, 1, 2].some(dx => [-1, 0, 1].some(dy => taken.has(`${column + dx} ${line + dy}`)));
+    element.style.visibility = near ? 'hidden' : '';
+    if (!near) taken.set(`${column} ${line}`, true);
+  }
 }
 
 // The grid that breaks are rounded to where there is room for it; else one of 1, 10, 100 .. units.
@@ -669,7 +688,7 @@ function refusedWords(contour) {
 
 function contourCard(contour, {c}) {
   const rows = contour.editions.flatMap((edition, e) => row(EDITIONS > 1 ? `edition ${EDITION_NAMES[e]}` : 'points',
-    edition.out ? changeWords(contour.points.length, edition.out.length, edition.trace.beside.lost.length) : counted(contour.points.length, 'point')));
+    edition.out ? contourWords(contour, edition) : counted(contour.points.length, 'point')));
   return [title(`Contour ${c}`, counted(contour.segments.length, 'segment')), ...refusedWords(contour), made('dl', {}, ...rows)];
 }
 
@@ -692,7 +711,7 @@ function fillList() {
     const {c} = contour, edition = contour.editions[e];
     if (!edition) return [made('h3', {class: 'refused'}, `Line ${contour.line}: malformed`)];
     const head = made('h3', edition.out ? {} : {class: 'refused'}, `${editionWords(e)}contour ${c}: ` +
-      (edition.out ? changeWords(contour.points.length, edition.out.length, edition.trace.beside.lost.length) : `refused by ${edition.trace.refused.number}`));
+      (edition.out ? contourWords(contour, edition) : `refused by ${edition.trace.refused.number}`));
     const rows = edition.trace.runs.flatMap((run, r) => [
       made('li', {class: `run${run.came === 'refused' ? ' refused' : ''}`}, `run ${r}: ${span([run.first, (run.first + run.count - 1) % contour.segments.length])}, ${cameWords(run)}`),
       ...edition.pieces.flatMap((held, i) => held.run === run ? [pieceRow(c, e, i, held)] : [])]);
@@ -704,7 +723,7 @@ const cameWords = run => run.came === 'refused' ? `refused by ${run.refused.numb
 
 function pieceRow(c, e, i, {piece, run}) {
   const thing = {kind: 'piece', c, e, i};
-  const far = piece.beside && run.came !== 'copied' && piece.beside.distance !== undefined ? `${away(piece.beside.distance)} away` : '';
+  const far = piece.beside && run.came !== 'copied' && piece.beside.distance !== undefined ? away(piece.beside.distance) : '';
   return made('li', {}, made('button', {type: 'button', 'data-key': keyOf(thing), onclick: () => { choose(thing); keepInView(); }},
     made('span', {}, `piece ${i}`), made('span', {}, span(piece.segments)), made('span', {}, far)));
 }
