@@ -76,6 +76,17 @@ const flat = curve => Array.from({length: curve[1] ? 17 : 2}, (_, i) => along(cu
 
 // ---- letters
 
+// A segment or a piece with its curve; as a polygon only where it is asked for, since a page may hold many.
+class Drawn {
+  constructor(curve, held) {
+    Object.assign(this, held, {curve});
+  }
+
+  get line() {
+    return this.polygon ||= flat(this.curve);
+  }
+}
+
 // What came of a contour in an edition: its pieces in one list, with their curves and runs.
 function readEdition(trace) {
   const pieces = [];
@@ -85,7 +96,7 @@ function readEdition(trace) {
     const control = piece.written ? piece.written.control || null : !piece.control || piece.beside.straight ? null : piece.control;
     const curve = [told.start, control, told.end].map(place => place && place.map(Number));
     if (curve.some(place => place && !place.every(Number.isFinite))) return;
-    pieces.push({piece, run, r, last: i === run.pieces.length - 1, curve, line: flat(curve)});
+    pieces.push(new Drawn(curve, {piece, run, r, last: i === run.pieces.length - 1}));
   }));
   const out = trace.crunch ? trace.crunch.points : null;
   return {trace, pieces, out, curves: out ? curvesOf(out) : []};
@@ -95,8 +106,7 @@ function readContour(contour, c) {
   if (contour.malformed !== undefined) return {c, malformed: contour.malformed, line: contour.line, editions: [], segments: [], curves: [], points: []};
   const trace = contour.traces[0];
   const segments = trace.segments.map(segment => {
-    const curve = [segment.start, segment.control || null, segment.end];
-    return {segment, curve, line: flat(curve)};
+    return new Drawn([segment.start, segment.control || null, segment.end], {segment});
   });
   return {c, points: trace.points, curves: curvesOf(trace.points), segments, limit: trace.beside.limit, editions: contour.traces.map(readEdition)};
 }
@@ -230,7 +240,7 @@ function layOut() {
   state.readout = made('div', {class: 'readout'});
   stage.append(state.readout);
   if (!state.letter.contours.length) stage.append(made('div', {class: 'empty'}, 'There is no contour: nothing is drawn.'));
-  place();
+  placeNow();
   light();
 }
 
@@ -277,7 +287,9 @@ function drawHalos(pane, contour) {
 
 function drawSegments(pane, contour) {
   const lost = new Set(contour.editions.flatMap(({trace}) => trace.beside.lost));
-  contour.segments.forEach(({curve}, s) => pane.world.append(drawn('path', {class: `seg${lost.has(s) ? ' lost' : ''}`, d: pathOf(curve), 'data-s': `${contour.c}.${s}`})));
+  contour.segments.forEach(({curve}, s) => {
+    pane.world.append(drawn('path', {class: `seg${lost.has(s) ? ' lost' : ''}`, d: pathOf(curve), 'data-s': `${contour.c}.${s}`}));
+  });
   if (!contour.segments.length) pane.world.append(drawn('path', {class: 'seg', d: closedPath(contour.curves)}));
   drawPoints(pane, contour.points, contour.curves, '');
 }
@@ -297,8 +309,8 @@ function drawPieces(pane, contour, e) {
 }
 
 // An element that stays as large as it is while the letter is zoomed.
-function mark(pane, place, element, off = [0, 0]) {
-  pane.moved.push([element, place, off]);
+function mark(pane, layer, place, element, off = [0, 0]) {
+  pane.moved.push({element, place, off, layer});
   pane.marks.append(element);
 }
 
@@ -316,33 +328,33 @@ function drawPoints(pane, points, curves, name) {
   pane.world.append(drawn('path', {class: 'handle', d: handles.join('')}));
   for (const point of points) {
     const shape = point[2] ? drawn('rect', {class: `on ${name}`, x: -3, y: -3, width: 6, height: 6}) : drawn('circle', {class: `off ${name}`, r: 3});
-    mark(pane, point, shape);
+    mark(pane, 'points', point, shape);
   }
   if (name || !curves.length) return;
   const [from, control, end] = curves[0], to = control || end;
   const turn = Math.atan2(-(to[1] - from[1]), to[0] - from[0]) * 180 / Math.PI;
   const group = drawn('g');
   group.append(drawn('polygon', {class: 'arrow', points: '20,0 10,-5 10,5', transform: `rotate(${turn})`}));
-  mark(pane, from, group);
+  mark(pane, 'points', from, group);
 }
 
 function drawMarks(pane, contour) {
   contour.segments.forEach(({segment, curve}, s) => {
-    if (pane.before) mark(pane, along(curve, .5), drawn('text', {class: 'number'}, s), aside(curve, 12));
+    if (pane.before) mark(pane, 'numbers', along(curve, .5), drawn('text', {class: 'number'}, s), aside(curve, 12));
     if (!segment.why.length) return;
-    mark(pane, segment.start, drawn('circle', {class: 'ring', r: 7.5, 'data-k': `${contour.c}.${s}`}));
+    mark(pane, 'corners', segment.start, drawn('circle', {class: 'ring', r: 7.5, 'data-k': `${contour.c}.${s}`}));
   });
   for (const e of pane.editions) {
     const edition = contour.editions[e];
     if (!edition) continue;
     edition.pieces.forEach(({curve, last}, p) => {
-      mark(pane, along(curve, .5), drawn('text', {class: `number ${e ? 'b' : 'a'}`}, p), aside(curve, e ? -26 : -12));
+      mark(pane, 'numbers', along(curve, .5), drawn('text', {class: `number ${e ? 'b' : 'a'}`}, p), aside(curve, e ? -26 : -12));
       if (last) return;
       const [, control, end] = curve, from = control || curve[0];
       const turn = Math.atan2(-(end[1] - from[1]), end[0] - from[0]) * 180 / Math.PI;
       const tick = drawn('g');
       tick.append(drawn('line', {class: 'tick', y1: -8, y2: 8, transform: `rotate(${turn})`}));
-      mark(pane, end, tick);
+      mark(pane, 'breaks', end, tick);
     });
   }
 }
@@ -363,7 +375,7 @@ function fit(box = boxOf(state.letter.contours), most = 60) {
   state.scale = clamp(scale, 1e-4, most);
   state.x = width / 2 - (left + right) / 2 * state.scale;
   state.y = height / 2 + (low + high) / 2 * state.scale;
-  place();
+  placeNow();
 }
 
 function zoom(factor, [x, y] = paneSize().map(side => side / 2)) {
@@ -380,7 +392,13 @@ function move(dx, dy) {
   place();
 }
 
+// What has moved is drawn with the next frame, however often it has moved until then.
 function place() {
+  if (!state.placing) state.placing = requestAnimationFrame(placeNow);
+}
+
+function placeNow() {
+  state.placing = null;
   if (!state.letter) return;
   const matrix = `matrix(${state.scale} 0 0 ${-state.scale} ${state.x} ${state.y})`;
   const [width, height] = paneSize();
@@ -389,21 +407,30 @@ function place() {
     pane.world.setAttribute('transform', matrix);
     pane.lights.setAttribute('transform', matrix);
     pane.grid.setAttribute('d', grid.d);
-    for (const [element, where, off] of [...pane.moved, ...pane.lit]) {
-      const [x, y] = onScreen(where);
-      element.setAttribute('transform', `translate(${(x + off[0]).toFixed(2)} ${(y + off[1]).toFixed(2)})`);
-    }
+    placeMarks(pane.moved.filter(({layer}) => !state.hidden.has(layer)), width, height);
+    placeMarks(pane.lit, width, height);
+    if (!state.hidden.has('numbers')) thinNumbers(pane);
   }
-  state.panes.forEach(thinNumbers);
   state.gridWords = grid.words;
   readOut(null);
+}
+
+// What is outside the pane, before and now, is left where it is.
+function placeMarks(marks, width, height) {
+  for (const held of marks) {
+    const [x, y] = onScreen(held.place), outside = x < -60 || y < -60 || x > width + 60 || y > height + 60;
+    if (!outside || !held.outside) {
+      held.element.setAttribute('transform', `translate(${(x + held.off[0]).toFixed(2)} ${(y + held.off[1]).toFixed(2)})`);
+    }
+    held.outside = outside;
+  }
 }
 
 // Numbers that would stand over others are left out until there is room for them.
 function thinNumbers(pane) {
   const taken = new Map();
-  for (const [element, where, off] of pane.moved) {
-    if (element.tagName !== 'text') continue;
+  for (const {element, place: where, off, layer} of pane.moved) {
+    if (layer !== 'numbers') continue;
     const [x, y] = onScreen(where), [column, line] = [Math.round((x + off[0]) / 9), Math.round((y + off[1]) / 8)];
     const near = [-2, -1, 0, 1, 2].some(dx => [-1, 0, 1].some(dy => taken.has(`${column + dx} ${line + dy}`)));
     element.style.visibility = near ? 'hidden' : '';
@@ -539,8 +566,12 @@ function related(thing) {
     return {pieces: [[thing.e, thing.i]], segments: spread(contour.editions[thing.e].pieces[thing.i].piece.segments, total)};
   }
   if (thing.kind === 'corner') return {pieces: [], segments: []};
-  const pieces = contour.editions.flatMap((edition, e) => edition.pieces.flatMap(({piece}, p) => spread(piece.segments, total).includes(thing.i) ? [[e, p]] : []));
-  return {pieces, segments: [thing.i]};
+  return {pieces: contour.editions.flatMap((edition, e) => owners(edition, thing.i, total).map(p => [e, p])), segments: [thing.i]};
+}
+
+// The pieces of an edition that replace a segment.
+function owners(edition, segment, total) {
+  return edition.pieces.flatMap(({piece}, p) => spread(piece.segments, total).includes(segment) ? [p] : []);
 }
 
 function light() {
@@ -556,8 +587,8 @@ function light() {
     for (const [e, p] of pieces) if (pane.editions.includes(e)) lightPiece(pane, contour, e, p);
     if (thing.kind === 'corner') label(pane, contour.segments[thing.i].segment.start, drawn('circle', {class: 'ring chosen', r: 10}));
     if (thing.kind === 'piece') lightFarthest(pane, contour.editions[thing.e].pieces[thing.i].piece);
+    placeMarks(pane.lit, ...paneSize());
   }
-  place();
   tell(thing);
   document.querySelectorAll('#list [aria-current]').forEach(button => button.removeAttribute('aria-current'));
   const row = state.chosen && document.querySelector(`#list [data-key="${keyOf(state.chosen)}"]`);
@@ -568,7 +599,7 @@ function light() {
 }
 
 function label(pane, where, element, off = [0, 0]) {
-  pane.lit.push([element, where, off]);
+  pane.lit.push({element, place: where, off});
   pane.labels.append(element);
 }
 
@@ -623,7 +654,8 @@ function pieceCard(contour, {c, e, i}) {
   rows.push(...row('shape', `${kind}, ${curveWords(curve)}`, !copied));
   if (!copied && told) {
     rows.push(...row('distance', `${away(told.distance)} at ${at(told.at)}${told.distance > 0 ? ', the cross' : ''}`, true));
-    rows.push(...row('share', `${short(told.share)} of the run\u2019s score ${short(run.chain.score)}: ${counted(told.penalties, 'penalty').replace('penaltys', 'penalties')} ` +
+    const penalties = `${told.penalties} ${told.penalties === 1 ? 'penalty' : 'penalties'}`;
+    rows.push(...row('share', `${short(told.share)} of the run\u2019s score ${short(run.chain.score)}: ${penalties} ` +
       `of ${short(META.penalties[e] / 16, 4)}, and ${short(told.measure)} for its distance`, true));
   }
   if (piece.breaks) rows.push(...row('breaks', `${piece.breaks[0]} to ${piece.breaks[1]}`));
@@ -641,14 +673,15 @@ function segmentCard(contour, {c, i}) {
   const {segment, curve} = contour.segments[i], rows = [], total = contour.segments.length;
   rows.push(...row('shape', `${curve[1] ? 'curve' : 'line'}, ${curveWords(curve)}`));
   contour.editions.forEach((edition, e) => {
-    const owners = edition.pieces.flatMap(({piece}, p) => spread(piece.segments, total).includes(i) ? [p] : []);
+    const mine = owners(edition, i, total);
     const name = EDITIONS > 1 ? `pieces of ${EDITION_NAMES[e]}` : 'pieces';
-    if (owners.length) rows.push(...row(name, owners.map(p => pick({kind: 'piece', c, e, i: p}, `piece ${p}`))));
+    if (mine.length) rows.push(...row(name, mine.map(p => pick({kind: 'piece', c, e, i: p}, `piece ${p}`))));
     else rows.push(...row(name, edition.trace.beside.lost.includes(i) ? 'none: not written, since it lies outside the first and the last corner' : 'none'));
     const r = edition.trace.runs.findIndex(run => inRun(run, i, total));
     if (r >= 0 && e === 0) rows.push(...runRows(edition.trace.runs[r], r));
   });
-  const corner = segment.why.length ? [made('p', {class: 'lead'}, pick({kind: 'corner', c, i}, 'starts at a corner'), `: ${cornerWords(segment, contour.limit)}`)] : [];
+  const corner = segment.why.length
+    ? [made('p', {class: 'lead'}, pick({kind: 'corner', c, i}, 'starts at a corner'), `: ${cornerWords(segment, contour.limit)}`)] : [];
   return [title(`Segment ${i}`, `contour ${c}`), ...corner, made('dl', {}, ...rows), ...refusedWords(contour), made('p', {class: 'foot'}, FOOT)];
 }
 
@@ -665,7 +698,8 @@ function runRows(run, r) {
 function cornerCard(contour, {c, i}) {
   const {segment} = contour.segments[i];
   const before = (i + contour.segments.length - 1) % contour.segments.length;
-  const rows = [...row('reasons', segment.why.join(', ')), ...row('between', [pick({kind: 'segment', c, i: before}, `segment ${before}`), ' and ', pick({kind: 'segment', c, i}, `segment ${i}`)])];
+  const [one, other] = [before, i].map(k => pick({kind: 'segment', c, i: k}, `segment ${k}`));
+  const rows = [...row('reasons', segment.why.join(', ')), ...row('between', [one, ' and ', other])];
   if (segment.beside) {
     rows.push(...row('bend', `${short(segment.beside.degrees, 3)} degrees; its sine ${short(segment.beside.sine, 4)}, limit ${contour.limit.sine}`, true));
   }
@@ -678,7 +712,8 @@ function refusedWords(contour) {
   return contour.editions.flatMap(({trace}, e) => {
     const words = [];
     if (trace.refused) {
-      words.push(made('p', {class: 'warn'}, made('strong', {}, `${EDITIONS > 1 ? `Edition ${EDITION_NAMES[e]} of c` : 'C'}ontour ${contour.c} is refused by ${trace.refused.number}: `),
+      const whose = EDITIONS > 1 ? `Edition ${EDITION_NAMES[e]} of contour` : 'Contour';
+      words.push(made('p', {class: 'warn'}, made('strong', {}, `${whose} ${contour.c} is refused by ${trace.refused.number}: `),
         `${trace.refused.reason}.`, trace.beside.hint ? ` Hint: ${trace.beside.hint}.` : ''));
     }
     if (trace.beside.unchanged) words.push(made('p', {class: 'lead'}, `Contour ${contour.c} is left unchanged: ${trace.beside.unchanged}.`));
@@ -697,9 +732,10 @@ function letterCard() {
   const bad = letter.contours.flatMap(refusedWords);
   const whole = letter.refused ? [made('p', {class: 'warn'}, `The glyph is refused by ${letter.refused.number}: ${letter.refused.reason}.`)] : [];
   const {lost} = letter;
-  const rows = [...row('contours', String(letter.contours.length)), ...letter.after.flatMap((after, e) => row(EDITIONS > 1 ? `edition ${EDITION_NAMES[e]}` : 'points', changeWords(letter.before, after))),
-    ...row('farthest', `${away(letter.farthest)} from the upload`, true)];
-  const lostWords = lost ? [made('p', {class: 'lead'}, `${counted(lost, 'segment')} outside the first and the last corner ${lost === 1 ? 'is' : 'are'} not written, and dashed. In closed mode nothing is lost.`)] : [];
+  const points = letter.after.flatMap((after, e) => row(EDITIONS > 1 ? `edition ${EDITION_NAMES[e]}` : 'points', changeWords(letter.before, after, lost)));
+  const rows = [...row('contours', String(letter.contours.length)), ...points, ...row('farthest', `${away(letter.farthest)} from the upload`, true)];
+  const outside = `${counted(lost, 'segment')} outside the first and the last corner ${lost === 1 ? 'is' : 'are'} not written, and dashed.`;
+  const lostWords = lost ? [made('p', {class: 'lead'}, `${outside} In closed mode nothing is lost.`)] : [];
   return [title('Point at a piece', 'or at a segment or a corner'), ...whole, ...bad, ...lostWords, made('dl', {}, ...rows), made('p', {class: 'foot'}, FOOT)];
 }
 
@@ -712,9 +748,10 @@ function fillList() {
     if (!edition) return [made('h3', {class: 'refused'}, `Line ${contour.line}: malformed`)];
     const head = made('h3', edition.out ? {} : {class: 'refused'}, `${editionWords(e)}contour ${c}: ` +
       (edition.out ? contourWords(contour, edition) : `refused by ${edition.trace.refused.number}`));
+    const held = run => span([run.first, (run.first + run.count - 1) % contour.segments.length]);
     const rows = edition.trace.runs.flatMap((run, r) => [
-      made('li', {class: `run${run.came === 'refused' ? ' refused' : ''}`}, `run ${r}: ${span([run.first, (run.first + run.count - 1) % contour.segments.length])}, ${cameWords(run)}`),
-      ...edition.pieces.flatMap((held, i) => held.run === run ? [pieceRow(c, e, i, held)] : [])]);
+      made('li', {class: `run${run.came === 'refused' ? ' refused' : ''}`}, `run ${r}: ${held(run)}, ${cameWords(run)}`),
+      ...edition.pieces.flatMap((piece, i) => piece.run === run ? [pieceRow(c, e, i, piece)] : [])]);
     return [head, made('ol', {}, ...rows)];
   }));
 }
@@ -734,11 +771,14 @@ function switches(id, options, chosen, onChoose) {
   const group = byId(id);
   group.querySelectorAll('button').forEach(button => button.remove());
   for (const [value, words] of options) {
-    group.append(made('button', {type: 'button', role: 'radio', 'data-value': value, 'aria-checked': String(value === chosen()), onclick: () => onChoose(value)}, words));
+    const attributes = {type: 'button', role: 'radio', 'data-value': value, 'aria-checked': String(value === chosen())};
+    group.append(made('button', {...attributes, onclick: () => onChoose(value)}, words));
   }
 }
 
-const checked = (id, value) => byId(id).querySelectorAll('button').forEach(button => button.setAttribute('aria-checked', String(button.dataset.value === value)));
+function checked(id, value) {
+  byId(id).querySelectorAll('button').forEach(button => button.setAttribute('aria-checked', String(button.dataset.value === value)));
+}
 
 function setView(view) {
   state.view = view;
@@ -762,7 +802,7 @@ function showLayers() {
     stage.classList.toggle(`hide-${name}`, state.hidden.has(name));
     byId('layers').querySelector(`[data-value="${name}"]`).setAttribute('aria-pressed', String(!state.hidden.has(name)));
   }
-  if (state.readout) readOut(null);
+  if (state.letter) place();
 }
 
 function addSwitches() {
@@ -973,6 +1013,12 @@ function settingsWords() {
   return [made('strong', {}, penalties), `${why}${other}. Breaks on ${META.whole_units ? 'whole' : 'half'} units. In ${mode}.`];
 }
 
+function summaryWords(letter) {
+  const changes = letter.after.map((after, e) => (EDITIONS > 1 ? `${EDITION_NAMES[e]}: ` : '') + changeWords(letter.before, after, letter.lost));
+  const faults = [letter.refused && 'the glyph is refused', letter.malformed && counted(letter.malformed, 'malformed line')].filter(Boolean);
+  return [[counted(letter.contours.length, 'contour'), ...changes].join(', '), ...faults].join('; ');
+}
+
 function showLetter(entry, thing) {
   const fresh = state.entry !== entry || !state.letter;
   byId('index').hidden = true;
@@ -982,8 +1028,7 @@ function showLetter(entry, thing) {
     Object.assign(state, {entry, letter: letterOf(entry), chosen: null, pointed: null});
     const {letter} = state;
     byId('title').textContent = letter.name;
-    byId('summary').textContent = `${counted(letter.contours.length, 'contour')}, ${letter.after.map((after, e) => (EDITIONS > 1 ? `${EDITION_NAMES[e]}: ` : '') + changeWords(letter.before, after, letter.lost)).join(', ')}` +
-      (letter.refused || letter.malformed ? `; ${[letter.refused && 'the glyph is refused', letter.malformed && counted(letter.malformed, 'malformed line')].filter(Boolean).join(', ')}` : '');
+    byId('summary').textContent = summaryWords(letter);
     document.title = `${letter.name} \u00b7 fontcrunch`;
     layOut();
     fit();
@@ -1004,7 +1049,8 @@ function showIndex() {
   const [before, after, lost] = [total(letter => letter.before), total(letter => letter.after[0]), total(letter => letter.lost)];
   const refused = letters.filter(isRefused).length;
   byId('title').textContent = META.title;
-  byId('summary').textContent = `${counted(letters.length, META.what)}, ${changeWords(before, after, lost)}${META.more ? `; ${META.more}` : ''}${refused ? `; ${refused} refused` : ''}`;
+  const change = `${counted(letters.length, META.what)}, ${changeWords(before, after, lost)}`;
+  byId('summary').textContent = [change, META.more, refused && `${refused} refused`].filter(Boolean).join('; ');
   document.title = `${META.title} \u00b7 fontcrunch`;
   fillIndex();
 }
@@ -1012,8 +1058,13 @@ function showIndex() {
 const isRefused = letter => Boolean(letter.refused) || letter.contours.some(({editions}) => editions.some(({out}) => !out));
 const dropped = letter => isRefused(letter) ? 0 : Math.max(...letter.after.map(after => Math.abs(letter.before - after)));
 const SORTS = {
-  change: (a, b) => dropped(b) - dropped(a), share: (a, b) => dropped(b) / (b.before || 1) - dropped(a) / (a.before || 1), distance: (a, b) => b.farthest - a.farthest,
-  points: (a, b) => b.before - a.before, refused: (a, b) => isRefused(b) - isRefused(a), name: (a, b) => a.name < b.name ? -1 : a.name > b.name ? 1 : 0, order: () => 0,
+  change: (a, b) => dropped(b) - dropped(a),
+  share: (a, b) => dropped(b) / (b.before || 1) - dropped(a) / (a.before || 1),
+  distance: (a, b) => b.farthest - a.farthest,
+  points: (a, b) => b.before - a.before,
+  refused: (a, b) => isRefused(b) - isRefused(a),
+  name: (a, b) => a.name < b.name ? -1 : a.name > b.name ? 1 : 0,
+  order: () => 0,
 };
 
 function fillIndex() {
@@ -1027,9 +1078,10 @@ function fillIndex() {
 function indexCard(entry) {
   const letter = letterOf(entry);
   const bad = isRefused(letter);
+  const changes = letter.after.map(after => changeWords(letter.before, after, letter.lost));
   const svg = drawn('svg', {'aria-hidden': 'true', preserveAspectRatio: 'xMidYMid meet'});
   const card = made('a', {href: addressOf(entry, null)}, svg, made('span', {class: 'who', title: letter.name}, letter.name),
-    made('span', {class: `what${bad ? ' bad' : ''}`}, bad ? refusedBy(letter) : letter.after.map(after => changeWords(letter.before, after, letter.lost)).join('; ')));
+    made('span', {class: `what${bad ? ' bad' : ''}`}, bad ? refusedBy(letter) : changes.join('; ')));
   watch.observe(card);
   card.draw = () => thumbnail(svg, letter, bad);
   return card;
