@@ -165,7 +165,7 @@ fn an_unchanged_contour() {
 fn runs_going_round() {
     assert_eq!(spans(&[1, 2, 4], 5, false), [1..2, 2..4]);
     assert_eq!(spans(&[1, 2, 4], 5, true), [1..2, 2..4, 4..6]);
-    assert_eq!(spans(&[2], 3, true), [2..5]);
+    assert_eq!(spans(&[2], 3, true), vec![2..5]);
     assert_eq!(spans(&[2], 3, false), [0..0; 0]);
     assert_eq!(spans(&[], 3, true), [0..0; 0]);
     let hill = traced_at(closed(), &HILL);

@@ -947,7 +947,7 @@ document.addEventListener('keydown', event => {
   if (inField) return;
   if (event.key === '?') return byId('keys').showModal();
   if (!state.letter) return;
-  if (event.key === 'Enter' && event.target.tagName === 'BUTTON') return;
+  if (event.key === 'Enter' && /^(A|BUTTON)$/.test(event.target.tagName)) return;
   const pan = event.shiftKey && PANS[event.key];
   const layer = LAYERS[Number(event.key) - 1];
   const act = pan ? () => move(...pan) : layer ? () => setLayer(layer[0]) : KEYS[event.key.length === 1 ? event.key.toLowerCase() : event.key];

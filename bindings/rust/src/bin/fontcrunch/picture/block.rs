@@ -344,17 +344,16 @@ fn keep_off(labels: &mut Labels, view: &View, trace: &Trace, outline: &Outline) 
     trace.points.iter().for_each(|&point| labels.keep_off(view.at(point.into()), 3.0));
     for (node, curve) in outline.nodes.iter().zip(&outline.curves) {
         let control = curve.control.unwrap_or(node.place.midway(curve.end));
-        let (early, late) = (node.place.midway(control), control.midway(curve.end));
-        let middle = early.midway(late);
-        for place in [
-            node.place.midway(early).midway(early.midway(middle)),
-            middle,
-            middle.midway(late).midway(late.midway(curve.end)),
-        ] {
-            labels.keep_off(view.at(place), 1.0);
+        for t in NEAR_MIDDLE {
+            let between = |a: Place, b: Place| Place { x: a.x + t * (b.x - a.x), y: a.y + t * (b.y - a.y) };
+            let place = between(between(node.place, control), between(control, curve.end));
+            labels.keep_off(view.at(place), 1.5);
         }
     }
 }
+
+/// Where words stand off a curve: its number is put beside its middle.
+const NEAR_MIDDLE: [f64; 9] = [0.25, 0.44, 0.46, 0.48, 0.5, 0.52, 0.54, 0.56, 0.75];
 
 fn reasons_drawn(labels: &mut Labels, view: &View, trace: &Trace) -> String {
     trace
@@ -372,7 +371,7 @@ fn numbers_drawn(labels: &mut Labels, view: &View, trace: &Trace, outline: &Outl
     for (i, (segment, curve)) in trace.segments.iter().zip(&outline.curves).enumerate() {
         let chord = segment.start.midway(segment.end);
         let middle = curve.control.map_or(chord, |control| chord.midway(control));
-        svg.push_str(&labels.beside(view.at(middle), 3.5, 8.5, svg::QUIET, &i.to_string()));
+        svg.push_str(&labels.beside(view.at(middle), 4.0, 8.5, svg::QUIET, &i.to_string()));
     }
     svg
 }
