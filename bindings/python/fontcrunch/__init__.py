@@ -31,7 +31,7 @@ Refusals. What is not done is refused by a number, with its reason in words:
 Runs and chains. Corners cut a contour into runs, numbered from 0: run k lies between corners k and k + 1. What lies before
 the first corner and after the last is in no run, and is not written, or in closed mode it is the last run, which goes round.
 `chain` gives the pieces of a run, and `check` judges those of anyone: it measures anew and seeks nothing. `why` tells which
-tests make the start of a segment a corner.
+tests make the start of a segment a corner. `trace` tells all of it at once, as docs/trace.schema.json has it.
 
 Lookups that fell. A piece is measured against the samples of its run, and some lookups may fall past their end, where the
 Rust which this follows takes (0, 0). `fallen` of Crunched and of Chain counts them, and `verdict`, which is `check` with
@@ -64,6 +64,7 @@ from ._idle import Beside, Idle, IdleDrop, drop_idle
 from ._prepared import prepared
 from ._refusal import Refused
 from ._rows import ANSWER_ROOM, BREAK_ROOM, MOST_PIECES, MOST_POINTS_IN, SAMPLE_ROOM, USUAL_POINT_ROOM, Point
+from ._trace import trace
 from ._uploads import Cleaned, Dropped, Why, clean, explicit, from_cubics, put_back
 from ._version import __version__ as __version__
 
@@ -106,6 +107,7 @@ __all__ = [
     "put_back",
     "read_glif",
     "read_glyph",
+    "trace",
     "verdict",
     "why",
     "write_glif",

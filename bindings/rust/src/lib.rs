@@ -39,7 +39,8 @@
 //! which this follows takes (0, 0). [`Crunched::fallen`], [`Chain::fallen`] and [`Verdict::fallen`] count them; they
 //! change nothing else.
 //!
-//! [`Cruncher::why`] tells which tests make the start of a segment a corner.
+//! [`Cruncher::why`] tells which tests make the start of a segment a corner. [`Cruncher::trace`] tells all of it at
+//! once, run by run and piece by piece: what each piece replaced, its place, its share of the score and its distance.
 //!
 //! # Two editions
 //!
@@ -111,11 +112,13 @@ mod explicit;
 pub mod glif;
 pub mod glyph;
 mod idle;
+pub mod outline;
 mod prepared;
 mod reasons;
 mod refusal;
 mod rows;
 mod settings;
+pub mod trace;
 
 pub use cleaning::{clean, put_back, Cleaned, Dropped, Why};
 pub use cruncher::{Chain, Crunched, Cruncher, Piece, Point, Verdict};
@@ -128,3 +131,4 @@ pub use reasons::Reasons;
 pub use refusal::Refusal;
 pub use rows::{ANSWER_ROOM, BREAK_ROOM, MOST_PIECES, MOST_POINTS_IN, SAMPLE_ROOM, USUAL_POINT_ROOM};
 pub use settings::{Settings, CRATE_PENALTY, DEFAULT_PENALTY};
+pub use trace::Trace;

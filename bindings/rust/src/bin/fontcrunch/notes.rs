@@ -3,7 +3,7 @@
 
 use fontcrunch::{drop_idle, Cruncher, Point};
 
-use crate::picture::reading::{lines, outside, why};
+use crate::corners::{lines, outside, why};
 use crate::picture::svg::counted;
 
 /// What is to be said of a contour that was crunched, of its points and what came of them.

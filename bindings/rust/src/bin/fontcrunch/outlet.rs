@@ -1,34 +1,39 @@
-//! Where answers go: standard output, standard error, the picture, and the exit status.
+//! Where answers go: standard output, standard error, pictures and pages, and the exit status.
 
 use std::io::{self, ErrorKind, Write};
 use std::path::Path;
 
-use fontcrunch::Settings;
-
-use crate::drawing::Drawing;
 use crate::inputs::Source;
-use crate::picture::Sketch;
 use crate::service::{complain, Status};
+use crate::sheet::Sheet;
+use crate::sketch::Sketch;
 use crate::worker::Answer;
+
+/// A file that contours are drawn to as they come.
+pub trait Canvas: Send {
+    fn add(&mut self, source: &Source, sketch: &Sketch) -> io::Result<()>;
+
+    fn finish(self: Box<Self>) -> io::Result<()>;
+}
 
 pub struct Outlet<W> {
     answers: W,
-    drawing: Option<Drawing>,
-    /// Where the picture goes to standard output, answers do not.
+    sheets: Vec<Sheet>,
+    /// Where a picture goes to standard output, answers do not.
     answers_shown: bool,
     status: Status,
 }
 
 impl<W: Write> Outlet<W> {
     pub fn new(answers: W) -> Outlet<W> {
-        Outlet { answers, drawing: None, answers_shown: true, status: Status::AllCrunched }
+        Outlet { answers, sheets: vec![], answers_shown: true, status: Status::AllCrunched }
     }
 
-    pub fn start_drawing(&mut self, path: &Path, settings: Settings) {
-        match Drawing::start(path, settings) {
-            Ok(drawing) => {
-                self.answers_shown = !drawing.to_standard_output();
-                self.drawing = Some(drawing);
+    pub fn start_drawing(&mut self, path: &Path, create: impl FnOnce(&Path) -> io::Result<Box<dyn Canvas>>) {
+        match Sheet::start(path, create) {
+            Ok(sheet) => {
+                self.answers_shown &= !sheet.to_standard_output();
+                self.sheets.push(sheet);
             }
             Err(message) => self.wrong(&message),
         }
@@ -76,25 +81,25 @@ impl<W: Write> Outlet<W> {
         }
     }
 
-    /// A picture that fails is given up; the answers go on.
-    fn draw(&mut self, source: &Source, sketch: &Sketch) {
-        let Some(drawing) = &mut self.drawing else {
-            return;
-        };
-        let title = format!("{}, line {}", source.name, source.line);
-        if let Err(message) = drawing.add(&title, sketch) {
-            self.drawing = None;
-            self.wrong(&message);
+    /// A drawing that fails is given up; the answers go on.
+    pub fn draw(&mut self, source: &Source, sketch: &Sketch) {
+        for mut sheet in std::mem::take(&mut self.sheets) {
+            match sheet.add(source, sketch) {
+                Ok(()) => self.sheets.push(sheet),
+                Err(message) => self.wrong(&message),
+            }
         }
     }
 
-    /// The picture is ended; the worst that was met.
+    /// Drawings are ended; the worst that was met.
     pub fn finish(mut self) -> Status {
-        if let Some(Err(message)) = self.drawing.take().map(|drawing| drawing.finish()) {
-            self.status = Status::Wrong;
-            // one that nobody reads any more needs no message
-            if !message.is_empty() {
-                self.wrong(&message);
+        for sheet in std::mem::take(&mut self.sheets) {
+            if let Err(message) = sheet.finish() {
+                self.status = Status::Wrong;
+                // one that nobody reads any more needs no message
+                if !message.is_empty() {
+                    self.wrong(&message);
+                }
             }
         }
         self.status

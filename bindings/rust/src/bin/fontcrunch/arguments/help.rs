@@ -50,6 +50,7 @@ impl Page {
 fn page(tool: Tool) -> &'static Page {
     match tool {
         Tool::Crunch => &CRUNCH,
+        Tool::Trace => &TRACE,
         Tool::Clean { .. } => &CLEAN,
         Tool::Cubic { .. } => &CUBIC,
         Tool::Explicit { .. } => &EXPLICIT,
@@ -66,9 +67,10 @@ fn page(tool: Tool) -> &'static Page {
 const OVERVIEW: &str = "\
 Crunches TrueType contours: puts fewer quadratic pieces between their corners.
 
-usage: fontcrunch [crunch] [--prepare] [--fallen] [SETTINGS] [--svg PICTURE] [FILE...]
+usage: fontcrunch [crunch] [--prepare] [--fallen] [SETTINGS] [--svg PICTURE] [--html PAGE] [FILE...]
        fontcrunch ufo IN.ufo -o OUT.ufo [--cubic] [--report FILE.json] [SETTINGS]
        fontcrunch editions --penalty A --penalty B [--whole-units] [--closed] [--prepare] [--fallen] [FILE...]
+       fontcrunch trace [SETTINGS] [FILE...]
        fontcrunch why [--index] [--words] [FILE...]
        fontcrunch chain K [--segments] [--fallen] [--with-contour] [SETTINGS] [FILE...]
        fontcrunch check K [--fallen] [SETTINGS] [FILE...]
@@ -85,6 +87,7 @@ crunch         crunches contours, which a first word that names no tool does too
                of a tool's name is ./crunch, ./clean and so on
 ufo            crunches the glyphs of a whole UFO
 editions       crunches each contour twice, at two penalties, from one sampling
+trace          tells all that came of each contour, as lines of JSON
 why            tells why segments start at corners
 chain K        gives the chain of run K, counted from 0
 check K        checks chains of run K, whoever made them
@@ -148,7 +151,9 @@ const CRUNCH: Page = Page {
     what: "\
 Crunches TrueType contours: puts fewer quadratic pieces between their corners.
 
-usage: fontcrunch [crunch] [--prepare] [--fallen] [SETTINGS] [--svg PICTURE] [FILE...]
+usage: fontcrunch [crunch] [--prepare] [--fallen] [SETTINGS] [--svg PICTURE [--together]] [--html PAGE] [FILE...]
+       fontcrunch [SETTINGS] --html PAGE FONT.ttf
+       fontcrunch [SETTINGS] --html PAGE FOLDER.ufo
 
 --prepare      first writes out implied points, drops repeated points, and drops controls
                that stand on an end of their curve: contours as fonts and old uploads
@@ -156,8 +161,13 @@ usage: fontcrunch [crunch] [--prepare] [--fallen] [SETTINGS] [--svg PICTURE] [FI
 --fallen       ends each answer with fallen N: how many lookups fell past the samples in
                all that was measured, a place and a direction one each; 0 where refused
 --svg PICTURE  draws each contour before and after, to a file, which is there when it is
-               whole. For - the picture goes to standard output, in place of the answers.
-               Without --penalty the penalty is 16, of the picture and of the answers
+               whole. For - the picture goes to standard output, in place of the answers
+--together     with --svg: draws all contours of a file in one frame
+--html PAGE    writes a page to be pointed at: all contours of a file as one letter. With
+               editions it shows both, with glyph crunch and glif a letter a glyph. Of a
+               TrueType font or a UFO: all glyphs, implied points written out
+               With --svg or --html and without --penalty the penalty is 16, of what is
+               shown and of the answers; standard error says so
 ",
     settings: true,
     lines: "\
@@ -184,13 +194,40 @@ A note on standard error says where segments outside the corners are not written
 ",
 };
 
+const TRACE: Page = Page {
+    what: "\
+Tells all that came of each contour, run by run and piece by piece, as a line of JSON:
+segments and corners with their reasons, what each piece replaced, its place, its share of
+the score and its distance from the upload; or what refused it, and where.
+
+usage: fontcrunch trace [SETTINGS] [FILE...]
+
+               Without --penalty the penalty is 16; standard error says so
+",
+    settings: true,
+    lines: "\
+A line in is a contour, x y f x y f ..., as for fontcrunch crunch.
+
+A line out, for each line in, is an object of JSON. docs/trace.schema.json tells its names,
+docs/TRACE.md what they mean. What no entry of the library says stands under beside. An
+object has refused where the contour is refused, and is {\"malformed\":\"...\"} where the line
+is no contour; so the lines below do not come.
+",
+    refusals: &[2, 3, 4, 5, 6, 7, 8, 9, 16],
+    example: "  \
+  $ echo '7 9 1' | fontcrunch trace --penalty 16
+  {\"settings\":{\"penalty\":16,\"whole_units\":false,\"closed\":false},\"points\":[[7,9,1]],\"crunch\":{\"points\":[[7,9,1]],\"pairs\":0,\"fallen\":0},\"segments\":[{\"start\":[7,9],\"end\":[7,9],\"why\":[\"before\",\"after\"]}],\"runs\":[],\"beside\":{\"lost\":[],\"limit\":{\"sine\":0.02,\"degrees\":1.1459919983885924}}}
+",
+};
+
 const EDITIONS: Page = Page {
     what: "\
 Crunches each contour into two editions, a and b, with a penalty each. Each run is sampled
 once for both, and an edition gets what fontcrunch crunch gives at its penalty, whatever
 becomes of the other.
 
-usage: fontcrunch editions --penalty A --penalty B [--whole-units] [--closed] [--prepare] [--fallen] [FILE...]
+usage: fontcrunch editions --penalty A --penalty B [--whole-units] [--closed] [--prepare]
+                           [--fallen] [--html PAGE] [FILE...]
 
 --penalty A --penalty B
                what each piece adds to a score, in sixteenths, 1 to 256: of a, then of b
@@ -198,6 +235,7 @@ usage: fontcrunch editions --penalty A --penalty B [--whole-units] [--closed] [-
 --closed       of both: as for fontcrunch crunch
 --prepare      of both: as for fontcrunch crunch
 --fallen       ends the line of each with its own fallen N, as for fontcrunch crunch
+--html PAGE    writes a page that shows both beside each other
 ",
     settings: false,
     lines: "\
@@ -327,7 +365,8 @@ Reads, writes and crunches simple glyph descriptions, as OpenType's glyf table h
 
 usage: fontcrunch glyph read [FILE...]
        fontcrunch glyph write [FILE...]
-       fontcrunch glyph crunch [--explicit] [--prepare] [--keep-unless-fewer] [SETTINGS] [FILE...]
+       fontcrunch glyph crunch [--explicit] [--prepare] [--keep-unless-fewer] [SETTINGS]
+                               [--html PAGE] [FILE...]
 
 crunch         crunches each contour as fontcrunch crunch does. The first that is
                refused refuses the glyph. Instructions stay as they stand
@@ -338,6 +377,7 @@ crunch         crunches each contour as fontcrunch crunch does. The first that i
 --keep-unless-fewer
                a description that does not get fewer points comes out byte for byte as
                it was
+--html PAGE    writes a page of the glyphs, as for fontcrunch crunch
 ",
     settings: true,
     lines: "\
@@ -366,12 +406,13 @@ const GLIF: Page = Page {
 Reads, writes and crunches files of UFO's GLIF. What stands outside the insides of contours
 is kept byte for byte.
 
-usage: fontcrunch glif [--prepare] [--cubic] [--keep-unless-fewer] [SETTINGS] FILE.glif
+usage: fontcrunch glif [--prepare] [--cubic] [--keep-unless-fewer] [SETTINGS] [--html PAGE] FILE.glif
        fontcrunch glif -o DIR [--cubic] [--report FILE.json] [SETTINGS] FILE.glif...
        fontcrunch glif --in-place [--cubic] [--report FILE.json] [SETTINGS] FILE.glif...
        fontcrunch glif read [FILE...]
        fontcrunch glif write [FILE...]
-       fontcrunch glif crunch [--prepare] [--cubic] [--keep-unless-fewer] [SETTINGS] [FILE...]
+       fontcrunch glif crunch [--prepare] [--cubic] [--keep-unless-fewer] [SETTINGS]
+                              [--html PAGE] [FILE...]
 
 FILE.glif      a file of GLIF: it comes out on standard output with each contour
                crunched. One of the name read, write or crunch is ./read and so on
@@ -386,6 +427,7 @@ crunch         crunches each contour as fontcrunch crunch does. The first that i
                outside the proved reader
 --keep-unless-fewer
                a file that does not get fewer points comes out byte for byte as it was
+--html PAGE    writes a page of the glyphs, as for fontcrunch crunch
 ",
     settings: true,
     lines: "\

@@ -31,10 +31,10 @@ fn files_and_standard_input() {
 fn a_picture() {
     for words in [["--svg", "p", "a"], ["a", "--svg", "p"]] {
         let job = job(&words);
-        assert_eq!((job.inputs, job.picture), (vec![file("a")], Some("p".into())));
+        assert_eq!((job.inputs, job.drawing.picture), (vec![file("a")], Some("p".into())));
     }
-    assert_eq!(job(&["--svg=a=b"]).picture, Some("a=b".into()));
-    assert_eq!(job(&[]).picture, None);
+    assert_eq!(job(&["--svg=a=b"]).drawing.picture, Some("a=b".into()));
+    assert_eq!(job(&[]).drawing.picture, None);
 }
 
 #[test]

@@ -6,10 +6,10 @@ pub mod xml;
 
 use std::ops::Range;
 
+use fontcrunch::outline::{Outline, Place};
 use fontcrunch::{glif, glyph, prepared, Cruncher, Point, Refusal, MOST_POINTS_IN};
 
-use crate::picture::outline::{Outline, Place};
-use crate::picture::reading::{lines, spans, why};
+use crate::corners::{lines, spans, why};
 use crate::picture::svg::{counted, grouped};
 use outline::{ContourElement, PointKind};
 use xml::line_and_column;

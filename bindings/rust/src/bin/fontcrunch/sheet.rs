@@ -1,23 +1,23 @@
-//! A picture under way, and the file that it goes to: written beside it and renamed at the end, so that an interrupt
-//! leaves the old picture whole; or standard output, for `-`.
+//! A picture or a page under way, and the file that it goes to: written beside it and renamed at the end, so that an
+//! interrupt leaves an old one whole; or standard output, for `-`.
 
 use std::fs::{self, File, Permissions};
 use std::io::{self, ErrorKind};
 use std::path::{Path, PathBuf};
 
-use fontcrunch::Settings;
-
 use crate::beside::Beside;
-use crate::picture::{Picture, Sketch};
+use crate::inputs::Source;
+use crate::outlet::Canvas;
+use crate::sketch::Sketch;
 
-pub struct Drawing {
+pub struct Sheet {
     name: String,
-    picture: Picture,
+    canvas: Box<dyn Canvas>,
     goes: Goes,
 }
 
 enum Goes {
-    /// To a file that is written as the picture comes: a device, which nothing can be put in the place of.
+    /// To a file that is written as the drawing comes: a device, which nothing can be put in the place of.
     There,
     /// To a new file, which gets the mode of the one in whose place it comes.
     Beside(Beside, Option<Permissions>),
@@ -25,8 +25,12 @@ enum Goes {
     StandardOutput(Beside),
 }
 
-impl Drawing {
-    pub fn start(path: &Path, settings: Settings) -> Result<Drawing, String> {
+impl Sheet {
+    /// What is drawn to is created by the path of the file that is written.
+    pub fn start(
+        path: &Path,
+        create: impl FnOnce(&Path) -> io::Result<Box<dyn Canvas>>,
+    ) -> Result<Sheet, String> {
         let name = path.to_string_lossy().into_owned();
         let told = |error: io::Error| format!("{name}: {error}");
         let goes = Goes::to(path).map_err(told)?;
@@ -34,22 +38,22 @@ impl Drawing {
             Goes::There => path,
             Goes::Beside(beside, _) | Goes::StandardOutput(beside) => beside.path(),
         };
-        let picture = Picture::create(written, settings).map_err(told)?;
-        Ok(Drawing { name, picture, goes })
+        let canvas = create(written).map_err(told)?;
+        Ok(Sheet { name, canvas, goes })
     }
 
     pub fn to_standard_output(&self) -> bool {
         matches!(self.goes, Goes::StandardOutput(_))
     }
 
-    pub fn add(&mut self, title: &str, sketch: &Sketch) -> Result<(), String> {
-        self.picture.add(title, sketch).map_err(|error| format!("{}: {error}", self.name))
+    pub fn add(&mut self, source: &Source, sketch: &Sketch) -> Result<(), String> {
+        self.canvas.add(source, sketch).map_err(|error| format!("{}: {error}", self.name))
     }
 
     /// A message that is empty is of a reader that has seen enough.
     pub fn finish(self) -> Result<(), String> {
-        let Drawing { name, picture, goes } = self;
-        let ended = picture.finish().and_then(|()| match goes {
+        let Sheet { name, canvas, goes } = self;
+        let ended = canvas.finish().and_then(|()| match goes {
             Goes::There => Ok(()),
             Goes::Beside(mut beside, mode) => {
                 beside.sync(mode)?;

@@ -1,16 +1,26 @@
 //! A contour as its rasteriser sees it: a closed line of curves, implied points put in.
 
-use fontcrunch::Point;
+use crate::cruncher::Point;
 
+/// A place in the plane of a contour, not of whole units alone.
 #[derive(Clone, Copy, Debug, PartialEq)]
 pub struct Place {
+    /// To the right.
     pub x: f64,
+    /// Upward.
     pub y: f64,
 }
 
 impl Place {
+    /// (0, 0).
     pub const ORIGIN: Place = Place { x: 0.0, y: 0.0 };
 
+    /// A place by its coordinates.
+    pub const fn at(x: f64, y: f64) -> Place {
+        Place { x, y }
+    }
+
+    /// The middle of two places.
     pub fn midway(self, other: Place) -> Place {
         Place { x: (self.x + other.x) / 2.0, y: (self.y + other.y) / 2.0 }
     }
@@ -25,6 +35,7 @@ impl From<Point> for Place {
 /// A place that the outline goes through, between two curves.
 #[derive(Clone, Copy, Debug, PartialEq)]
 pub struct Node {
+    /// Where it is.
     pub place: Place,
     /// Whether it is a point of the contour; if not, it is implied.
     pub written: bool,
@@ -33,15 +44,19 @@ pub struct Node {
 /// A line, or a curve with a control, that leads to a node.
 #[derive(Clone, Copy, Debug, PartialEq)]
 pub struct Curve {
+    /// Of a line, none.
     pub control: Option<Place>,
+    /// The node that it leads to.
     pub end: Place,
 }
 
 /// Nodes in the order of the contour's points. Curve i leads from node i to the next, the last one back to
 /// the first.
-#[derive(Debug, Default, PartialEq)]
+#[derive(Clone, Debug, Default, PartialEq)]
 pub struct Outline {
+    /// The places that it goes through.
     pub nodes: Vec<Node>,
+    /// As many as there are nodes.
     pub curves: Vec<Curve>,
 }
 
