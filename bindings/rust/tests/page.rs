@@ -102,7 +102,9 @@ fn a_page_by_many_threads_is_the_same() {
 fn two_editions_on_a_page() {
     let (output, page) = page("editions", &["editions", "--penalty", "16", "--penalty", "300"], HILL);
     assert!(text(&output.stdout).contains("\nb refused 16\n"));
-    assert_eq!(text(&output.stderr), "");
+    // edition b is refused, and standard error says so
+    assert_eq!(text(&output.stderr).lines().count(), 1);
+    assert!(text(&output.stderr).contains(" b: refused 16: "), "{}", text(&output.stderr));
     assert!(page.contains("\"penalties\":[16,300],\"given\":true"));
     assert_eq!(letters(&page)[0].matches("{\"settings\":{\"penalty\":").count(), 2);
 }

@@ -72,9 +72,9 @@ pub fn file_page(job: &Job, path: &Path) -> Status {
     outlet.finish().max(glif::crunch_file(job.settings, job.more, path))
 }
 
-/// Which penalty holds where whoever looks has named none.
+/// A note of which penalty holds where whoever looks has named none.
 fn tell_penalty(job: &Job) {
-    if !job.penalty_given {
+    if !job.penalty_given && !job.more.quiet {
         complain(&format!(
             "the penalty is {}, that of Settings::of_crate(), since none is given; an order's default is another, {DEFAULT_PENALTY}",
             job.settings.penalty
