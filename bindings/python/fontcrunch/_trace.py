@@ -10,7 +10,7 @@ from typing import Any, Iterable
 from . import _sampling as sampling
 from ._contours import Chain, Settings, chain, crunch, verdict, why
 from ._refusal import Refused
-from ._rows import BREAK_ROOM, MOST_POINTS_IN, SAMPLE_ROOM, AnyPoint, Point
+from ._rows import BREAK_ROOM, SAMPLE_ROOM, AnyPoint, Point
 from ._sampling import Place, Quad
 
 BEND_LIMIT = 0.02
@@ -27,7 +27,7 @@ def trace(points: Iterable[AnyPoint], settings: Settings = Settings.of_crate()) 
     A contour that is refused raises nothing: the trace tells it. Without settings the penalty is that of
     Settings.of_crate(), 16; an order's default is another, 32.
     """
-    given = [Point(x, y, int(flag) & 1 == 1) for x, y, flag in itertools.islice(points, MOST_POINTS_IN + 1)]
+    given = [Point(x, y, int(flag) & 1 == 1) for x, y, flag in points]
     told: dict[str, Any] = {
         "settings": {"penalty": settings.penalty, "whole_units": settings.whole_units, "closed": settings.closed},
         "points": [_flagged(point) for point in given],

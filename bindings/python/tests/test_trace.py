@@ -8,7 +8,7 @@ import math
 import fontcrunch
 from fontcrunch import Refused, Settings
 
-from .common import BOW, FELL, HILL, RECORDED, STILL, TOP, Case, letter, points
+from .common import BOW, FELL, HILL, RECORDED, STILL, TOP, Case, letter, points, zigzag
 
 
 def schema():
@@ -80,6 +80,10 @@ class Traces(Case):
         self.assertEqual([run["reached"] for run in told["runs"]], [True, False])
         self.assertTrue(told["beside"]["hint"].startswith("run 0 is 1236.3 units long and has 2839 breaks, room 2048; on whole units"))
         self.assertEqual(told["runs"][0]["beside"]["on_whole_units"], 1476)
+
+    def test_too_many_points_are_all_told(self):
+        told = fontcrunch.trace(zigzag(1030))
+        self.assertEqual((told["refused"]["number"], len(told["points"]), told["runs"]), (3, 1030, []))
 
     def test_the_letter_loses_what_lies_outside_its_corners(self):
         told = fontcrunch.trace(letter()[2])

@@ -204,8 +204,14 @@ fn a_font_on_a_page() {
     assert!(letters(&written)[0].starts_with("{\"name\":\"glyph 0\",\"stood\":3,"));
     // without a page a font is lines, and none of them a contour
     assert_eq!(run(&[name(&font)], "").status.code(), Some(2));
-    // a font stands on a page by itself
-    assert_eq!(run(&[name(&font), "-", "--html", name(&page)], "").status.code(), Some(2));
+    // a font stands on a page by itself, with no picture, and is not written over
+    for words in [&["-"][..], &["--svg", "p"], &["--fallen"]] {
+        let output = run(&[&[name(&font), "--html", name(&page)], words].concat(), "");
+        assert_eq!((output.status.code(), output.stdout.is_empty()), (Some(2), true), "{words:?}");
+    }
+    let before = fs::read(&font).unwrap();
+    assert_eq!(run(&[name(&font), "--html", name(&font)], "").status.code(), Some(2));
+    assert_eq!(fs::read(&font).unwrap(), before);
 }
 
 #[test]

@@ -26,22 +26,23 @@ pub enum Status {
 
 pub fn run(job: &Job) -> Status {
     tell_penalty(job);
-    match &job.drawing.page {
-        Some(page) if job.tool == Tool::Crunch => match page::are_fonts(&job.inputs) {
-            Ok(true) => return page::run(job, page, at(job)),
-            Ok(false) => {}
-            Err(wrong) => {
-                complain(&wrong);
-                return Status::Wrong;
-            }
-        },
-        _ => {}
-    }
-    let mut outlet = Outlet::new(BufWriter::new(io::stdout()));
     if let Some(wrong) = drawn_over(job) {
-        outlet.wrong(&wrong);
-        return outlet.finish();
+        return stopped(&wrong);
     }
+    match page::font_of(job) {
+        Ok(None) => answer_lines(job),
+        Ok(Some((font, page))) => page::run(job, font, page, at(job)),
+        Err(wrong) => stopped(&wrong),
+    }
+}
+
+fn stopped(wrong: &str) -> Status {
+    complain(wrong);
+    Status::Wrong
+}
+
+fn answer_lines(job: &Job) -> Status {
+    let mut outlet = Outlet::new(BufWriter::new(io::stdout()));
     start_drawings(job, &mut outlet);
     if job.jobs > 1 {
         return jobs::run(job, outlet);

@@ -13,6 +13,8 @@ pub fn help(tool: Option<Tool>) -> String {
     match tool {
         None => format!("{OVERVIEW}\n{SETTINGS}\n{COMMON}\n{}\n{STATUS}", told(&ALL_REFUSALS)),
         Some(Tool::Ufo) => UFO.with(UFO_COMMON, "", UFO_STATUS),
+        // every line of trace is an object
+        Some(Tool::Trace) => page(Tool::Trace).with(COMMON, "", STATUS),
         Some(tool) => page(tool).with(COMMON, OTHERWISE, STATUS),
     }
 }
@@ -211,7 +213,7 @@ A line in is a contour, x y f x y f ..., as for fontcrunch crunch.
 A line out, for each line in, is an object of JSON. docs/trace.schema.json tells its names,
 docs/TRACE.md what they mean. What no entry of the library says stands under beside. An
 object has refused where the contour is refused, and is {\"malformed\":\"...\"} where the line
-is no contour; so the lines below do not come.
+is no contour; standard error says so too.
 ",
     refusals: &[2, 3, 4, 5, 6, 7, 8, 9, 16],
     example: "  \

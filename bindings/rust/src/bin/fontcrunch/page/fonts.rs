@@ -9,7 +9,7 @@ use std::thread;
 
 use fontcrunch::{Cruncher, Refusal};
 
-use crate::arguments::{Input, Job};
+use crate::arguments::{Input, Job, Tool};
 use crate::service::{complain, Status};
 use crate::sketch::Sketch;
 
@@ -35,12 +35,18 @@ struct Traced {
     message: Option<String>,
 }
 
-/// Whether each input is a font or a UFO, which only a page is made of; wrong where some are and some are not.
-pub fn are_fonts(inputs: &[Input]) -> Result<bool, String> {
-    let fonts = inputs.iter().filter(|input| matches!(input, Input::File(path) if is_font(path))).count();
-    match fonts {
-        0 => Ok(false),
-        _ if fonts == inputs.len() && fonts == 1 => Ok(true),
+/// The font or UFO that a page is asked of, and the page's file; none where lines are. Wrong where it is not by itself, or
+/// something is asked for that a font has not.
+pub fn font_of(job: &Job) -> Result<Option<(&Path, &Path)>, String> {
+    let (Tool::Crunch, Some(page)) = (job.tool, &job.drawing.page) else {
+        return Ok(None);
+    };
+    let path = |input: &'_ Input| matches!(input, Input::File(path) if is_font(path));
+    match &job.inputs[..] {
+        inputs if !inputs.iter().any(path) => Ok(None),
+        _ if job.drawing.picture.is_some() => Err("--svg draws lines, and no font".to_owned()),
+        _ if job.fallen.told => Err("--fallen is told of lines, and of no font".to_owned()),
+        [Input::File(font)] => Ok(Some((font, page))),
         _ => Err("--html takes one font or UFO by itself".to_owned()),
     }
 }
@@ -54,11 +60,8 @@ fn is_font(path: &Path) -> bool {
     read.is_ok() && font::is_font(&start)
 }
 
-/// The page of the job's font or UFO; on standard output a line of counts.
-pub fn run(job: &Job, page: &Path, at: At) -> Status {
-    let Some(Input::File(path)) = job.inputs.first() else {
-        return Status::Wrong;
-    };
+/// The page of a font or UFO; on standard output a line of counts.
+pub fn run(job: &Job, path: &Path, page: &Path, at: At) -> Status {
     let name = path.to_string_lossy();
     let done = uploads(path).map_err(|error| format!("{name}: {error}")).and_then(|(uploads, composite)| {
         let title = path.file_name().map_or(name.clone(), |file| file.to_string_lossy());

@@ -17,7 +17,7 @@ use crate::inputs::Source;
 use crate::outlet::Canvas;
 use crate::sketch::Sketch;
 
-pub use fonts::{are_fonts, run};
+pub use fonts::{font_of, run};
 
 const STYLE: &str = include_str!("page.css");
 const BODY: &str = include_str!("page.html");
