@@ -88,3 +88,88 @@ fn points_as_they_stand() {
     assert_eq!(points_in(bytes), Some(3));
     assert_eq!(points_in(b"<glyph><outline><contour><point/></contour></outline></glyph>"), None);
 }
+
+/// Pieces of XML that a reader may take wrongly.
+const SNIPPETS: [&str; 44] = [
+    "<",
+    ">",
+    "/",
+    "&",
+    ";",
+    "'",
+    "\"",
+    "=",
+    " ",
+    "\n",
+    "\t",
+    "\r",
+    "<?",
+    "?>",
+    "<!",
+    "<!--",
+    "-->",
+    "--",
+    "<![CDATA[",
+    "]]>",
+    "&lt;",
+    "&#65;",
+    "&#x41;",
+    "&#0;",
+    "&#32;",
+    "<!DOCTYPE a>",
+    "<a>",
+    "</a>",
+    "<a/>",
+    "<outline>",
+    "</outline>",
+    "<contour>",
+    "</contour>",
+    "<point x='1' y='2'/>",
+    "<point x='1.5' y='2' type='line'/>",
+    " type='move'",
+    " x='9'",
+    "\u{feff}",
+    "\u{e9}",
+    "\u{1}",
+    "<?x y?>",
+    "<?a?>",
+    "<?xml version='1.0'?>",
+    "</glyph>",
+];
+
+/// Both readers call the same files malformed, and the second one never stops.
+#[test]
+fn the_second_reader_agrees_with_the_proved_one() {
+    let whole = "<?xml version=\"1.0\" encoding=\"UTF-8\"?>\n<glyph name='a'>\n<!-- a --><lib><outline/></lib>\n<outline>\n\
+         <contour a='1'><point x='1' y='-2' type='line'/><point x='3' y='4'/><point x='5.0' y='6' type='qcurve'/></contour>\n\
+         <contour><point x='1' y='2' type='qcurve'/><point x='3' y='4'/> <point x='3' y='4'></point></contour><b>&amp;</b></outline></glyph>\n";
+    assert!(glif::read(whole.as_bytes()).is_ok(), "{:?}", outline::contours(whole.as_bytes()));
+    let mut state = 11u64;
+    let mut below = |bound: usize| {
+        state = state.wrapping_mul(6_364_136_223_846_793_005).wrapping_add(1_442_695_040_888_963_407);
+        (state >> 33) as usize % bound
+    };
+    let mut malformed = 0;
+    for _ in 0..6000 {
+        let mut bytes = whole.as_bytes().to_vec();
+        for _ in 0..1 + below(2) {
+            let mut at = below(bytes.len() + 1);
+            // beside a tag more often than within one
+            if below(3) > 0 {
+                at += bytes[at..].iter().position(|&byte| byte == b'>').map_or(0, |end| end + 1);
+            }
+            let until = if below(6) == 0 { (at + below(20)).min(bytes.len()) } else { at };
+            let put = match below(12) {
+                0 => vec![below(256) as u8],
+                1..=3 => b" <b c='d'/>".to_vec(),
+                _ => SNIPPETS[below(44)].as_bytes().to_vec(),
+            };
+            bytes.splice(at..until, put);
+        }
+        let proved = glif::read(&bytes) == Err(Refusal::Malformed);
+        let told = outline::contours(&bytes);
+        assert_eq!(told.is_err(), proved, "{told:?} {}", bytes.escape_ascii());
+        malformed += usize::from(proved);
+    }
+    assert!((1000..5700).contains(&malformed), "{malformed}");
+}
