@@ -213,19 +213,21 @@ fn cubic_or_open(contour: &ContourElement, at: usize, hints: Hints) -> Option<St
         PointKind::Curve if contour.has(PointKind::Qcurve) => {
             Some("cubic and quadratic curves stand in one contour".to_owned())
         }
-        PointKind::Curve if !hints.may_cubic => Some(format!("cubic, after {}", stands_after(contour, at))),
-        PointKind::Curve => Some(format!("cubic{way}")),
+        PointKind::Curve if hints.may_cubic => Some(format!("cubic{way}")),
         _ if point.x.is_none() || point.y.is_none() => Some("a coordinate is not whole".to_owned()),
+        PointKind::Curve => stands_after(contour, at).or_else(|| outside_16_bits(contour, at)),
+        PointKind::Off if contour.has(PointKind::Curve) => outside_16_bits(contour, at),
         _ => None,
     }
 }
 
 /// How many off-curve points a curve has, where that is not what --cubic takes.
-fn stands_after(contour: &ContourElement, at: usize) -> String {
+fn stands_after(contour: &ContourElement, at: usize) -> Option<String> {
     let count = contour.points.len();
     let off = |back: &usize| contour.points[(at + count - back) % count].kind == PointKind::Off;
     let number = (1..count).take_while(off).count();
-    format!("{}, where cubics have two", counted(number, "off-curve point"))
+    let after = format!("cubic, after {}, where cubics have two", counted(number, "off-curve point"));
+    Some(after).filter(|_| number != 0 && number != 2)
 }
 
 fn outside_16_bits(contour: &ContourElement, at: usize) -> Option<String> {

@@ -64,6 +64,14 @@ fn a_file_is_told_by_contour_and_point() {
         "A.glif: contour 0, point 2: cubic, after 1 off-curve point, where cubics have two"
     );
     assert_eq!(
+        seen_file(false, &curve.replacen("<point x='1' y='1'/>", "<point x='1' y='1.5'/>", 1)),
+        "A.glif: contour 0, point 1: a coordinate is not whole"
+    );
+    assert_eq!(
+        seen_file(false, &curve.replacen("<point x='1' y='1'/>", "<point x='1' y='40000'/>", 1)),
+        "A.glif: contour 0, point 1: 40000 is outside -32768 and 32767"
+    );
+    assert_eq!(
         seen_file(true, "<contour><point x='0' y='0' type='move'/></contour>"),
         "A.glif: contour 0, point 0: a move alone, an anchor of format 1; try --cubic"
     );
