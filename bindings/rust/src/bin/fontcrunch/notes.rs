@@ -3,8 +3,8 @@
 
 use fontcrunch::{drop_idle, Cruncher, Point};
 
-use crate::picture::reading::{lines, outside, why};
 use crate::picture::svg::counted;
+use crate::runs::{lines, outside, why};
 
 /// What is to be said of a contour that was crunched, of its points and what came of them.
 pub fn of(cruncher: &mut Cruncher, before: &[Point], after: &[Point]) -> Vec<String> {

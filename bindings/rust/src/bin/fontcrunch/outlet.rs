@@ -5,32 +5,36 @@ use std::path::Path;
 
 use fontcrunch::Settings;
 
-use crate::drawing::Drawing;
+use crate::destination::Destination;
 use crate::inputs::Source;
-use crate::picture::Sketch;
+use crate::picture::{Picture, Sketch};
 use crate::service::{complain, Status};
 use crate::worker::Answer;
 
 pub struct Outlet<W> {
     answers: W,
     drawing: Option<Drawing>,
-    /// Where the picture goes to standard output, answers do not.
-    answers_shown: bool,
     status: Status,
+}
+
+struct Drawing {
+    name: String,
+    picture: Picture,
+    goes: Destination,
 }
 
 impl<W: Write> Outlet<W> {
     pub fn new(answers: W) -> Outlet<W> {
-        Outlet { answers, drawing: None, answers_shown: true, status: Status::AllCrunched }
+        Outlet { answers, drawing: None, status: Status::AllCrunched }
     }
 
     pub fn start_drawing(&mut self, path: &Path, settings: Settings) {
-        match Drawing::start(path, settings) {
-            Ok(drawing) => {
-                self.answers_shown = !drawing.to_standard_output();
-                self.drawing = Some(drawing);
-            }
-            Err(message) => self.wrong(&message),
+        let name = path.to_string_lossy().into_owned();
+        let started =
+            Destination::of(path).and_then(|goes| Ok((Picture::create(goes.path(), settings)?, goes)));
+        match started {
+            Ok((picture, goes)) => self.drawing = Some(Drawing { name, picture, goes }),
+            Err(error) => self.wrong(&format!("{name}: {error}")),
         }
     }
 
@@ -46,10 +50,15 @@ impl<W: Write> Outlet<W> {
         for message in &answer.messages {
             complain(&format!("{}:{}: {message}", source.name, source.line));
         }
-        match answer.text.filter(|_| self.answers_shown) {
-            Some(text) => writeln!(self.answers, "{text}"),
-            None => Ok(()),
+        match answer.text {
+            Some(text) if !self.is_drawn_out() => writeln!(self.answers, "{text}"),
+            _ => Ok(()),
         }
+    }
+
+    /// Where the picture goes to standard output, answers do not.
+    fn is_drawn_out(&self) -> bool {
+        self.drawing.as_ref().is_some_and(|drawing| drawing.goes.is_standard_output())
     }
 
     /// What was answered goes out.
@@ -62,6 +71,7 @@ impl<W: Write> Outlet<W> {
         self.note(message);
     }
 
+    /// Something is said, and nothing is wrong.
     pub fn note(&mut self, message: &str) {
         // a failure is met again when the next answer is written
         let _ = self.flush();
@@ -82,7 +92,8 @@ impl<W: Write> Outlet<W> {
             return;
         };
         let title = format!("{}, line {}", source.name, source.line);
-        if let Err(message) = drawing.add(&title, sketch) {
+        if let Err(error) = drawing.picture.add(&title, sketch) {
+            let message = format!("{}: {error}", drawing.name);
             self.drawing = None;
             self.wrong(&message);
         }
@@ -90,11 +101,11 @@ impl<W: Write> Outlet<W> {
 
     /// The picture is ended; the worst that was met.
     pub fn finish(mut self) -> Status {
-        if let Some(Err(message)) = self.drawing.take().map(|drawing| drawing.finish()) {
-            self.status = Status::Wrong;
-            // one that nobody reads any more needs no message
-            if !message.is_empty() {
-                self.wrong(&message);
+        if let Some(drawing) = self.drawing.take() {
+            match drawing.picture.finish().and_then(|()| drawing.goes.finish()) {
+                Err(error) if error.kind() == ErrorKind::BrokenPipe => self.status = Status::Wrong,
+                Err(error) => self.wrong(&format!("{}: {error}", drawing.name)),
+                Ok(()) => {}
             }
         }
         self.status

@@ -4,13 +4,10 @@
 pub mod outline;
 pub mod xml;
 
-use std::ops::Range;
-
 use fontcrunch::{glif, glyph, prepared, Cruncher, Point, Refusal, MOST_POINTS_IN};
 
-use crate::picture::outline::{Outline, Place};
-use crate::picture::reading::{lines, spans, why};
 use crate::picture::svg::{counted, grouped};
+use crate::runs::{length, lines, spans, why};
 use outline::{ContourElement, PointKind};
 use xml::line_and_column;
 
@@ -142,26 +139,6 @@ fn at_run(cruncher: &mut Cruncher, points: &[Point], refusal: Refusal, hints: Hi
         Refusal::TooManySamples => format!("{told}, and 16,384 samples, one a unit, are the most"),
         _ => told,
     })
-}
-
-/// The length of some segments, going round, by a hundred chords each.
-fn length(points: &[Point], segments: Range<usize>) -> f64 {
-    let outline = Outline::of(points);
-    let count = outline.curves.len();
-    let one = |i: usize| {
-        let (from, curve) = (outline.nodes[i % count].place, outline.curves[i % count]);
-        let between =
-            |a: Place, b: Place, t: f64| Place { x: a.x + t * (b.x - a.x), y: a.y + t * (b.y - a.y) };
-        let at = |t: f64| match curve.control {
-            None => between(from, curve.end, t),
-            Some(control) => between(between(from, control, t), between(control, curve.end, t), t),
-        };
-        (0..100)
-            .map(|k| (at(f64::from(k) / 100.0), at(f64::from(k + 1) / 100.0)))
-            .map(|(a, b)| (b.x - a.x).hypot(b.y - a.y))
-            .sum::<f64>()
-    };
-    segments.map(one).sum()
 }
 
 /// Why a file of GLIF is refused.

@@ -4,8 +4,8 @@
 mod block;
 mod grid;
 mod legend;
-pub mod outline;
-pub mod reading;
+mod outline;
+mod reading;
 pub mod svg;
 mod view;
 
