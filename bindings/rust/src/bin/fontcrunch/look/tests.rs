@@ -181,3 +181,20 @@ fn the_second_reader_agrees_with_the_proved_one() {
     }
     assert!((1000..5700).contains(&malformed), "{malformed}");
 }
+
+/// As many names at once as the proved reader holds, and one more: of attributes, and of elements in each other.
+#[test]
+fn the_second_reader_holds_as_many_names() {
+    for count in [254, 255, 256, 257] {
+        let attributes: String = (0..count).map(|k| format!(" k{k}=''")).collect();
+        let nested = "<a>".repeat(count - 1) + "<b/>" + &"</a>".repeat(count - 1);
+        for text in [
+            format!("<glyph{attributes}/>"),
+            format!("<glyph><a{attributes}/></glyph>"),
+            format!("<glyph>{nested}</glyph>"),
+        ] {
+            let proved = glif::read(text.as_bytes()) == Err(Refusal::Malformed);
+            assert_eq!(outline::contours(text.as_bytes()).is_err(), proved, "{count}");
+        }
+    }
+}

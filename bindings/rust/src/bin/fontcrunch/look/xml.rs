@@ -298,16 +298,16 @@ impl<'a> Scanner<'a> {
                 return fault(at, format!("the attribute {} stands twice", word(key)));
             }
             attributes.push((key, value));
-            if self.open.len() + attributes.len() + 1 > MOST_NAMES {
+            if self.open.len() + attributes.len() > MOST_NAMES {
                 return fault(at, format!("more than {MOST_NAMES} names are open at once"));
             }
         };
         self.rooted = true;
+        if self.open.len() >= MOST_NAMES {
+            return fault(from, format!("more than {MOST_NAMES} names are open at once"));
+        }
         if !empty {
             self.open.push(name);
-            if self.open.len() > MOST_NAMES {
-                return fault(from, format!("more than {MOST_NAMES} names are open at once"));
-            }
         }
         Ok(Token { span: from..self.at, kind: Kind::Start { name, attributes, empty } })
     }
