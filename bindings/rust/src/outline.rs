@@ -1,5 +1,7 @@
 //! A contour as its rasteriser sees it: a closed line of curves, implied points put in.
 
+use std::ops::Range;
+
 use crate::cruncher::Point;
 
 /// A place in the plane of a contour, not of whole units alone.
@@ -103,6 +105,24 @@ impl Outline {
         let came_from = self.curves[before].control.unwrap_or(self.nodes[before].place);
         let goes_to = self.curves[node].control.unwrap_or(self.curves[node].end);
         (came_from, goes_to)
+    }
+}
+
+/// The segments of each run: from corner to corner, and in closed mode a last one from the last corner round to the
+/// first.
+pub fn runs(corners: &[usize], segments: usize, closed: bool) -> Vec<Range<usize>> {
+    let between = corners.windows(2).map(|ends| ends[0]..ends[1]);
+    let closing = corners.first().zip(corners.last()).map(|(first, last)| *last..segments + first);
+    between.chain(closing.filter(|_| closed)).collect()
+}
+
+/// The segments before the first corner and after the last, which the crate's mode does not write. One line from the
+/// last corner to the first is no loss: the contour closes by it.
+pub fn outside(corners: Option<(usize, usize)>, lines: &[bool]) -> Vec<usize> {
+    match corners {
+        None => (0..lines.len()).collect(),
+        Some((0, last)) if last + 1 == lines.len() && lines[last] => Vec::new(),
+        Some((first, last)) => (0..first).chain(last..lines.len()).collect(),
     }
 }
 

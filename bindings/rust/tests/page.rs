@@ -126,6 +126,8 @@ fn a_file_of_glif_on_a_page() {
     assert!(letters(&written)[0].contains("a.glif\",\"stood\":4,\"contours\":[{\"traces\":["));
     // nor is a file written over
     assert_eq!(run(&["glif", name(&file), "--html", name(&file)], "").status.code(), Some(2));
+    // nor is a page mixed with what comes out
+    assert_eq!(run(&["glif", name(&file), "--html", "-"], "").stdout, b"");
     assert_eq!(fs::read_to_string(&file).unwrap(), GLIF);
 }
 
@@ -212,6 +214,8 @@ fn a_font_on_a_page() {
     let before = fs::read(&font).unwrap();
     assert_eq!(run(&[name(&font), "--html", name(&font)], "").status.code(), Some(2));
     assert_eq!(fs::read(&font).unwrap(), before);
+    // to standard output goes the page alone
+    assert_eq!(text(&run(&[name(&font), "--html", "-"], "").stdout), written);
 }
 
 #[test]

@@ -8,7 +8,7 @@
 use std::ops::Range;
 
 use crate::cruncher::{Chain, Crunched, Cruncher, Point};
-use crate::outline::{Outline, Place};
+use crate::outline::{self, Outline, Place};
 use crate::refusal::Refusal;
 use crate::rows::{BREAK_ROOM, SAMPLE_ROOM};
 use crate::settings::Settings;
@@ -73,17 +73,9 @@ fn as_quad(segment: &Segment) -> Quad {
 
 // ---- runs
 
-/// The segments of each run: from corner to corner, and in closed mode a last one from the last corner round to the
-/// first.
-pub(super) fn spans(corners: &[usize], segments: usize, closed: bool) -> Vec<Range<usize>> {
-    let between = corners.windows(2).map(|ends| ends[0]..ends[1]);
-    let closing = corners.first().zip(corners.last()).map(|(first, last)| *last..segments + first);
-    between.chain(closing.filter(|_| closed)).collect()
-}
-
 fn runs(cruncher: &mut Cruncher, points: &[Point], segments: &[Segment]) -> Vec<Run> {
     let corners: Vec<usize> = (0..segments.len()).filter(|&i| segments[i].why.is_corner()).collect();
-    let spans = spans(&corners, segments.len(), cruncher.settings().closed);
+    let spans = outline::runs(&corners, segments.len(), cruncher.settings().closed);
     let mut reached = true;
     let mut runs = vec![];
     for (k, span) in spans.into_iter().enumerate() {
@@ -237,21 +229,14 @@ fn unchanged(trace: &Trace) -> Option<&'static str> {
     }
 }
 
-/// In the crate's mode what lies before the first corner and after the last is not written. One line from the last
-/// corner to the first is no loss: the contour closes by it.
+/// In closed mode nothing is.
 fn lost(trace: &Trace) -> Vec<usize> {
     if trace.settings.closed || trace.result.is_err() || trace.beside.unchanged.is_some() {
         return vec![];
     }
-    let count = trace.segments.len();
     let corners: Vec<usize> = trace.corners().map(|(i, _)| i).collect();
-    let (Some(&first), Some(&last)) = (corners.first(), corners.last()) else {
-        return (0..count).collect();
-    };
-    if first == 0 && last + 1 == count && trace.segments[last].control.is_none() {
-        return vec![];
-    }
-    (0..first).chain(last..count).collect()
+    let lines: Vec<bool> = trace.segments.iter().map(|segment| segment.control.is_none()).collect();
+    outline::outside(corners.first().copied().zip(corners.last().copied()), &lines)
 }
 
 /// Gives each piece the curve of the result that it is written as.

@@ -1,5 +1,5 @@
-use super::reading::spans;
 use super::*;
+use crate::outline::runs;
 
 fn points(numbers: &[i16]) -> Vec<Point> {
     numbers.chunks(3).map(|p| Point { x: p[0], y: p[1], on_curve: p[2] == 1 }).collect()
@@ -163,11 +163,11 @@ fn an_unchanged_contour() {
 
 #[test]
 fn runs_going_round() {
-    assert_eq!(spans(&[1, 2, 4], 5, false), [1..2, 2..4]);
-    assert_eq!(spans(&[1, 2, 4], 5, true), [1..2, 2..4, 4..6]);
-    assert_eq!(spans(&[2], 3, true), vec![2..5]);
-    assert_eq!(spans(&[2], 3, false), [0..0; 0]);
-    assert_eq!(spans(&[], 3, true), [0..0; 0]);
+    assert_eq!(runs(&[1, 2, 4], 5, false), [1..2, 2..4]);
+    assert_eq!(runs(&[1, 2, 4], 5, true), [1..2, 2..4, 4..6]);
+    assert_eq!(runs(&[2], 3, true), vec![2..5]);
+    assert_eq!(runs(&[2], 3, false), [0..0; 0]);
+    assert_eq!(runs(&[], 3, true), [0..0; 0]);
     let hill = traced_at(closed(), &HILL);
     assert_eq!(replaced(&hill), [(0, 1), (1, 1), (2, 2), (3, 3)]);
     // the start lies within a straight edge, which is the last run

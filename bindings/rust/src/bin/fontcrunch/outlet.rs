@@ -3,9 +3,9 @@
 use std::io::{self, ErrorKind, Write};
 use std::path::Path;
 
+use crate::destination::Destination;
 use crate::inputs::Source;
 use crate::service::{complain, Status};
-use crate::sheet::Sheet;
 use crate::sketch::Sketch;
 use crate::worker::Answer;
 
@@ -18,24 +18,33 @@ pub trait Canvas: Send {
 
 pub struct Outlet<W> {
     answers: W,
-    sheets: Vec<Sheet>,
-    /// Where a picture goes to standard output, answers do not.
+    drawings: Vec<Drawing>,
+    /// Where a drawing goes to standard output, answers do not.
     answers_shown: bool,
     status: Status,
 }
 
+/// A picture or a page under way.
+struct Drawing {
+    name: String,
+    canvas: Box<dyn Canvas>,
+    goes: Destination,
+}
+
 impl<W: Write> Outlet<W> {
     pub fn new(answers: W) -> Outlet<W> {
-        Outlet { answers, sheets: vec![], answers_shown: true, status: Status::AllCrunched }
+        Outlet { answers, drawings: vec![], answers_shown: true, status: Status::AllCrunched }
     }
 
+    /// What is drawn on is created by the path of the file that is written.
     pub fn start_drawing(&mut self, path: &Path, create: impl FnOnce(&Path) -> io::Result<Box<dyn Canvas>>) {
-        match Sheet::start(path, create) {
-            Ok(sheet) => {
-                self.answers_shown &= !sheet.to_standard_output();
-                self.sheets.push(sheet);
+        let name = path.to_string_lossy().into_owned();
+        match Destination::of(path).and_then(|goes| Ok((create(goes.path())?, goes))) {
+            Ok((canvas, goes)) => {
+                self.answers_shown &= !goes.is_standard_output();
+                self.drawings.push(Drawing { name, canvas, goes });
             }
-            Err(message) => self.wrong(&message),
+            Err(error) => self.wrong(&format!("{name}: {error}")),
         }
     }
 
@@ -67,6 +76,7 @@ impl<W: Write> Outlet<W> {
         self.note(message);
     }
 
+    /// Something is said, and nothing is wrong.
     pub fn note(&mut self, message: &str) {
         // a failure is met again when the next answer is written
         let _ = self.flush();
@@ -83,23 +93,21 @@ impl<W: Write> Outlet<W> {
 
     /// A drawing that fails is given up; the answers go on.
     pub fn draw(&mut self, source: &Source, sketch: &Sketch) {
-        for mut sheet in std::mem::take(&mut self.sheets) {
-            match sheet.add(source, sketch) {
-                Ok(()) => self.sheets.push(sheet),
-                Err(message) => self.wrong(&message),
+        for mut drawing in std::mem::take(&mut self.drawings) {
+            match drawing.canvas.add(source, sketch) {
+                Ok(()) => self.drawings.push(drawing),
+                Err(error) => self.wrong(&format!("{}: {error}", drawing.name)),
             }
         }
     }
 
     /// Drawings are ended; the worst that was met.
     pub fn finish(mut self) -> Status {
-        for sheet in std::mem::take(&mut self.sheets) {
-            if let Err(message) = sheet.finish() {
-                self.status = Status::Wrong;
-                // one that nobody reads any more needs no message
-                if !message.is_empty() {
-                    self.wrong(&message);
-                }
+        for Drawing { name, canvas, goes } in std::mem::take(&mut self.drawings) {
+            match canvas.finish().and_then(|()| goes.finish()) {
+                Err(error) if error.kind() == ErrorKind::BrokenPipe => self.status = Status::Wrong,
+                Err(error) => self.wrong(&format!("{name}: {error}")),
+                Ok(()) => {}
             }
         }
         self.status

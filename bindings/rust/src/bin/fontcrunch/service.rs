@@ -60,11 +60,13 @@ pub fn file_page(job: &Job, path: &Path) -> Status {
     let Some(page) = &job.drawing.page else {
         return glif::crunch_file(job.settings, job.more, path);
     };
-    let mut outlet = Outlet::new(io::sink());
     if is_same_file(&Input::File(path.to_owned()), page) {
-        outlet.wrong(&format!("{}: is to be read and drawn to", page.to_string_lossy()));
-        return outlet.finish();
+        return stopped(&format!("{}: is to be read and drawn to", page.to_string_lossy()));
     }
+    if page == Path::new("-") {
+        return stopped("--html -: standard output is for the file that comes out");
+    }
+    let mut outlet = Outlet::new(io::sink());
     start_drawings(job, &mut outlet);
     if let Ok(bytes) = fs::read(path) {
         let sketch = Sketch::of_glif(&mut Cruncher::new(job.settings), &bytes);

@@ -10,6 +10,7 @@ use std::thread;
 use fontcrunch::{Cruncher, Refusal};
 
 use crate::arguments::{Input, Job, Tool};
+use crate::destination::Destination;
 use crate::service::{complain, Status};
 use crate::sketch::Sketch;
 
@@ -60,17 +61,18 @@ fn is_font(path: &Path) -> bool {
     read.is_ok() && font::is_font(&start)
 }
 
-/// The page of a font or UFO; on standard output a line of counts.
+/// The page of a font or UFO; on standard output a line of counts, where the page does not go there.
 pub fn run(job: &Job, path: &Path, page: &Path, at: At) -> Status {
     let name = path.to_string_lossy();
+    let told = |error: io::Error| format!("{}: {error}", page.display());
     let done = uploads(path).map_err(|error| format!("{name}: {error}")).and_then(|(uploads, composite)| {
         let title = path.file_name().map_or(name.clone(), |file| file.to_string_lossy());
-        let mut made =
-            Page::of_font(page, at, &title).map_err(|error| format!("{}: {error}", page.display()))?;
+        let goes = Destination::of(page).map_err(told)?;
+        let mut made = Page::of_font(goes.path(), at, &title).map_err(told)?;
         if composite > 0 {
             made.more = format!("{composite} composite, made of these, are not shown");
         }
-        write_page(job, made, &uploads).map_err(|error| format!("{}: {error}", page.display()))
+        write_page(job, made, goes, &uploads).map_err(told)
     });
     done.unwrap_or_else(|message| {
         complain(&message);
@@ -97,7 +99,7 @@ fn uploads(path: &Path) -> Result<(Vec<Upload>, usize), String> {
     Ok((simple.into_iter().map(upload).collect(), composite.len()))
 }
 
-fn write_page(job: &Job, mut page: Page, uploads: &[Upload]) -> io::Result<Status> {
+fn write_page(job: &Job, mut page: Page, goes: Destination, uploads: &[Upload]) -> io::Result<Status> {
     let (mut before, mut after, mut refused, mut shown, mut failed) = (0, 0, 0, 0, false);
     in_order(job, uploads, |traced| {
         if let Some(message) = traced.message {
@@ -115,8 +117,12 @@ fn write_page(job: &Job, mut page: Page, uploads: &[Upload]) -> io::Result<Statu
         page.add_letter(&traced.letter)
     })?;
     page.end()?;
-    let glyphs = if shown == 1 { "glyph" } else { "glyphs" };
-    writeln!(io::stdout(), "{shown} {glyphs}, {refused} refused, {before} points before, {after} after")?;
+    let counts_shown = !goes.is_standard_output();
+    goes.finish()?;
+    if counts_shown {
+        let glyphs = if shown == 1 { "glyph" } else { "glyphs" };
+        writeln!(io::stdout(), "{shown} {glyphs}, {refused} refused, {before} points before, {after} after")?;
+    }
     Ok(match (failed, refused) {
         (true, _) => Status::Wrong,
         (false, 0) => Status::AllCrunched,
