@@ -32,7 +32,6 @@ sys.path.insert(0, str(TOP / "bindings/python"))
 
 import fontcrunch  # noqa: E402
 import picture  # noqa: E402
-from explicit import without_idle_controls  # noqa: E402
 
 try:
     from fontTools.ttLib import TTFont
@@ -63,7 +62,7 @@ def box(data):
 
 def crunched(data, settings):
     """The description crunched, without instructions."""
-    contours = [without_idle_controls(fontcrunch.explicit(contour)) for contour in fontcrunch.read_glyph(data).contours()]
+    contours = [fontcrunch.drop_idle(fontcrunch.explicit(contour)).points for contour in fontcrunch.read_glyph(data).contours()]
     new = fontcrunch.crunch_glyph(fontcrunch.write_glyph(fontcrunch.Glyph.of_contours(contours)), settings)
     if len(fontcrunch.read_glyph(new).points) >= len(fontcrunch.read_glyph(data).points):
         raise Left

@@ -37,7 +37,8 @@ Lookups that fell. A piece is measured against the samples of its run, and some 
 Rust which this follows takes (0, 0). `fallen` of Crunched and of Chain counts them, and `verdict`, which is `check` with
 that number, those of its chain alone. They change nothing else.
 
-Uploads. `clean` drops repeated points and lists each with why, and `put_back` gives the upload's points again. `from_cubics`
+Uploads. `clean` drops repeated points and lists each with why, and `put_back` gives the upload's points again. `drop_idle`
+drops controls that stand on an end of their curve, which would flatten its run, and `put_back_idle` gives them back. `from_cubics`
 makes quads of cubics. `explicit` takes contours as fonts hold them: it turns one to its first on-curve point and writes its
 implied points out.
 
@@ -57,11 +58,12 @@ from ._glif import crunch_glif, read_glif, write_glif
 from ._glyphs import Glyph, crunch_glyph, read_glyph, write_glyph
 from ._refusal import Refused
 from ._rows import ANSWER_ROOM, BREAK_ROOM, MOST_PIECES, MOST_POINTS_IN, SAMPLE_ROOM, USUAL_POINT_ROOM, Point
-from ._uploads import Cleaned, Dropped, Why, clean, explicit, from_cubics, put_back
+from ._uploads import Beside, Cleaned, Dropped, Idle, IdleDrop, Why, clean, drop_idle, explicit, from_cubics, put_back, put_back_idle
 
 __all__ = [
     "ANSWER_ROOM",
     "BREAK_ROOM",
+    "Beside",
     "CRATE_PENALTY",
     "Chain",
     "Cleaned",
@@ -70,6 +72,8 @@ __all__ = [
     "Dropped",
     "Editions",
     "Glyph",
+    "Idle",
+    "IdleDrop",
     "MOST_PIECES",
     "MOST_POINTS_IN",
     "Piece",
@@ -87,10 +91,12 @@ __all__ = [
     "crunch",
     "crunch_glif",
     "crunch_glyph",
+    "drop_idle",
     "editions",
     "explicit",
     "from_cubics",
     "put_back",
+    "put_back_idle",
     "read_glif",
     "read_glyph",
     "verdict",

@@ -1,4 +1,4 @@
-"""The step of examples/python that drops idle controls, and its picture."""
+"""Why examples/python drops idle controls, and its picture."""
 
 import sys
 import unittest
@@ -10,7 +10,6 @@ from .common import TOP, Case, points
 
 sys.path.insert(0, str(TOP / "examples/python"))
 
-import explicit  # noqa: E402
 import picture  # noqa: E402
 
 
@@ -19,14 +18,13 @@ class Idle(Case):
 
     def test_controls_on_an_end_are_dropped(self):
         def kept(line):
-            return [fontcrunch.Point(*point) for point in explicit.without_idle_controls(points(line))]
+            return fontcrunch.drop_idle(points(line)).points
 
         self.assertEqual(kept("60 200 1 60 200 0 20 100 1 0 50 0 0 0 1 90 20 1"), points(self.BENT))
         self.assertEqual(kept("60 200 1 20 100 0 20 100 1 0 50 0 0 0 1 90 20 1"), points(self.BENT))
         # a last control, on the start
         self.assertEqual(kept(f"{self.BENT} 60 200 0"), points(self.BENT))
         self.assertEqual(kept(self.BENT), points(self.BENT))
-        self.assertEqual(explicit.without_idle_controls([]), [])
 
     def test_left_in_the_run_is_one_straight_piece(self):
         idle = fontcrunch.chain(points("60 200 1 60 200 0 20 100 1 0 50 0 0 0 1 90 20 1"), 0)

@@ -50,6 +50,9 @@
 //! Old uploads hold repeated points, which make needless corners. [`clean`] drops them and lists each with why;
 //! [`put_back`] gives the upload's points again.
 //!
+//! A control that stands on an end of its curve flattens its run. [`drop_idle`] drops such controls and lists each;
+//! [`put_back_idle`] gives the contour's points again.
+//!
 //! # Cubics
 //!
 //! [`from_cubics`] makes quads of a contour of cubics, whose off-curve points stand in pairs.
@@ -85,6 +88,7 @@ mod entries;
 mod explicit;
 pub mod glif;
 pub mod glyph;
+mod idle;
 mod reasons;
 mod refusal;
 mod rows;
@@ -95,6 +99,7 @@ pub use cruncher::{Chain, Crunched, Cruncher, Piece, Point, Verdict};
 pub use cubics::from_cubics;
 pub use editions::Editions;
 pub use explicit::explicit;
+pub use idle::{drop_idle, put_back_idle, Beside, Idle, IdleDrop};
 pub use reasons::Reasons;
 pub use refusal::Refusal;
 pub use rows::{ANSWER_ROOM, BREAK_ROOM, MOST_PIECES, MOST_POINTS_IN, SAMPLE_ROOM, USUAL_POINT_ROOM};

@@ -3,11 +3,14 @@ use Prim.Native.Nat.{ℕ}
 use mathlib.Core.List.{List}
 use mathlib.Core.Path.{_≡_}
 use lib.IntN.{ℤ}
-use lib.ListN.{take}
+use lib.ListN.{length, take}
 use Rattle.rows.specs.Lent.{Inputs, inputs, Shown}
 use Rattle.contour.specs.Output.{Outputs, outputs}
-use Rattle.clean.specs.Entry.{Rows, rows, Promise, PutPromise}
+use Rattle.clean.specs.Clean.{Cleaning}
+use Rattle.clean.specs.Entry.{Rows, rows, cleaningOf, Sifts, spotsFor, Restores}
 use Rattle.clean.specs.Determine.{placesOf, pointPlaces}
+use Rattle.clean.specs.declared.Cleaned as C
+use Rattle.clean.specs.declared.Restored as R
 use Rattle.exports.specs.Cleaning as Reports
 use Rattle.exports.specs.declared.cleaning.CleanReport.{CleanReport}
 use Rattle.exports.specs.declared.cleaning.PutReport.{PutReport}
@@ -39,9 +42,14 @@ cleanBefore g = rows (outputs (g .ox) (g .oy) (g .of)) (g .list)
 abbrev pub cleanAfter : CleanLeft → Rows
 cleanAfter l = rows (outputs (l .ox) (l .oy) (l .of)) (l .list)
 
--- the cleaning entry's promise, for what the caller gave
-pub record CleanIs (g : CleanGiven) (l : CleanLeft) : Type 0 where
-  pub shown : Shown Reports.report (Promise (cleanContour g) (record { entry = cleanBefore g; exit = cleanAfter l })) (l .report)
+-- the promise of an entry that keeps and lists by a rule, for what the caller gave
+pub record SiftIs (show : C.Cleaned → CleanReport) (rule : Inputs → Cleaning) (g : CleanGiven) (l : CleanLeft) : Type 0 where
+  pub shown :
+      Shown show (Sifts (cleanContour g) (rule (cleanContour g)) (record { entry = cleanBefore g; exit = cleanAfter l })) (l .report)
+
+-- the cleaning entry's
+abbrev pub CleanIs : CleanGiven → CleanLeft → Type 0
+CleanIs g l = SiftIs Reports.report cleaningOf g l
 
 -- one contour, in rows of equal lengths
 pub record CleanAlike (g g' : CleanGiven) : Type 0 where
@@ -80,9 +88,16 @@ putBefore g = outputs (g .ox) (g .oy) (g .of)
 abbrev pub putAfter : PutLeft → Outputs
 putAfter l = outputs (l .ox) (l .oy) (l .of)
 
--- the promise of the entry that puts back, for what the caller gave
-pub record PutIs (g : PutGiven) (l : PutLeft) : Type 0 where
-  pub shown : Shown Reports.putReport (PutPromise (putContour g) (g .list) (record { entry = putBefore g; exit = putAfter l })) (l .report)
+-- the promise of an entry that puts back by a rule, for what the caller gave
+pub record RestoreIs (show : R.Restored → PutReport) (rule : Inputs → List (List ℕ) → List (List ℕ)) (g : PutGiven) (l : PutLeft) : Type 0 where
+  pub shown :
+      Shown show
+      (Restores (putContour g) (length (g .list)) (rule (putContour g) (g .list)) (record { entry = putBefore g; exit = putAfter l }))
+      (l .report)
+
+-- that of the entry that puts back what was cleaned
+abbrev pub PutIs : PutGiven → PutLeft → Type 0
+PutIs g l = RestoreIs Reports.putReport spotsFor g l
 
 pub record PutAlike (g g' : PutGiven) : Type 0 where
   pub contour : putContour g ≡ putContour g'

@@ -11,6 +11,7 @@ mod explicit;
 mod fallen;
 mod glif;
 mod glyph;
+mod idle;
 mod inputs;
 mod jobs;
 mod outlet;

@@ -13,6 +13,7 @@ use crate::explicit;
 use crate::fallen::Fallen;
 use crate::glif;
 use crate::glyph;
+use crate::idle;
 use crate::picture::Sketch;
 use crate::reasons;
 use crate::service::Status;
@@ -83,6 +84,8 @@ impl Worker {
             }
             Tool::Clean { crunch: false } => cleaning::clean(contour(line, points)?),
             Tool::Clean { crunch: true } => cleaning::clean_and_crunch(cruncher, contour(line, points)?),
+            Tool::Idle { crunch: false } => idle::idle(contour(line, points)?),
+            Tool::Idle { crunch: true } => idle::idle_and_crunch(cruncher, contour(line, points)?),
             Tool::Cubic { crunch: false } => cubics::cubic(contour(line, points)?),
             Tool::Cubic { crunch: true } => cubics::cubic_and_crunch(cruncher, contour(line, points)?),
             Tool::Explicit { crunch: false } => explicit::explicit(contour(line, points)?),
