@@ -38,9 +38,9 @@ Rust which this follows takes (0, 0). `fallen` of Crunched and of Chain counts t
 that number, those of its chain alone. They change nothing else.
 
 Uploads. `clean` drops repeated points and lists each with why, and `put_back` gives the upload's points again. `drop_idle`
-drops controls that stand on an end of their curve, which would flatten its run, and `put_back_idle` gives them back. `from_cubics`
-makes quads of cubics. `explicit` takes contours as fonts hold them: it turns one to its first on-curve point and writes its
-implied points out.
+drops controls that stand on an end of their curve, which flatten its run, and `put_back_idle` gives them back.
+`from_cubics` makes quads of cubics. `explicit` takes contours as fonts hold them: it turns one to its first on-curve point
+and writes its implied points out.
 
 Glyphs. `read_glyph` and `write_glyph` take OpenType's simple glyph descriptions, bytes, to a Glyph and back;
 `crunch_glyph` crunches one, bytes in and bytes out, with explicit=True after writing out implied points. `read_glif`, `write_glif` and `crunch_glif` do the same for files of UFO's
@@ -58,7 +58,8 @@ from ._glif import crunch_glif, read_glif, write_glif
 from ._glyphs import Glyph, crunch_glyph, read_glyph, write_glyph
 from ._refusal import Refused
 from ._rows import ANSWER_ROOM, BREAK_ROOM, MOST_PIECES, MOST_POINTS_IN, SAMPLE_ROOM, USUAL_POINT_ROOM, Point
-from ._uploads import Beside, Cleaned, Dropped, Idle, IdleDrop, Why, clean, drop_idle, explicit, from_cubics, put_back, put_back_idle
+from ._uploads import Beside, Cleaned, Dropped, Idle, IdleDrop, Why
+from ._uploads import clean, drop_idle, explicit, from_cubics, put_back, put_back_idle
 
 __all__ = [
     "ANSWER_ROOM",

@@ -1,4 +1,4 @@
-"""Uploads cleaned of repeated points or of idle controls, and put back as they were; contours of cubics made quads; implied points written
+"""Uploads cleaned of repeated points or of idle controls, and put back as they were; cubics made quads; implied points written
 out."""
 
 from __future__ import annotations
@@ -82,8 +82,8 @@ class Idle(NamedTuple):
 
 
 def drop_idle(points: Iterable[AnyPoint]) -> Idle:
-    """Drops each off-curve point that is equal to one of its on-curve neighbours, going round: its curve is then the line that it
-    was, in the same places. Place 0 always stays. Left in, such a control makes its run come out straight."""
+    """Drops each off-curve point that is equal to one of its on-curve neighbours, going round: its curve is then the line
+    that it was, in the same places. Place 0 always stays. Left in, such a control makes its run come out straight."""
     kept, drops = _kept_and_dropped("drop_idle", points)
     return Idle(kept, [IdleDrop(place, Beside(beside)) for place, beside in drops])
 

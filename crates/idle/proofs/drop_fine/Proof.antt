@@ -35,7 +35,9 @@ same-length-4 : tie.Need-same-length-4
 same-length-4 c = c .before .before .before .before .before .write-cleaned .kept .1 .1 .1 .1 .1 .1 .1 .1 .1 .1 .0
 
 returns : tie.Need-returns
-returns c = written-of _ (c .before .before .before .before .before .before .before .before .before .before .before .before .before .before .sift .ensures .is) (c .before .before .before .before .before .write-cleaned .ensures)
+returns c =
+    let writing = c .before .before .before .before .before in
+    written-of _ (writing .before .before .before .before .before .before .before .before .before .sift .ensures .is) (writing .write-cleaned .ensures)
 
 pub drop-fine-spec : {M : Type 1} → statement M
 drop-fine-spec =

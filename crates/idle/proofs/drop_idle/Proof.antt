@@ -33,7 +33,10 @@ same-length-4 : tie.Need-same-length-4
 same-length-4 c = c .before .before .before .before .before .drop-fine .kept .1 .1 .1 .1 .1 .1 .0
 
 returns-2 : tie.Need-returns-2
-returns-2 c = after-judging _ (c .before .before .before .before .before .before .before .before .before .before .before .before .judge .ensures) (c .before .before .before .before .before .before .before .before .before .before .enum-told .given .1) (c .before .before .before .before .before .drop-fine .ensures)
+returns-2 c =
+    let dropping = c .before .before .before .before .before in
+    let told = dropping .before .before .before .before .before in
+    after-judging _ (told .before .before .judge .ensures) (told .enum-told .given .1) (dropping .drop-fine .ensures)
 
 pub drop-idle-spec : {M : Type 1} → statement M
 drop-idle-spec =

@@ -28,7 +28,8 @@ mul-kept c = omega (arith, c .before .before .loop .inv .all, c .before .before 
 slice-write-kept : tie.Need-slice-write-kept Inv-loop μ-loop
 slice-write-kept c =
     let start = c .before .before .before .before .before in
-    kept-room (besideOf (start .args .xs .now) (start .args .ys .now) (start .args .flags .now)) (length (start .args .flags .now)) (start .pre) (c .before .before .loop .inv) (c .before .loop-test .taken)
+    let a = start .args in
+    kept-room (besideOf (a .xs .now) (a .ys .now) (a .flags .now)) (length (a .flags .now)) (start .pre) (c .before .before .loop .inv) (c .before .loop-test .taken)
 
 cast-t13 : tie.Need-cast-t13 Inv-loop μ-loop
 cast-t13 c = omega (arith, c .before .loop-test .taken, c .before .before .before .before .before .pre .few)
@@ -39,7 +40,8 @@ mul-t11 c = omega (arith, c .before .before .loop .inv .all, c .before .before .
 slice-set-from-gone : tie.Need-slice-set-from-gone Inv-loop μ-loop
 slice-set-from-gone c =
     let start = c .before .before .before .before .before in
-    gone-room (besideOf (start .args .xs .now) (start .args .ys .now) (start .args .flags .now)) (length (start .args .flags .now)) (start .pre) (c .before .before .loop .inv) (c .before .loop-test .taken)
+    let a = start .args in
+    gone-room (besideOf (a .xs .now) (a .ys .now) (a .flags .now)) (length (a .flags .now)) (start .pre) (c .before .before .loop .inv) (c .before .loop-test .taken)
 
 next-requires : tie.Need-next-requires Inv-loop μ-loop
 next-requires c κs =
@@ -57,7 +59,9 @@ loop-again : tie.Need-loop-again Inv-loop μ-loop
 loop-again c =
     let turning = c .before .before in
     let start = turning .before .before .before .before in
-    more (besideOf (start .args .xs .now) (start .args .ys .now) (start .args .flags .now)) (length (start .args .flags .now)) (start .pre) (turning .before .loop .inv) (c .before .beside .result) (turning .loop-test .taken) (c .before .beside .ensures) (c .next .ensures)
+    let a = start .args in
+    more (besideOf (a .xs .now) (a .ys .now) (a .flags .now)) (length (a .flags .now)) (start .pre) (turning .before .loop .inv)
+    (c .before .beside .result) (turning .loop-test .taken) (c .before .beside .ensures) (c .next .ensures)
 
 same-length : tie.Need-same-length Inv-loop μ-loop
 same-length c = c .before .loop .inv .same-kept
@@ -68,7 +72,8 @@ same-length-2 c = c .before .loop .inv .same-gone
 returns : tie.Need-returns Inv-loop μ-loop
 returns c =
     let start = c .before .before .before .before in
-    end (besideOf (start .args .xs .now) (start .args .ys .now) (start .args .flags .now)) (length (start .args .flags .now)) (start .pre) (c .before .loop .inv) (c .loop-test .left)
+    let a = start .args in
+    end (besideOf (a .xs .now) (a .ys .now) (a .flags .now)) (length (a .flags .now)) (start .pre) (c .before .loop .inv) (c .loop-test .left)
 
 pub sift-spec : {M : Type 1} → statement M
 sift-spec =

@@ -23,7 +23,9 @@ same-length-4 : tie.Need-same-length-4
 same-length-4 c = c .before .before .before .before .before .before .drop-idle .kept .1 .1 .1 .1 .1 .1 .0
 
 returns : tie.Need-returns
-returns c = record { answer = c .before .before .before .before .before .before .drop-idle .result; is = c .clean-report .ensures ∙ same-report (c .before .before .before .before .before .before .drop-idle .result); promise = c .before .before .before .before .before .before .drop-idle .ensures }
+returns c =
+    let entry = c .before .before .before .before .before .before .drop-idle in
+    record { answer = entry .result; is = c .clean-report .ensures ∙ same-report (entry .result); promise = entry .ensures }
 
 pub fontcrunch-drop-idle-spec : {M : Type 1} → statement M
 fontcrunch-drop-idle-spec =

@@ -20,7 +20,9 @@ same-length-3 : tie.Need-same-length-3
 same-length-3 c = c .before .before .before .before .before .put-back .kept .1 .1 .1 .1 .1 .1 .0
 
 returns : tie.Need-returns
-returns c = record { answer = c .before .before .before .before .before .put-back .result; is = c .put-report .ensures ∙ same-put-report (c .before .before .before .before .before .put-back .result); promise = c .before .before .before .before .before .put-back .ensures }
+returns c =
+    let entry = c .before .before .before .before .before .put-back in
+    record { answer = entry .result; is = c .put-report .ensures ∙ same-put-report (entry .result); promise = entry .ensures }
 
 pub fontcrunch-put-back-idle-spec : {M : Type 1} → statement M
 fontcrunch-put-back-idle-spec =
