@@ -62,8 +62,8 @@
 //!
 //! # Idle controls
 //!
-//! A control that stands on an end of its curve flattens its run. [`drop_idle`] drops such controls, and lists them.
-//! [`Cruncher::prepared`] writes out implied points, cleans, drops idle controls and then crunches.
+//! A control that stands on an end of its curve flattens its run. [`drop_idle`] drops such controls and lists each;
+//! [`put_back_idle`] gives the contour's points again. [`Cruncher::prepared`] writes out implied points, cleans, drops idle controls and then crunches.
 //!
 //! # Glyph descriptions
 //!
@@ -125,7 +125,7 @@ pub use cruncher::{Chain, Crunched, Cruncher, Piece, Point, Verdict};
 pub use cubics::from_cubics;
 pub use editions::Editions;
 pub use explicit::explicit;
-pub use idle::{drop_idle, Beside, Idle, IdleDrop};
+pub use idle::{drop_idle, put_back_idle, Beside, Idle, IdleDrop};
 pub use prepared::prepared;
 pub use reasons::Reasons;
 pub use refusal::Refusal;

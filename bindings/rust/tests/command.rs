@@ -171,9 +171,10 @@ fn shell(command: &str) -> String {
 
 #[test]
 fn the_examples_of_each_page_are_so() {
-    for tool in
-        ["crunch", "ufo", "editions", "why", "chain", "check", "glyph", "glif", "clean", "cubic", "explicit"]
-    {
+    for tool in [
+        "crunch", "ufo", "editions", "trace", "why", "chain", "check", "glyph", "glif", "clean", "idle",
+        "cubic", "explicit",
+    ] {
         let page = run(&[tool, "--help"], b"");
         assert!(page.status.success());
         let page = text(&page.stdout);
@@ -215,6 +216,7 @@ fn the_default_is_a_penalty_of_32() {
     assert_ne!(at(&["--penalty", "256"]), at(&["--penalty", "1"]));
     assert_eq!(at(&["clean", "--crunch"]), at(&[]));
     assert_eq!(at(&["clean", "--crunch", "--penalty", "16"]), [RECORDED_COUNTER]);
+    assert_eq!(at(&["idle", "--crunch", "--penalty", "16"]), [RECORDED_COUNTER]);
 }
 
 // examples/c/expected has the same
@@ -228,6 +230,7 @@ fn a_penalty_out_of_range_is_refused_line_by_line_after_1_to_5() {
     for penalty in ["0", "257", "99999999999999999999"] {
         assert_eq!(answers_to(&["--penalty", penalty], input), lines);
         assert_eq!(answers_to(&["clean", "--crunch", "--penalty", penalty], input), lines);
+        assert_eq!(answers_to(&["idle", "--crunch", "--penalty", penalty], input), lines);
     }
     assert_eq!(status(&["--penalty", "0"], "7 9 1\n"), 1);
     let cubics = "0 0 1 1 1 0\n7 9 1\n";
@@ -835,6 +838,7 @@ fn the_same_for_any_number_of_threads() {
         &["--penalty", "16"][..],
         &["why"],
         &["clean", "--crunch"],
+        &["idle", "--crunch"],
         &["chain", "0", "--penalty", "16", "--fallen"],
         &["glyph", "read"],
     ] {

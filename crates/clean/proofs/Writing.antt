@@ -15,7 +15,7 @@ use Rattle.rows.proofs.Filled.{Filled, more, filled}
 use Rattle.rows.specs.Lent.{Inputs}
 use Rattle.contour.specs.Output.{outputs, front}
 use Rattle.clean.specs.Clean.{Cleaning, cleaned}
-use Rattle.clean.specs.Entry.{Rows, rows, pointsInto, cleaningOf, judgedOf, Written, Promise}
+use Rattle.clean.specs.Entry.{Rows, rows, pointsInto, judgedOf, Written, Sifts}
 use Rattle.clean.specs.declared.Cleaned as D
 use Rattle.clean.specs.declared.Cleaned.the-variants.{Refused, Points}
 
@@ -63,10 +63,10 @@ module _ (i : Inputs) (kept : List ℕ) (k : ℕ) (gone : List (List ℕ)) (d : 
 
 -- ---- 1 to 5 first
 
-pub refused-first : (i : Inputs) (r : Rows) {j : Judged} {k : ℕ} → j ≡ judgedOf i → j ≡ Judged.Refused k → Promise i (record { entry = r; exit = r }) (Refused k)
-refused-first i r is h = record { answer = rw (← is, h); left = refl }
+pub refused-first : (i : Inputs) (c : Cleaning) (r : Rows) {j : Judged} {k : ℕ} → j ≡ judgedOf i → j ≡ Judged.Refused k → Sifts i c (record { entry = r; exit = r }) (Refused k)
+refused-first i c r is h = record { answer = rw (← is, h); left = refl }
 
-pub after-judging : (i : Inputs) {w : Both Rows Rows} {j : Judged} {r : D.Cleaned} → j ≡ judgedOf i → j ≡ Judged.Fine → Written i (cleaningOf i) w r → Promise i w r
+pub after-judging : (i : Inputs) {c : Cleaning} {w : Both Rows Rows} {j : Judged} {r : D.Cleaned} → j ≡ judgedOf i → j ≡ Judged.Fine → Written i c w r → Sifts i c w r
 after-judging i is h written = record { answer = rw (← is, h) (written .answer); left = written .left }
 
 -- of another cleaning that is the same

@@ -7,7 +7,7 @@ use lib.Dec.{ltb}
 use lib.IntN.{ℤ, pos}
 use lib.ListN.{length, getD}
 use denote.Triple.Both.{Both}
-use Rattle.refusals.specs.Refusals.{rowsDiffer, noPoint, judged}
+use Rattle.refusals.specs.Refusals.{rowsDiffer, noPoint, refuse, judged}
 use Rattle.refusals.specs.declared.Judged.{Judged}
 use Rattle.refusals.specs.declared.Judged.the-variants as Judged
 use Rattle.contour.specs.Output.{Outputs, outputs, front}
@@ -84,13 +84,14 @@ afterJudging Judged.Fine later = later
 abbrev pub judgedOf : Inputs → Judged
 judgedOf (inputs xs ys fs) = judged xs ys fs
 
-abbrev pub wholeOf : Inputs → ℕ → ℕ → D.Cleaned
-wholeOf i list points = afterJudging (judgedOf i) (answerIn list points (cleaningOf i))
+-- the contract of an entry that keeps and lists what c says: what it hands back, and what it leaves in the rows w
+pub record Sifts (i : Inputs) (c : Cleaning) (w : Both Rows Rows) (r : D.Cleaned) : Type 0 where
+  pub answer : r ≡ afterJudging (judgedOf i) (answerIn (listRoom (w .entry)) (pointRoom (w .entry)) c)
+  pub left : w .exit ≡ leftBy r i c (w .entry)
 
--- the entry's contract: what it hands back, and what it leaves in the rows w
-pub record Promise (i : Inputs) (w : Both Rows Rows) (r : D.Cleaned) : Type 0 where
-  pub answer : r ≡ wholeOf i (listRoom (w .entry)) (pointRoom (w .entry))
-  pub left : w .exit ≡ leftBy r i (cleaningOf i) (w .entry)
+-- the cleaning entry's
+abbrev pub Promise : Inputs → Both Rows Rows → D.Cleaned → Type 0
+Promise i w r = Sifts i (cleaningOf i) w r
 
 -- ---- putting back: kept points and a list
 
@@ -110,25 +111,31 @@ lentOutputs ox oy of = record { entry = outputs (before ox) (before oy) (before 
 abbrev pub outputRoom : Outputs → ℕ
 outputRoom (outputs ox oy of) = min (min (length ox) (length oy)) (length of)
 
-abbrev pub orRefuse : ℕ → Bool → R.Restored → R.Restored
-orRefuse k true later = Restored.Refused k
-orRefuse k false later = later
-
 -- 1: the kept rows differ in length; 2: no point is kept; 3: more than 1,024 points with the drops; last 9: an output row is too short for them
+abbrev pub judgedBack : ℕ → ℕ → ℕ → ℕ → ℕ → Judged
+judgedBack x y n drops room =
+    refuse 1 (rowsDiffer x y n)
+    (refuse 2 (noPoint n) (refuse 3 (ltb 1024 (n + drops)) (refuse 9 (ltb room (n + drops)) Judged.Fine)))
+
+abbrev pub unlessRefused : Judged → ℕ → R.Restored
+unlessRefused (Judged.Refused k) n = Restored.Refused k
+unlessRefused Judged.Fine n = Restored.Points n
+
 abbrev pub restoredOf : Inputs → ℕ → ℕ → R.Restored
-restoredOf (inputs xs ys fs) drops room =
-    let n = length fs in
-    orRefuse 1 (rowsDiffer (length xs) (length ys) n)
-    (orRefuse 2 (noPoint n)
-    (orRefuse 3 (ltb 1024 (n + drops)) (orRefuse 9 (ltb room (n + drops)) (Restored.Points (n + drops)))))
+restoredOf (inputs xs ys fs) drops room = unlessRefused (judgedBack (length xs) (length ys) (length fs) drops room) (length fs + drops)
 
 abbrev pub spotsFor : Inputs → List (List ℕ) → List (List ℕ)
 spotsFor (inputs xs ys fs) list = spotsOf (length fs) list
 
+-- by where each point comes from
 abbrev pub leftBack : R.Restored → Inputs → List (List ℕ) → Outputs → Outputs
-leftBack (Restored.Refused k) i list o = o
-leftBack (Restored.Points n) i list o = spotsInto i (spotsFor i list) o
+leftBack (Restored.Refused k) i spots o = o
+leftBack (Restored.Points n) i spots o = spotsInto i spots o
 
-pub record PutPromise (i : Inputs) (list : List (List ℕ)) (w : Both Outputs Outputs) (r : R.Restored) : Type 0 where
-  pub answer : r ≡ restoredOf i (length list) (outputRoom (w .entry))
-  pub left : w .exit ≡ leftBack r i list (w .entry)
+-- the contract of an entry that puts so many drops back by these spots
+pub record Restores (i : Inputs) (drops : ℕ) (spots : List (List ℕ)) (w : Both Outputs Outputs) (r : R.Restored) : Type 0 where
+  pub answer : r ≡ restoredOf i drops (outputRoom (w .entry))
+  pub left : w .exit ≡ leftBack r i spots (w .entry)
+
+abbrev pub PutPromise : Inputs → List (List ℕ) → Both Outputs Outputs → R.Restored → Type 0
+PutPromise i list w r = Restores i (length list) (spotsFor i list) w r

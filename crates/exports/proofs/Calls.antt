@@ -10,6 +10,7 @@ pub mod Cleaning
 pub mod FromCubics
 pub mod Glif
 pub mod Glyph
+pub mod IdleControls
 pub mod Reasons
 pub mod WrittenOut
 

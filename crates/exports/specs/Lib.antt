@@ -1,4 +1,5 @@
 pub mod Cleaning
+pub mod IdleControls
 pub mod Reasons
 pub mod FromCubics
 pub mod WrittenOut

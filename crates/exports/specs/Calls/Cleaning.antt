@@ -6,9 +6,11 @@ use lib.IntN.{ℤ}
 use lib.ListN.{length, take}
 use Rattle.rows.specs.Lent.{Inputs, inputs, Shown}
 use Rattle.contour.specs.Output.{Outputs, outputs}
-use Rattle.clean.specs.Entry.{Rows, rows, listRoom, pointRoom, wholeOf, Promise, outputRoom, restoredOf, PutPromise}
+use Rattle.clean.specs.Clean.{Cleaning}
+use Rattle.clean.specs.Entry.{Rows, rows, listRoom, pointRoom, judgedOf, afterJudging, answerIn, cleaningOf, Sifts}
+use Rattle.clean.specs.Entry.{outputRoom, restoredOf, spotsFor, Restores}
 use Rattle.clean.specs.Determine.{placesOf, pointPlaces}
-use Rattle.clean.specs.declared.Cleaned as D
+use Rattle.clean.specs.declared.Cleaned as C
 use Rattle.clean.specs.declared.Cleaned.the-variants as Cleaned
 use Rattle.clean.specs.declared.Restored as R
 use Rattle.clean.specs.declared.Restored.the-variants as Restored
@@ -43,16 +45,26 @@ cleanBefore g = rows (outputs (g .ox) (g .oy) (g .of)) (g .list)
 abbrev pub cleanAfter : CleanLeft → Rows
 cleanAfter l = rows (outputs (l .ox) (l .oy) (l .of)) (l .list)
 
--- the cleaning entry's promise, for what the caller gave
-pub record CleanIs (g : CleanGiven) (l : CleanLeft) : Type 0 where
-  pub shown : Shown Reports.report (Promise (cleanContour g) (record { entry = cleanBefore g; exit = cleanAfter l })) (l .report)
+-- the promise of an entry that keeps and lists by a rule, for what the caller gave
+pub record SiftIs (show : C.Cleaned → CleanReport) (rule : Inputs → Cleaning) (g : CleanGiven) (l : CleanLeft) : Type 0 where
+  pub shown :
+      Shown show (Sifts (cleanContour g) (rule (cleanContour g)) (record { entry = cleanBefore g; exit = cleanAfter l })) (l .report)
 
--- what the cleaning entry's definition gives, for what the caller gave
-abbrev pub cleanDefined : CleanGiven → D.Cleaned
-cleanDefined g = wholeOf (cleanContour g) (listRoom (cleanBefore g)) (pointRoom (cleanBefore g))
+-- the cleaning entry's
+abbrev pub CleanIs : CleanGiven → CleanLeft → Type 0
+CleanIs g l = SiftIs Reports.report cleaningOf g l
+
+-- what the definition of such an entry gives, for what the caller gave
+abbrev pub siftDefined : (Inputs → Cleaning) → CleanGiven → C.Cleaned
+siftDefined rule g =
+    afterJudging (judgedOf (cleanContour g)) (answerIn (listRoom (cleanBefore g)) (pointRoom (cleanBefore g)) (rule (cleanContour g)))
+
+-- the cleaning entry's
+abbrev pub cleanDefined : CleanGiven → C.Cleaned
+cleanDefined g = siftDefined cleaningOf g
 
 -- the report of a refusal shows its number and nothing else; else the points kept and those dropped
-abbrev pub CleanShows : D.Cleaned → CleanReport → Type 0
+abbrev pub CleanShows : C.Cleaned → CleanReport → Type 0
 CleanShows (Cleaned.Refused k) r = (r .number ≡ k) × (r .kept ≡ 0) × (r .dropped ≡ 0)
 CleanShows (Cleaned.Points kept dropped) r = (r .number ≡ 0) × (r .kept ≡ kept) × (r .dropped ≡ dropped)
 
@@ -93,9 +105,16 @@ putBefore g = outputs (g .ox) (g .oy) (g .of)
 abbrev pub putAfter : PutLeft → Outputs
 putAfter l = outputs (l .ox) (l .oy) (l .of)
 
--- the promise of the entry that puts back, for what the caller gave
-pub record PutIs (g : PutGiven) (l : PutLeft) : Type 0 where
-  pub shown : Shown Reports.putReport (PutPromise (putContour g) (g .list) (record { entry = putBefore g; exit = putAfter l })) (l .report)
+-- the promise of an entry that puts back by a rule, for what the caller gave
+pub record RestoreIs (show : R.Restored → PutReport) (rule : Inputs → List (List ℕ) → List (List ℕ)) (g : PutGiven) (l : PutLeft) : Type 0 where
+  pub shown :
+      Shown show
+      (Restores (putContour g) (length (g .list)) (rule (putContour g) (g .list)) (record { entry = putBefore g; exit = putAfter l }))
+      (l .report)
+
+-- that of the entry that puts back what was cleaned
+abbrev pub PutIs : PutGiven → PutLeft → Type 0
+PutIs g l = RestoreIs Reports.putReport spotsFor g l
 
 -- what the definition of putting back gives, for what the caller gave
 abbrev pub putDefined : PutGiven → R.Restored

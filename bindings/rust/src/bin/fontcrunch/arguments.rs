@@ -60,6 +60,10 @@ pub enum Tool {
         /// and then crunch
         crunch: bool,
     },
+    Idle {
+        /// and then crunch
+        crunch: bool,
+    },
     Cubic {
         /// and then crunch
         crunch: bool,
@@ -120,6 +124,7 @@ impl Tool {
             Some("crunch") => Some(Tool::Crunch),
             Some("trace") => Some(Tool::Trace),
             Some("clean") => Some(Tool::Clean { crunch: false }),
+            Some("idle") => Some(Tool::Idle { crunch: false }),
             Some("cubic") => Some(Tool::Cubic { crunch: false }),
             Some("explicit") => Some(Tool::Explicit { crunch: false }),
             Some("why") => Some(Tool::Why { index: false }),
@@ -138,7 +143,10 @@ impl Tool {
         match self {
             Tool::Crunch | Tool::Trace | Tool::Ufo => true,
             Tool::Chain { .. } | Tool::Check { .. } | Tool::Editions { .. } => true,
-            Tool::Clean { crunch } | Tool::Cubic { crunch } | Tool::Explicit { crunch } => crunch,
+            Tool::Clean { crunch }
+            | Tool::Idle { crunch }
+            | Tool::Cubic { crunch }
+            | Tool::Explicit { crunch } => crunch,
             Tool::Glyph { step, .. } | Tool::Glif { step } => step == Step::Crunch,
             Tool::Why { .. } => false,
         }
@@ -318,8 +326,11 @@ impl Asked {
 
     fn then_crunch(&mut self) -> Result<(), String> {
         match &mut self.tool {
-            Tool::Clean { crunch } | Tool::Cubic { crunch } | Tool::Explicit { crunch } => *crunch = true,
-            _ => return Err("--crunch is an option of clean, cubic and explicit".to_owned()),
+            Tool::Clean { crunch }
+            | Tool::Idle { crunch }
+            | Tool::Cubic { crunch }
+            | Tool::Explicit { crunch } => *crunch = true,
+            _ => return Err("--crunch is an option of clean, idle, cubic and explicit".to_owned()),
         }
         Ok(())
     }
@@ -369,7 +380,7 @@ impl Asked {
         match self.settings.first_given() {
             None => Ok(()),
             Some(name) => Err(format!(
-                "{name} is for crunching: clean --crunch, cubic --crunch, explicit --crunch, glyph crunch, glif crunch"
+                "{name} is for crunching: clean --crunch, idle --crunch, cubic --crunch, explicit --crunch, glyph crunch, glif crunch"
             )),
         }
     }

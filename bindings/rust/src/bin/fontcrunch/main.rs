@@ -15,6 +15,7 @@ mod explicit;
 mod fallen;
 mod glif;
 mod glyph;
+mod idle;
 mod inputs;
 mod interrupt;
 mod jobs;

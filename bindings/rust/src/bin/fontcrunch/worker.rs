@@ -13,6 +13,7 @@ use crate::explicit;
 use crate::fallen::Fallen;
 use crate::glif;
 use crate::glyph::{self, How};
+use crate::idle;
 use crate::look::{self, Hints};
 use crate::notes;
 use crate::odd_bytes;
@@ -167,6 +168,7 @@ impl Worker {
         let points = &self.points;
         match self.tool {
             Tool::Clean { crunch: false } => cleaning::clean(points).map(Reply::from),
+            Tool::Idle { crunch: false } => idle::idle(points).map(Reply::from),
             Tool::Cubic { crunch: false } => cubics::cubic(points).map(Reply::from),
             Tool::Explicit { crunch: false } => explicit::explicit(points).map(Reply::from),
             Tool::Why { .. } => {
@@ -176,6 +178,7 @@ impl Worker {
             Tool::Chain { run, segments } => self.chain(run, segments),
             Tool::Editions { penalty } => Ok(self.editions(penalty, sketch)),
             Tool::Clean { .. } => self.crunch(fontcrunch::clean(points).map(|made| made.points), sketch),
+            Tool::Idle { .. } => self.crunch(fontcrunch::drop_idle(points).map(|made| made.points), sketch),
             Tool::Cubic { .. } => self.crunch(fontcrunch::from_cubics(points), sketch),
             Tool::Explicit { .. } => self.crunch(fontcrunch::explicit(points), sketch),
             _ => self.crunch(Ok(points.clone()), sketch),

@@ -54,6 +54,7 @@ fn page(tool: Tool) -> &'static Page {
         Tool::Crunch => &CRUNCH,
         Tool::Trace => &TRACE,
         Tool::Clean { .. } => &CLEAN,
+        Tool::Idle { .. } => &IDLE,
         Tool::Cubic { .. } => &CUBIC,
         Tool::Explicit { .. } => &EXPLICIT,
         Tool::Why { .. } => &WHY,
@@ -81,6 +82,7 @@ usage: fontcrunch [crunch] [--prepare] [--fallen] [SETTINGS] [--svg PICTURE] [--
        fontcrunch glif -o DIR [--cubic] [--report FILE.json] [SETTINGS] FILE.glif...
        fontcrunch glif read|write|crunch [SETTINGS] [FILE...]
        fontcrunch clean [--crunch [--prepare] [SETTINGS]] [FILE...]
+       fontcrunch idle [--crunch [--prepare] [SETTINGS]] [FILE...]
        fontcrunch cubic [--crunch [--prepare] [SETTINGS]] [FILE...]
        fontcrunch explicit [--crunch [--prepare] [SETTINGS]] [FILE...]
        fontcrunch help [TOOL]
@@ -96,6 +98,7 @@ check K        checks chains of run K, whoever made them
 glyph          reads, writes and crunches simple glyph descriptions
 glif           reads, writes and crunches files of UFO's GLIF
 clean          drops repeated points
+idle           drops controls that stand on an end of their curve
 cubic          makes quads of cubics
 explicit       writes out implied points
 
@@ -510,6 +513,33 @@ A line out, for each line in:
     example: "  \
   $ echo '0 0 1 0 0 1 5 0 1' | fontcrunch clean
   ok 0 0 1 5 0 1 | 1:before
+",
+};
+
+const IDLE: Page = Page {
+    what: "\
+Drops idle controls: off-curve points that stand on an end of their curve. The curve is the
+line between its ends, and left in, such a point makes its run come out straight.
+
+usage: fontcrunch idle [--crunch [--prepare] [SETTINGS]] [FILE...]
+
+--crunch       drops idle controls, then crunches what is left: lines out are those of
+               fontcrunch crunch
+",
+    settings: true,
+    lines: "\
+A line in is a contour, x y f x y f ..., as for fontcrunch crunch.
+
+A line out, for each line in:
+  ok x y f ... | k:end ...
+                      the points kept, and each dropped place k of the line, counted
+                      from 0, in order; end is before (equal to the point before it) or
+                      after (equal to the point after it, going round)
+",
+    refusals: &[2, 3, 4, 5, 6, 7, 8, 9, 16],
+    example: "  \
+  $ echo '0 0 1 0 0 0 100 0 1 300 0 0 300 200 1 0 200 1' | fontcrunch idle
+  ok 0 0 1 100 0 1 300 0 0 300 200 1 0 200 1 | 1:before
 ",
 };
 
