@@ -215,7 +215,8 @@ fn a_font_on_a_page() {
     assert_eq!(run(&[name(&font), "--html", name(&font)], "").status.code(), Some(2));
     assert_eq!(fs::read(&font).unwrap(), before);
     // to standard output goes the page alone
-    assert_eq!(text(&run(&[name(&font), "--html", "-"], "").stdout), written);
+    let output = run(&["--closed", "--penalty", "32", name(&font), "--html", "-"], "");
+    assert_eq!(text(&output.stdout), written);
 }
 
 #[test]

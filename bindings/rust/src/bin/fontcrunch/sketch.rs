@@ -5,6 +5,7 @@ use fontcrunch::glyph;
 use fontcrunch::{Cruncher, Point, Refusal, Trace};
 
 use crate::glyph::of_hex;
+use crate::recipe::stand_in;
 
 pub enum Sketch {
     /// One contour, traced in each edition, and how many points stand on its line: others than were crunched where it
@@ -46,7 +47,7 @@ impl Sketch {
 
     /// Of a file of GLIF.
     pub fn of_glif(cruncher: &mut Cruncher, bytes: &[u8]) -> Sketch {
-        Sketch::of_contours(cruncher, glif::read(bytes), points_in(bytes))
+        Sketch::of_contours(cruncher, glif::read(bytes), stand_in(bytes))
     }
 
     /// Of a glyph that could not be opened.
@@ -62,32 +63,5 @@ impl Sketch {
     /// Of a line that is a file of GLIF in hexadecimal digits.
     pub fn of_glif_line(cruncher: &mut Cruncher, line: &[u8]) -> Option<Sketch> {
         Some(Sketch::of_glif(cruncher, &of_hex(line.trim_ascii())?))
-    }
-}
-
-/// The point elements of a file's outline, comments left out.
-fn points_in(bytes: &[u8]) -> usize {
-    let text = String::from_utf8_lossy(bytes);
-    let no_comments: String = match text.split_once("<!--") {
-        None => text.into_owned(),
-        Some((start, rest)) => {
-            let after =
-                |part: &str| part.split_once("-->").map_or(String::new(), |(_, after)| after.to_owned());
-            rest.split("<!--").fold(start.to_owned(), |kept, part| kept + &after(part))
-        }
-    };
-    let outline = no_comments.split_once("<outline").and_then(|(_, rest)| rest.split_once("</outline"));
-    outline.map_or(0, |(inside, _)| inside.matches("<point").count())
-}
-
-#[cfg(test)]
-mod tests {
-    use super::*;
-
-    #[test]
-    fn points_of_a_file_are_counted() {
-        let file = b"<glyph><!-- <outline><point/> --><outline><contour><point x='0'/><!-- <point/> --><point/></contour></outline><lib><point/></lib></glyph>";
-        assert_eq!(points_in(file), 2);
-        assert_eq!(points_in(b"<glyph/>"), 0);
     }
 }

@@ -271,7 +271,8 @@ fn each_tool_has_a_page() {
         assert!(page.contains(&format!("fontcrunch {tool}")) || tool == "crunch", "{tool}");
         assert!(help(None).contains(&format!("\n{tool} ")), "{tool}");
         assert!(page.contains("\nExample:\n  $ ") && page.ends_with("was wrong.\n"), "{tool}");
-        assert!(page.lines().all(|line| line.len() <= 132), "{tool}");
+        // but for an answer of JSON, which is as long as it is
+        assert!(page.lines().all(|line| line.len() <= 132 || line.starts_with("  {")), "{tool}");
         // settings by the same names and words wherever runs are worked; editions has two penalties
         let has_settings = page.contains("--penalty N    what each piece adds");
         assert_eq!(has_settings, !["why", "editions"].contains(&tool), "{tool}");
