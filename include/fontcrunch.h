@@ -179,7 +179,7 @@ enum {
     FONTCRUNCH_NO_SUCH_PENALTY = 16,
     /* fontcrunch_from_cubics: a rounded point is outside 16 bits */
     FONTCRUNCH_OUTSIDE_16_BITS = 17,
-    /* fontcrunch_clean: there are more drops than list has places */
+    /* fontcrunch_clean, fontcrunch_drop_idle: there are more drops than list has places */
     FONTCRUNCH_LIST_TOO_SHORT = 18,
     /* GLIF: the file is malformed */
     FONTCRUNCH_MALFORMED = 19,
@@ -189,7 +189,7 @@ enum {
     FONTCRUNCH_NO_ON_CURVE = 21
 };
 
-/* Why a point was dropped: the second number of a place of a list. */
+/* Why a point was dropped: the second number of a place of the list of fontcrunch_clean. */
 enum {
     /* an on-curve point equal to the on-curve point before it */
     FONTCRUNCH_FOR_BEFORE = 1,
@@ -197,6 +197,14 @@ enum {
     FONTCRUNCH_FOR_BOTH = 2,
     /* a last on-curve point equal to the first point */
     FONTCRUNCH_FOR_FIRST = 3
+};
+
+/* The neighbour that an idle control equals: the second number of a place of the list of fontcrunch_drop_idle. */
+enum {
+    /* the point before it */
+    FONTCRUNCH_BESIDE_BEFORE = 1,
+    /* the point after it, going round */
+    FONTCRUNCH_BESIDE_AFTER = 2
 };
 
 /* Why a segment starts at a corner: a bit for each reason. */
@@ -278,6 +286,10 @@ typedef struct fontcrunch_put_back_report {
     uint32_t number; /* of the refusal, or 0 */
     size_t points;   /* points written; 0 where refused */
 } fontcrunch_put_back_report;
+
+typedef fontcrunch_clean_report fontcrunch_drop_idle_report;
+
+typedef fontcrunch_put_back_report fontcrunch_put_back_idle_report;
 
 typedef struct fontcrunch_from_cubics_report {
     uint32_t number; /* of the refusal, or 0 */
@@ -406,6 +418,46 @@ fontcrunch_clean_report fontcrunch_clean(
  * refusal writes nothing.
  */
 fontcrunch_put_back_report fontcrunch_put_back(
+    const int16_t *xs, size_t xs_len,
+    const int16_t *ys, size_t ys_len,
+    const uint8_t *flags, size_t flags_len,
+    const uint32_t (*list)[2], size_t list_len,
+    int16_t *ox, size_t ox_len,
+    int16_t *oy, size_t oy_len,
+    uint8_t *of, size_t of_len);
+
+/*
+ * Drops idle controls: off-curve points equal, in x and y, to one of their neighbours, going round. The curve of
+ * such a point is the line between its ends; left in, it has no direction at that end, and its run comes out
+ * straight. The points kept are written to the first places of ox, oy and of, in order, their flags as 1 or 0.
+ * Each drop is written to list, by rising place: its place in the contour as it came, and which neighbour it
+ * equals, the one before it where it equals both. No on-curve point is dropped. No other place is touched, and a
+ * refusal writes nothing.
+ *
+ * Refusals, in this order: 1 2 3 4 5 18 9. Rows as long as the contour always suffice. No scratch is needed.
+ *
+ * The outline stays what it was. What is left is refused by none of 1 to 5, and dropping again drops nothing.
+ */
+fontcrunch_drop_idle_report fontcrunch_drop_idle(
+    const int16_t *xs, size_t xs_len,
+    const int16_t *ys, size_t ys_len,
+    const uint8_t *flags, size_t flags_len,
+    int16_t *ox, size_t ox_len,
+    int16_t *oy, size_t oy_len,
+    uint8_t *of, size_t of_len,
+    uint32_t (*list)[2], size_t list_len);
+
+/*
+ * Puts back what fontcrunch_drop_idle dropped: of the points kept and its list, the contour as it came, with flags
+ * 1 or 0. Places are filled in order: by the next drop of the list where it names the place, or where no kept
+ * point is left, and else by the next kept point. A drop is an off-curve copy of the kept point before it, or, for
+ * any second number but FONTCRUNCH_BESIDE_BEFORE, of the kept point after it, going round. Any list is put back by
+ * this rule, also one that no dropping gave.
+ *
+ * Refusals, in this order: 1 2 3 9. Here 1 and 2 speak of the points kept, and 3 counts them with those of the list. A
+ * refusal writes nothing.
+ */
+fontcrunch_put_back_idle_report fontcrunch_put_back_idle(
     const int16_t *xs, size_t xs_len,
     const int16_t *ys, size_t ys_len,
     const uint8_t *flags, size_t flags_len,

@@ -125,7 +125,7 @@ static inline fontcrunch_why_report fontcrunch_easy_why(
     return fontcrunch_why(xs, n, ys, n, flags, n, k);
 }
 
-/* Points dropped: the first report.dropped places, each the point's number in the contour, and why. */
+/* Points dropped: the first report.dropped places, each the point's number in the contour, and why or by which end. */
 typedef struct fontcrunch_drops {
     uint32_t list[FONTCRUNCH_POINTS_IN][2];
 } fontcrunch_drops;
@@ -140,6 +140,16 @@ static inline fontcrunch_clean_report fontcrunch_easy_clean(
         out->flags, FONTCRUNCH_POINTS_OUT, drops->list, FONTCRUNCH_POINTS_IN);
 }
 
+/* Drops idle controls of a contour. */
+static inline fontcrunch_drop_idle_report fontcrunch_easy_drop_idle(
+    const int16_t *xs, const int16_t *ys, const uint8_t *flags, size_t n,
+    fontcrunch_outline *out, fontcrunch_drops *drops)
+{
+    return fontcrunch_drop_idle(
+        xs, n, ys, n, flags, n, out->xs, FONTCRUNCH_POINTS_OUT, out->ys, FONTCRUNCH_POINTS_OUT,
+        out->flags, FONTCRUNCH_POINTS_OUT, drops->list, FONTCRUNCH_POINTS_IN);
+}
+
 /* Puts back the first `dropped` places of a list of drops. More than the list has places are refused by 3. */
 static inline fontcrunch_put_back_report fontcrunch_easy_put_back(
     const int16_t *xs, const int16_t *ys, const uint8_t *flags, size_t n,
@@ -148,6 +158,17 @@ static inline fontcrunch_put_back_report fontcrunch_easy_put_back(
     /* with a point kept, a full list is one drop too many already */
     size_t listed = dropped <= FONTCRUNCH_POINTS_IN ? dropped : FONTCRUNCH_POINTS_IN;
     return fontcrunch_put_back(
+        xs, n, ys, n, flags, n, drops->list, listed, out->xs, FONTCRUNCH_POINTS_OUT,
+        out->ys, FONTCRUNCH_POINTS_OUT, out->flags, FONTCRUNCH_POINTS_OUT);
+}
+
+/* Puts back idle controls, as fontcrunch_easy_put_back does repeated points. */
+static inline fontcrunch_put_back_idle_report fontcrunch_easy_put_back_idle(
+    const int16_t *xs, const int16_t *ys, const uint8_t *flags, size_t n,
+    const fontcrunch_drops *drops, size_t dropped, fontcrunch_outline *out)
+{
+    size_t listed = dropped <= FONTCRUNCH_POINTS_IN ? dropped : FONTCRUNCH_POINTS_IN;
+    return fontcrunch_put_back_idle(
         xs, n, ys, n, flags, n, drops->list, listed, out->xs, FONTCRUNCH_POINTS_OUT,
         out->ys, FONTCRUNCH_POINTS_OUT, out->flags, FONTCRUNCH_POINTS_OUT);
 }

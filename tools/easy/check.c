@@ -101,6 +101,17 @@ static void uploads(const char *of)
         p = fontcrunch_easy_put_back(theirs.xs, theirs.ys, theirs.flags, d.kept, &drops, IN + 1, &mine);
         count(p.number == FONTCRUNCH_TOO_MANY_POINTS, "put back too many", of);
     }
+    c = fontcrunch_easy_drop_idle(xs, ys, flags, n, &mine, &drops);
+    d = fontcrunch_drop_idle(CONTOUR, ROWS(theirs), drops_theirs.list, IN);
+    count(c.number == d.number && c.kept == d.kept && c.dropped == d.dropped && outlines(&mine, &theirs, d.kept)
+              && !memcmp(drops.list, drops_theirs.list, 8 * d.dropped), "drop idle", of);
+    if (c.number == FONTCRUNCH_OK) {
+        fontcrunch_put_back_idle_report p =
+            fontcrunch_easy_put_back_idle(theirs.xs, theirs.ys, theirs.flags, d.kept, &drops, d.dropped, &mine);
+        count(p.number == 0 && p.points == n && !memcmp(mine.xs, xs, 2 * n) && !memcmp(mine.ys, ys, 2 * n), "put back idle", of);
+        p = fontcrunch_easy_put_back_idle(theirs.xs, theirs.ys, theirs.flags, d.kept, &drops, IN + 1, &mine);
+        count(p.number == FONTCRUNCH_TOO_MANY_POINTS, "put back too many idle", of);
+    }
     fontcrunch_from_cubics_report g = fontcrunch_easy_from_cubics(xs, ys, flags, n, &mine);
     fontcrunch_from_cubics_report h = fontcrunch_from_cubics(CONTOUR, ROWS(theirs));
     count(g.number == h.number && g.points == h.points && outlines(&mine, &theirs, h.points), "from cubics", of);

@@ -55,6 +55,8 @@ SIGNATURES: dict[str, tuple[type, ...]] = {
     "why": (_report(reasons=U32), *_POINTS, SIZE),
     "clean": (_report(kept=SIZE, dropped=SIZE), *_POINTS, *_POINTS, _DROPS),
     "put_back": (_report(points=SIZE), *_POINTS, _DROPS, *_POINTS),
+    "drop_idle": (_report(kept=SIZE, dropped=SIZE), *_POINTS, *_POINTS, _DROPS),
+    "put_back_idle": (_report(points=SIZE), *_POINTS, _DROPS, *_POINTS),
     "from_cubics": (_report(points=SIZE), *_POINTS, *_POINTS),
     "explicit": (_report(points=SIZE), *_POINTS, *_POINTS),
     "read_glyph": (_report(contours=SIZE, points=SIZE, instructions=SIZE), _row(U8), *_GLYPH),

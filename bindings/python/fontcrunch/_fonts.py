@@ -13,9 +13,8 @@ from fontTools.ttLib.tables import _g_l_y_f, otTraverse
 
 from ._contours import Settings
 from ._glyphs import Glyph, crunch_glyph, read_glyph, write_glyph
-from ._idle import drop_idle
 from ._refusal import Refused
-from ._uploads import explicit
+from ._uploads import drop_idle, explicit
 
 OVERLAP = _g_l_y_f.flagOverlapSimple
 

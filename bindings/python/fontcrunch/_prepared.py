@@ -4,9 +4,8 @@ from __future__ import annotations
 
 from typing import Iterable
 
-from ._idle import drop_idle
 from ._rows import AnyPoint, Point
-from ._uploads import clean, explicit
+from ._uploads import clean, drop_idle, explicit
 
 
 def prepared(points: Iterable[AnyPoint]) -> list[Point]:

@@ -146,13 +146,15 @@ class Run(Case):
         self.assert_order("why", self.first_five(11, (99,)))
         self.assertEqual(told("why", *rows(HILL), 99).number, 11)
 
-    def test_clean(self):
+    def test_clean_and_drop_idle(self):
         none = (*points_room(0), (U32 * 2 * 0)())
-        self.assert_order("clean", [*self.first_five(18, none), (18, 9, (*rows("0 0 1 0 0 1"), *none))])
+        for entry, line in (("clean", "0 0 1 0 0 1"), ("drop_idle", "0 0 1 0 0 0")):
+            self.assert_order(entry, [*self.first_five(18, none), (18, 9, (*rows(line), *none))])
 
     def test_put_back(self):
         none = ((U32 * 2 * 1025)(), *points_room(0))
-        self.assert_order("put_back", [(1, 2, (*UNEVEN_EMPTY, *none)), (2, 3, (*EMPTY, *none)), (3, 9, (*rows("0 0 1"), *none))])
+        for entry in ("put_back", "put_back_idle"):
+            self.assert_order(entry, [(1, 2, (*UNEVEN_EMPTY, *none)), (2, 3, (*EMPTY, *none)), (3, 9, (*rows("0 0 1"), *none))])
 
     def test_from_cubics(self):
         none = points_room(0)

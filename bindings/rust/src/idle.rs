@@ -1,10 +1,11 @@
-//! Controls that stand on an end of their curve, dropped.
+//! Controls that stand on an end of their curve, dropped, and put back.
 
 use std::fmt;
 
-use crate::cleaning::clean;
-use crate::cruncher::Point;
+use crate::cruncher::{unless_refused, Point};
+use crate::entries::idle as entries;
 use crate::refusal::Refusal;
+use crate::rows::{Contour, PointRows, MOST_POINTS_IN};
 
 /// The end of its curve that a control stands on: the first of these that held.
 #[derive(Clone, Copy, Debug, PartialEq, Eq, Hash)]
@@ -49,42 +50,42 @@ pub struct Idle {
 /// Left in, such a control gives its curve no direction where it stands. The first score of the run is then a NaN,
 /// which nothing replaces, and the run comes out as one straight piece, as in the Rust which this follows.
 ///
-/// **This step is outside the proofs**: it is these lines of Rust, over no entry of the library. Where it is given
-/// a contour that is refused, the refusal is that of [`clean`].
-///
 /// ```
-/// use fontcrunch::{drop_idle, Point};
+/// use fontcrunch::{drop_idle, put_back_idle, Point};
 ///
 /// let contour = [Point::on(0, 0), Point::off(0, 0), Point::on(100, 0), Point::on(0, 200)];
 /// let idle = drop_idle(&contour)?;
 /// assert_eq!(idle.points, [Point::on(0, 0), Point::on(100, 0), Point::on(0, 200)]);
 /// assert_eq!(idle.dropped[0].place, 1);
+/// assert_eq!(put_back_idle(&idle.points, &idle.dropped)?, contour);
 /// # Ok::<(), fontcrunch::Refusal>(())
 /// ```
 pub fn drop_idle(points: &[Point]) -> Result<Idle, Refusal> {
-    // cleaning is refused by 1 to 5 alone, and what it gives is not looked at
-    clean(points)?;
-    let mut idle = Idle { points: Vec::new(), dropped: Vec::new() };
-    for (place, &point) in points.iter().enumerate() {
-        match beside(points, place) {
-            Some(beside) => idle.dropped.push(IdleDrop { place: place as u32, beside }),
-            None => idle.points.push(point),
-        }
-    }
-    Ok(idle)
+    let contour = Contour::of(points);
+    let room = points.len().min(MOST_POINTS_IN);
+    let mut out = PointRows::of_room(room);
+    let mut list = vec![[0; 2]; room];
+    let report = entries::drop_idle(&contour, &mut out, &mut list);
+    unless_refused(report.number)?;
+    Ok(Idle {
+        points: out.points(report.kept),
+        dropped: list[..report.dropped].iter().map(dropped).collect(),
+    })
 }
 
-/// Where the point at a place is an idle control. Of a contour that is let through both its neighbours are on-curve.
-fn beside(points: &[Point], place: usize) -> Option<Beside> {
-    let point = points[place];
-    let stands_on = |end: Point| end.on_curve && (end.x, end.y) == (point.x, point.y);
-    if point.on_curve || place == 0 {
-        None
-    } else if stands_on(points[place - 1]) {
-        Some(Beside::Before)
-    } else if stands_on(points[(place + 1) % points.len()]) {
-        Some(Beside::After)
-    } else {
-        None
-    }
+/// The contour's points, of the points kept and the list. A list that no dropping gave is put back too, by the
+/// same rule. Refused by 3 where there are more than [`MOST_POINTS_IN`] points with those dropped.
+pub fn put_back_idle(points: &[Point], dropped: &[IdleDrop]) -> Result<Vec<Point>, Refusal> {
+    let contour = Contour::of(points);
+    let list: Vec<[u32; 2]> = dropped.iter().map(|drop| [drop.place, drop.beside as u32]).collect();
+    let mut out = PointRows::of_room((points.len() + list.len()).min(MOST_POINTS_IN));
+    let report = entries::put_back_idle(&contour, &list, &mut out);
+    unless_refused(report.number)?;
+    Ok(out.points(report.points))
+}
+
+/// The library gives 1 or 2 for the neighbour.
+fn dropped(entry: &[u32; 2]) -> IdleDrop {
+    let beside = if entry[1] == 1 { Beside::Before } else { Beside::After };
+    IdleDrop { place: entry[0], beside }
 }

@@ -39,7 +39,8 @@
 //! which this follows takes (0, 0). [`Crunched::fallen`], [`Chain::fallen`] and [`Verdict::fallen`] count them; they
 //! change nothing else.
 //!
-//! [`Cruncher::why`] tells which tests make the start of a segment a corner.
+//! [`Cruncher::why`] tells which tests make the start of a segment a corner. [`Cruncher::trace`] tells all of it at
+//! once, run by run and piece by piece: what each piece replaced, its place, its share of the score and its distance.
 //!
 //! # Two editions
 //!
@@ -61,8 +62,8 @@
 //!
 //! # Idle controls
 //!
-//! A control that stands on an end of its curve flattens its run. [`drop_idle`] drops such controls, and lists them.
-//! [`Cruncher::prepared`] writes out implied points, cleans, drops idle controls and then crunches.
+//! A control that stands on an end of its curve flattens its run. [`drop_idle`] drops such controls and lists each;
+//! [`put_back_idle`] gives the contour's points again. [`Cruncher::prepared`] writes out implied points, cleans, drops idle controls and then crunches.
 //!
 //! # Glyph descriptions
 //!
@@ -111,20 +112,23 @@ mod explicit;
 pub mod glif;
 pub mod glyph;
 mod idle;
+pub mod outline;
 mod prepared;
 mod reasons;
 mod refusal;
 mod rows;
 mod settings;
+pub mod trace;
 
 pub use cleaning::{clean, put_back, Cleaned, Dropped, Why};
 pub use cruncher::{Chain, Crunched, Cruncher, Piece, Point, Verdict};
 pub use cubics::from_cubics;
 pub use editions::Editions;
 pub use explicit::explicit;
-pub use idle::{drop_idle, Beside, Idle, IdleDrop};
+pub use idle::{drop_idle, put_back_idle, Beside, Idle, IdleDrop};
 pub use prepared::prepared;
 pub use reasons::Reasons;
 pub use refusal::Refusal;
 pub use rows::{ANSWER_ROOM, BREAK_ROOM, MOST_PIECES, MOST_POINTS_IN, SAMPLE_ROOM, USUAL_POINT_ROOM};
 pub use settings::{Settings, CRATE_PENALTY, DEFAULT_PENALTY};
+pub use trace::Trace;

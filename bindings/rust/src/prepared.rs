@@ -1,7 +1,7 @@
 //! Contours made ready, as fonts and old uploads need it, and then crunched.
 //!
-//! Every step is an entry of the library but [`drop_idle`], which says of itself what of it is proved. That the steps
-//! follow each other in this order is what is written here, and no theorem.
+//! Every step is an entry of the library. That the steps follow each other in this order is what is written here, and
+//! no theorem.
 
 use crate::cleaning::clean;
 use crate::cruncher::{Crunched, Cruncher, Point};

@@ -171,9 +171,10 @@ fn shell(command: &str) -> String {
 
 #[test]
 fn the_examples_of_each_page_are_so() {
-    for tool in
-        ["crunch", "ufo", "editions", "why", "chain", "check", "glyph", "glif", "clean", "cubic", "explicit"]
-    {
+    for tool in [
+        "crunch", "ufo", "editions", "trace", "why", "chain", "check", "glyph", "glif", "clean", "idle",
+        "cubic", "explicit",
+    ] {
         let page = run(&[tool, "--help"], b"");
         assert!(page.status.success());
         let page = text(&page.stdout);
@@ -215,6 +216,7 @@ fn the_default_is_a_penalty_of_32() {
     assert_ne!(at(&["--penalty", "256"]), at(&["--penalty", "1"]));
     assert_eq!(at(&["clean", "--crunch"]), at(&[]));
     assert_eq!(at(&["clean", "--crunch", "--penalty", "16"]), [RECORDED_COUNTER]);
+    assert_eq!(at(&["idle", "--crunch", "--penalty", "16"]), [RECORDED_COUNTER]);
 }
 
 // examples/c/expected has the same
@@ -228,6 +230,7 @@ fn a_penalty_out_of_range_is_refused_line_by_line_after_1_to_5() {
     for penalty in ["0", "257", "99999999999999999999"] {
         assert_eq!(answers_to(&["--penalty", penalty], input), lines);
         assert_eq!(answers_to(&["clean", "--crunch", "--penalty", penalty], input), lines);
+        assert_eq!(answers_to(&["idle", "--crunch", "--penalty", penalty], input), lines);
     }
     assert_eq!(status(&["--penalty", "0"], "7 9 1\n"), 1);
     let cubics = "0 0 1 1 1 0\n7 9 1\n";
@@ -337,8 +340,9 @@ fn a_letter_is_drawn() {
         "after: 43 points",
         "letter.txt, line 3",
         "1,855 pairs tried",
-        "at the penalty 1.0, 16 sixteenths",
-        "<title>replaces segments 2 to 3</title>",
+        "at the penalty 1.0 (16 sixteenths), that of the crate, since none was given",
+        "<title>replaces segments 2 to 3, at most 0.18 units away</title>",
+        "<title>segment 7 at (438, 403): turns back in y; bend of 38.4 degrees, limit 1.15</title>",
     ] {
         assert!(svg.contains(words), "{words}");
     }
@@ -382,15 +386,17 @@ fn every_kind_of_contour_is_drawn() {
     for words in ["refused 2", "refused 4", "refused 5", "refused 6", "refused 7", "refused 8", "unchanged"] {
         assert!(svg.contains(words), "{words}");
     }
-    assert!(svg.contains("it is run 0, marked on the left"));
-    assert!(!svg.contains("malformed"));
+    assert!(svg.contains("marked on the left"));
+    let wrong = drawn("wrong", "7 9 1\n1 2\n");
+    assert!(wrong.contains("line 2") && wrong.contains(">malformed</text>"));
 }
 
 #[test]
 fn a_picture_says_at_which_penalty_it_was_drawn() {
-    for (penalty, words) in
-        [("32", "at the penalty 2.0, 32 sixteenths"), ("1", "at the penalty 0.0625, 1 sixteenth")]
-    {
+    for (penalty, words) in [
+        ("32", "at the penalty 2.0 (32 sixteenths)<"),
+        ("1", "at the penalty 0.0625 (1 sixteenth); an order"),
+    ] {
         let svg = drawn_with(&["--penalty", penalty], "penalties", "7 9 1\n");
         assert!(svg.contains(words), "{words}");
     }
@@ -456,7 +462,28 @@ fn a_picture_that_cannot_be_written_loses_no_answer() {
     let output = run(&["--svg", "/nonexistent/picture.svg"], b"7 9 1\n");
     assert_eq!(text(&output.stdout), "ok 0 7 9 1\n");
     assert_eq!(output.status.code(), Some(2));
-    assert!(text(&output.stderr).starts_with("fontcrunch: /nonexistent/picture.svg: "));
+    assert!(text(&output.stderr).contains("\nfontcrunch: /nonexistent/picture.svg: "));
+}
+
+#[test]
+fn contours_of_a_file_are_drawn_together() {
+    let apart = drawn("apart", "0 0 1 0 9 1 9 9 1 9 0 1\n2 2 1 7 2 1 7 7 1 2 7 1\n");
+    let together =
+        drawn_with(&["--together"], "together", "0 0 1 0 9 1 9 9 1 9 0 1\n2 2 1 7 2 1 7 7 1 2 7 1\nx\n");
+    assert!(height(&together) < height(&apart));
+    assert!(together.contains("2 contours, 8 \u{2192} 8 points") && together.contains("line 3: "));
+    assert_eq!(status(&["--together"], ""), 2);
+}
+
+#[test]
+fn whoever_names_no_penalty_for_a_picture_is_told_which_holds() {
+    let picture = path(&folder("told"), "picture.svg");
+    let told = "fontcrunch: the penalty is 16, that of Settings::of_crate(), since none is given; \
+                an order's default is another, 32\n";
+    assert_eq!(text(&run(&["--svg", &picture], b"7 9 1\n").stderr), told);
+    assert_eq!(text(&run(&["trace"], b"7 9 1\n").stderr), told);
+    assert_eq!(text(&run(&["--svg", &picture, "--penalty", "16"], b"7 9 1\n").stderr), "");
+    assert_eq!(text(&run(&[], b"7 9 1\n").stderr), "");
 }
 
 #[test]
@@ -811,6 +838,7 @@ fn the_same_for_any_number_of_threads() {
         &["--penalty", "16"][..],
         &["why"],
         &["clean", "--crunch"],
+        &["idle", "--crunch"],
         &["chain", "0", "--penalty", "16", "--fallen"],
         &["glyph", "read"],
     ] {

@@ -356,8 +356,12 @@ fn a_picture_for_standard_output() {
     let folder = folder("standard_picture");
     let picture = path(&folder, "p.svg");
     run(&["--closed", "--svg", &picture], CURVE.as_bytes());
+    let drawn = fs::read_to_string(picture).unwrap();
     let (out, messages, status) = told(&["--closed", "--svg", "-"], CURVE);
-    assert_eq!((out, messages, status), (fs::read_to_string(picture).unwrap(), String::new(), Some(0)));
+    assert_eq!((&out, status), (&drawn, Some(0)));
+    assert!(messages.starts_with("fontcrunch: the penalty is 16, "), "{messages}");
+    // which penalty holds is a note
+    assert_eq!(told(&["--closed", "--quiet", "--svg", "-"], CURVE), (drawn, String::new(), Some(0)));
 }
 
 #[test]
@@ -392,7 +396,7 @@ fn an_old_picture_is_whole_until_the_new_one_is() {
 #[test]
 fn a_closed_pipe_needs_no_message() {
     let name = glif("pipe", "A.glif", &["0 0 1 100 0 1 0 100 1"]);
-    for words in [&["glif", "--closed", &name][..], &["help"], &["--svg", "-", "--closed"]] {
+    for words in [&["glif", "--closed", &name][..], &["help"], &["--svg", "-", "--penalty", "16"]] {
         let mut child = command();
         child.args(words).stdin(Stdio::null()).stdout(Stdio::piped()).stderr(Stdio::piped());
         let mut child = child.spawn().unwrap();

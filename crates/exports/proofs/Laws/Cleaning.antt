@@ -1,4 +1,5 @@
--- What the promises of specs/Calls/Cleaning say of a report and of two calls, and those of any entry that keeps and lists, or puts back, as they do. Assumes nothing.
+-- What the promises of specs/Calls/Cleaning say of a report and of two calls, and those of any entry that keeps and lists, or puts back, as they do.
+-- Assumes nothing.
 use Prim.Native.Nat.{ℕ}
 use mathlib.Core.List.{List}
 use mathlib.Core.Path.{_≡_, refl, sym, subst, _∙_}
@@ -14,19 +15,21 @@ use Rattle.clean.specs.declared.Restored as D
 use Rattle.clean.specs.declared.Restored.the-variants as Restored
 use Rattle.exports.specs.Cleaning as Reports
 use Rattle.exports.specs.Determine.{clean-determined, clean-equal-orders, put-determined, put-equal-orders}
-use Rattle.exports.specs.Calls.Cleaning.{CleanGiven, CleanLeft, SiftIs, CleanIs, CleanShows, CleanAlike, cleanDefined, cleanAfter, cleanWritten}
+use Rattle.exports.specs.Calls.Cleaning.{CleanGiven, CleanLeft, SiftIs, CleanIs, CleanShows, CleanAlike}
+use Rattle.exports.specs.Calls.Cleaning.{siftDefined, cleanDefined, cleanAfter, cleanWritten}
 use Rattle.exports.specs.Calls.Cleaning.{PutGiven, PutLeft, RestoreIs, PutIs, PutShows, PutAlike, putContour, putDefined, putAfter, putWritten}
 use Rattle.exports.specs.declared.cleaning.CleanReport.{CleanReport}
 use Rattle.exports.specs.declared.cleaning.PutReport.{PutReport}
 
 -- ---- keeping and listing
 
-pub clean-shows : {g : CleanGiven} {l : CleanLeft} → CleanIs g l → CleanShows (cleanDefined g) (l .report)
-clean-shows {g} {l} p = rw (p .shown .is, p .shown .promise .answer) (by (cleanDefined g))
-  where
-    by : (o : C.Cleaned) → CleanShows o (Reports.report o)
-    by (Cleaned.Refused k) = (refl, refl, refl)
-    by (Cleaned.Points n m) = (refl, refl, refl)
+-- a report shows an answer, field by field
+abbrev pub Shows : (C.Cleaned → CleanReport) → Type 0
+Shows show = (o : C.Cleaned) → CleanShows o (show o)
+
+pub sift-shows : {show : C.Cleaned → CleanReport} {rule : Inputs → Cleaning} {g : CleanGiven} {l : CleanLeft} → Shows show → SiftIs show rule g l →
+    CleanShows (siftDefined rule g) (l .report)
+sift-shows {rule = rule} {g = g} shows p = rw (p .shown .is, p .shown .promise .answer) (shows (siftDefined rule g))
 
 cleanLeftBy : CleanReport → Rows → CleanLeft
 cleanLeftBy r (rows (outputs ox oy of) list) = record { report = r; ox = ox; oy = oy; of = of; list = list }
@@ -62,6 +65,13 @@ clean-counts : Counts Reports.report
 clean-counts (Cleaned.Refused n) l = refl
 clean-counts (Cleaned.Points n m) l = refl
 
+clean-fields : Shows Reports.report
+clean-fields (Cleaned.Refused k) = (refl, refl, refl)
+clean-fields (Cleaned.Points n m) = (refl, refl, refl)
+
+pub clean-shows : {g : CleanGiven} {l : CleanLeft} → CleanIs g l → CleanShows (cleanDefined g) (l .report)
+clean-shows p = sift-shows clean-fields p
+
 pub clean-left : {g g' : CleanGiven} {l l' : CleanLeft} → CleanIs g l → CleanIs g' l' → g ≡ g' → l ≡ l'
 clean-left p q e = sift-left p q e
 
@@ -71,12 +81,12 @@ clean-equal p q a = sift-equal clean-counts p q a
 
 -- ---- putting back
 
-pub put-shows : {g : PutGiven} {l : PutLeft} → PutIs g l → PutShows (putDefined g) (l .report)
-put-shows {g} {l} p = rw (p .shown .is, p .shown .promise .answer) (by (putDefined g))
-  where
-    by : (o : D.Restored) → PutShows o (Reports.putReport o)
-    by (Restored.Refused k) = (refl, refl)
-    by (Restored.Points n) = (refl, refl)
+abbrev pub PutsShown : (D.Restored → PutReport) → Type 0
+PutsShown show = (o : D.Restored) → PutShows o (show o)
+
+pub restore-shows : {show : D.Restored → PutReport} {rule : Inputs → List (List ℕ) → List (List ℕ)} {g : PutGiven} {l : PutLeft} → PutsShown show →
+    RestoreIs show rule g l → PutShows (putDefined g) (l .report)
+restore-shows {g = g} shows p = rw (p .shown .is, p .shown .promise .answer) (shows (putDefined g))
 
 putLeftBy : PutReport → Outputs → PutLeft
 putLeftBy r (outputs ox oy of) = record { report = r; ox = ox; oy = oy; of = of }
@@ -108,6 +118,13 @@ module _ {show : D.Restored → PutReport} {rule : Inputs → List (List ℕ) �
 put-counts : PutCounts Reports.putReport
 put-counts (Restored.Refused n) l = refl
 put-counts (Restored.Points n) l = refl
+
+put-fields : PutsShown Reports.putReport
+put-fields (Restored.Refused k) = (refl, refl)
+put-fields (Restored.Points n) = (refl, refl)
+
+pub put-shows : {g : PutGiven} {l : PutLeft} → PutIs g l → PutShows (putDefined g) (l .report)
+put-shows p = restore-shows put-fields p
 
 pub put-left : {g g' : PutGiven} {l l' : PutLeft} → PutIs g l → PutIs g' l' → g ≡ g' → l ≡ l'
 put-left p q e = restore-left p q e

@@ -6,7 +6,7 @@ use Rattle.clean.specs.declared.Restored as R
 use Rattle.clean.specs.declared.Restored.the-variants as Restored
 use Rattle.exports.specs.Cleaning as Cleaning
 use Rattle.exports.specs.IdleControls as Reports
-use Rattle.exports.proofs.Laws.Cleaning.{Counts, PutCounts}
+use Rattle.exports.proofs.Laws.Cleaning.{Shows, PutsShown, Counts, PutCounts}
 
 -- those of cleaning are the same
 pub same-report : (c : C.Cleaned) → Cleaning.report c ≡ Reports.report c
@@ -24,3 +24,11 @@ counts (Cleaned.Points n m) l = refl
 pub put-counts : PutCounts Reports.putReport
 put-counts (Restored.Refused n) l = refl
 put-counts (Restored.Points n) l = refl
+
+pub fields : Shows Reports.report
+fields (Cleaned.Refused k) = (refl, refl, refl)
+fields (Cleaned.Points n m) = (refl, refl, refl)
+
+pub put-fields : PutsShown Reports.putReport
+put-fields (Restored.Refused k) = (refl, refl)
+put-fields (Restored.Points n) = (refl, refl)

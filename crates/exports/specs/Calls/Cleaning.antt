@@ -7,7 +7,8 @@ use lib.ListN.{length, take}
 use Rattle.rows.specs.Lent.{Inputs, inputs, Shown}
 use Rattle.contour.specs.Output.{Outputs, outputs}
 use Rattle.clean.specs.Clean.{Cleaning}
-use Rattle.clean.specs.Entry.{Rows, rows, listRoom, pointRoom, wholeOf, cleaningOf, Sifts, outputRoom, restoredOf, spotsFor, Restores}
+use Rattle.clean.specs.Entry.{Rows, rows, listRoom, pointRoom, judgedOf, afterJudging, answerIn, cleaningOf, Sifts}
+use Rattle.clean.specs.Entry.{outputRoom, restoredOf, spotsFor, Restores}
 use Rattle.clean.specs.Determine.{placesOf, pointPlaces}
 use Rattle.clean.specs.declared.Cleaned as C
 use Rattle.clean.specs.declared.Cleaned.the-variants as Cleaned
@@ -53,9 +54,14 @@ pub record SiftIs (show : C.Cleaned → CleanReport) (rule : Inputs → Cleaning
 abbrev pub CleanIs : CleanGiven → CleanLeft → Type 0
 CleanIs g l = SiftIs Reports.report cleaningOf g l
 
--- what the cleaning entry's definition gives, for what the caller gave
+-- what the definition of such an entry gives, for what the caller gave
+abbrev pub siftDefined : (Inputs → Cleaning) → CleanGiven → C.Cleaned
+siftDefined rule g =
+    afterJudging (judgedOf (cleanContour g)) (answerIn (listRoom (cleanBefore g)) (pointRoom (cleanBefore g)) (rule (cleanContour g)))
+
+-- the cleaning entry's
 abbrev pub cleanDefined : CleanGiven → C.Cleaned
-cleanDefined g = wholeOf (cleanContour g) (cleaningOf (cleanContour g)) (listRoom (cleanBefore g)) (pointRoom (cleanBefore g))
+cleanDefined g = siftDefined cleaningOf g
 
 -- the report of a refusal shows its number and nothing else; else the points kept and those dropped
 abbrev pub CleanShows : C.Cleaned → CleanReport → Type 0

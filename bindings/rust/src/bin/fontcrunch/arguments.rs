@@ -1,5 +1,6 @@
 //! What the command line asks for.
 
+mod drawing;
 mod help;
 mod more;
 mod settings;
@@ -7,11 +8,12 @@ mod settings;
 use std::ffi::{OsStr, OsString};
 use std::path::PathBuf;
 
-use fontcrunch::{Settings, CRATE_PENALTY, DEFAULT_PENALTY};
+use fontcrunch::{Settings, DEFAULT_PENALTY};
 
 use crate::fallen::Fallen;
 use crate::{chain_line, contour_line, glif, glyph};
 
+pub use drawing::Drawing;
 pub use help::{help, version};
 use more::MoreChosen;
 pub use more::{FilesJob, More};
@@ -29,6 +31,8 @@ pub enum Request {
     Files(FilesJob),
     /// A whole UFO.
     Ufo(FilesJob),
+    /// One such file, and a page of it.
+    FilePage(Job, PathBuf),
 }
 
 /// What to do with contours, at which settings, what answers tell besides, by how many threads, and where to draw
@@ -41,7 +45,9 @@ pub struct Job {
     pub more: More,
     pub jobs: usize,
     pub inputs: Vec<Input>,
-    pub picture: Option<PathBuf>,
+    pub drawing: Drawing,
+    /// Where it is not, whoever asks is told which one holds.
+    pub penalty_given: bool,
 }
 
 /// What is done with each contour. A first word that names a tool asks for it; without one, contours are crunched.
@@ -49,7 +55,12 @@ pub struct Job {
 pub enum Tool {
     #[default]
     Crunch,
+    Trace,
     Clean {
+        /// and then crunch
+        crunch: bool,
+    },
+    Idle {
         /// and then crunch
         crunch: bool,
     },
@@ -111,7 +122,9 @@ impl Tool {
     fn named(word: &OsStr) -> Option<Tool> {
         match word.to_str() {
             Some("crunch") => Some(Tool::Crunch),
+            Some("trace") => Some(Tool::Trace),
             Some("clean") => Some(Tool::Clean { crunch: false }),
+            Some("idle") => Some(Tool::Idle { crunch: false }),
             Some("cubic") => Some(Tool::Cubic { crunch: false }),
             Some("explicit") => Some(Tool::Explicit { crunch: false }),
             Some("why") => Some(Tool::Why { index: false }),
@@ -128,10 +141,12 @@ impl Tool {
     /// Whether runs are worked, so that settings mean something.
     fn works_runs(self) -> bool {
         match self {
-            Tool::Crunch | Tool::Chain { .. } | Tool::Check { .. } | Tool::Editions { .. } | Tool::Ufo => {
-                true
-            }
-            Tool::Clean { crunch } | Tool::Cubic { crunch } | Tool::Explicit { crunch } => crunch,
+            Tool::Crunch | Tool::Trace | Tool::Ufo => true,
+            Tool::Chain { .. } | Tool::Check { .. } | Tool::Editions { .. } => true,
+            Tool::Clean { crunch }
+            | Tool::Idle { crunch }
+            | Tool::Cubic { crunch }
+            | Tool::Explicit { crunch } => crunch,
             Tool::Glyph { step, .. } | Tool::Glif { step } => step == Step::Crunch,
             Tool::Why { .. } => false,
         }
@@ -236,7 +251,7 @@ struct Asked {
     more: MoreChosen,
     jobs: Option<u32>,
     inputs: Vec<Input>,
-    picture: Option<PathBuf>,
+    drawing: Drawing,
 }
 
 impl Asked {
@@ -293,10 +308,12 @@ impl Asked {
         if taken || self.more.take(word, words)? {
             return Ok(());
         }
+        if self.drawing.take(self.tool, word, words)? {
+            return Ok(());
+        }
         match parted(word) {
             ("-j", value) => self.by_jobs(value.or_else(|| words.next())),
             (short, None) if joined_jobs(short).is_some() => self.by_jobs(joined_jobs(short)),
-            ("--svg", value) => self.draw_to(value.or_else(|| words.next())),
             ("--jobs", value) => self.by_jobs(value.or_else(|| words.next())),
             ("--crunch", None) => self.then_crunch(),
             ("--explicit", None) => self.made_explicit(),
@@ -309,8 +326,11 @@ impl Asked {
 
     fn then_crunch(&mut self) -> Result<(), String> {
         match &mut self.tool {
-            Tool::Clean { crunch } | Tool::Cubic { crunch } | Tool::Explicit { crunch } => *crunch = true,
-            _ => return Err("--crunch is an option of clean, cubic and explicit".to_owned()),
+            Tool::Clean { crunch }
+            | Tool::Idle { crunch }
+            | Tool::Cubic { crunch }
+            | Tool::Explicit { crunch } => *crunch = true,
+            _ => return Err("--crunch is an option of clean, idle, cubic and explicit".to_owned()),
         }
         Ok(())
     }
@@ -349,14 +369,6 @@ impl Asked {
         }
     }
 
-    fn draw_to(&mut self, name: Option<OsString>) -> Result<(), String> {
-        if self.tool != Tool::Crunch {
-            return Err("--svg draws crunched contours alone".to_owned());
-        }
-        let name = name.filter(|name| !name.is_empty()).ok_or("--svg needs a file to write")?;
-        once("--svg", &mut self.picture, name.into())
-    }
-
     fn by_jobs(&mut self, number: Option<OsString>) -> Result<(), String> {
         let number = number.as_deref().and_then(whole_number).filter(|jobs| (1..=MOST_JOBS).contains(jobs));
         let jobs = number.ok_or_else(|| format!("--jobs needs a number of threads, 1 to {MOST_JOBS}"))?;
@@ -368,7 +380,7 @@ impl Asked {
         match self.settings.first_given() {
             None => Ok(()),
             Some(name) => Err(format!(
-                "{name} is for crunching: clean --crunch, cubic --crunch, explicit --crunch, glyph crunch, glif crunch"
+                "{name} is for crunching: clean --crunch, idle --crunch, cubic --crunch, explicit --crunch, glyph crunch, glif crunch"
             )),
         }
     }
@@ -393,6 +405,7 @@ impl Asked {
             return Ok(Request::Crunch(job));
         }
         match (job.inputs.pop(), job.inputs.is_empty()) {
+            (Some(Input::File(name)), true) if job.drawing.page.is_some() => Ok(Request::FilePage(job, name)),
             (Some(Input::File(name)), true) => Ok(Request::File(job.settings, job.more, name)),
             _ => Err(NEEDS_GLIF.to_owned()),
         }
@@ -435,12 +448,15 @@ impl Asked {
         if self.inputs.is_empty() {
             self.inputs.push(Input::Standard);
         }
-        // studios preview at the penalty of the Rust
-        let usual = if self.picture.is_some() { CRATE_PENALTY } else { DEFAULT_PENALTY };
+        self.drawing.fits(self.tool)?;
+        // the desk and the studios' preview rely on that of the Rust, and pass it by its name
+        let looked_at = self.drawing.is_asked() || self.tool == Tool::Trace;
+        let usual = if looked_at { Settings::of_crate().penalty } else { DEFAULT_PENALTY };
         let settings = self.settings.with_usual(usual);
+        let penalty_given = self.settings.has_penalty() || !looked_at;
         let jobs = self.jobs.unwrap_or(1) as usize;
-        let Asked { tool, fallen, inputs, picture, .. } = self;
-        Ok(Job { tool, settings, fallen, more: More::default(), jobs, inputs, picture })
+        let Asked { tool, fallen, inputs, drawing, .. } = self;
+        Ok(Job { tool, settings, fallen, more: More::default(), jobs, inputs, drawing, penalty_given })
     }
 }
 

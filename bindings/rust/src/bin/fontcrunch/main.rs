@@ -6,14 +6,16 @@ mod chain_line;
 mod chains;
 mod cleaning;
 mod contour_line;
+mod corners;
 mod cubic_glif;
 mod cubics;
-mod drawing;
+mod destination;
 mod editions;
 mod explicit;
 mod fallen;
 mod glif;
 mod glyph;
+mod idle;
 mod inputs;
 mod interrupt;
 mod jobs;
@@ -23,6 +25,7 @@ mod look;
 mod notes;
 mod odd_bytes;
 mod outlet;
+mod page;
 mod picture;
 mod plist;
 mod reasons;
@@ -30,8 +33,10 @@ mod recipe;
 mod report;
 mod service;
 mod sha256;
+mod sketch;
 mod stream;
 mod summary;
+mod trace;
 mod ufo;
 mod whole;
 mod worker;
@@ -51,6 +56,7 @@ fn main() -> ExitCode {
         Ok(Request::File(settings, more, name)) => glif::crunch_file(settings, more, &name),
         Ok(Request::Files(job)) => ufo::run_files(&job),
         Ok(Request::Ufo(job)) => ufo::run(&job),
+        Ok(Request::FilePage(job, name)) => service::file_page(&job, &name),
         Err(wrong) => {
             service::complain(&wrong);
             Status::Wrong

@@ -1,9 +1,10 @@
 //! Notes on standard error, of contours that are answered and yet are not what was meant: a stretch that is not
 //! written, and a control that flattens its run. `--quiet` silences them. Outside the proofs: an answer is what it is.
 
+use fontcrunch::outline::outside;
 use fontcrunch::{drop_idle, Cruncher, Point};
 
-use crate::picture::reading::{lines, outside, why};
+use crate::corners::{is_corner, lines};
 use crate::picture::svg::counted;
 
 /// What is to be said of a contour that was crunched, of its points and what came of them.
@@ -34,9 +35,9 @@ pub fn unwritten(cruncher: &mut Cruncher, before: &[Point], after: &[Point]) -> 
         return 0;
     }
     let lines = lines(before);
-    let mut is_corner = |i: &usize| why(cruncher, before, *i).is_some();
-    let first = (0..lines.len()).find(&mut is_corner);
-    let last = (0..lines.len()).rev().find(&mut is_corner);
+    let mut corner = |i: &usize| is_corner(cruncher, before, *i);
+    let first = (0..lines.len()).find(&mut corner);
+    let last = (0..lines.len()).rev().find(&mut corner);
     let segments = outside(first.zip(last), &lines).len();
     // what is left unchanged has the start at both ends; that the last corner stands on the start too is rare
     let may_be_unchanged = after.first() == before.first() && after.last() == before.first();

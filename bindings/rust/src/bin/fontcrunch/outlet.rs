@@ -1,36 +1,50 @@
-//! Where answers go: standard output, standard error, the picture, and the exit status.
+//! Where answers go: standard output, standard error, pictures and pages, and the exit status.
 
 use std::io::{self, ErrorKind, Write};
 use std::path::Path;
 
-use fontcrunch::Settings;
-
-use crate::drawing::Drawing;
+use crate::destination::Destination;
 use crate::inputs::Source;
-use crate::picture::Sketch;
 use crate::service::{complain, Status};
+use crate::sketch::Sketch;
 use crate::worker::Answer;
+
+/// A file that contours are drawn to as they come.
+pub trait Canvas: Send {
+    fn add(&mut self, source: &Source, sketch: &Sketch) -> io::Result<()>;
+
+    fn finish(self: Box<Self>) -> io::Result<()>;
+}
 
 pub struct Outlet<W> {
     answers: W,
-    drawing: Option<Drawing>,
-    /// Where the picture goes to standard output, answers do not.
+    drawings: Vec<Drawing>,
+    /// Where a drawing goes to standard output, answers do not.
     answers_shown: bool,
     status: Status,
 }
 
+/// A picture or a page under way.
+struct Drawing {
+    name: String,
+    canvas: Box<dyn Canvas>,
+    goes: Destination,
+}
+
 impl<W: Write> Outlet<W> {
     pub fn new(answers: W) -> Outlet<W> {
-        Outlet { answers, drawing: None, answers_shown: true, status: Status::AllCrunched }
+        Outlet { answers, drawings: vec![], answers_shown: true, status: Status::AllCrunched }
     }
 
-    pub fn start_drawing(&mut self, path: &Path, settings: Settings) {
-        match Drawing::start(path, settings) {
-            Ok(drawing) => {
-                self.answers_shown = !drawing.to_standard_output();
-                self.drawing = Some(drawing);
+    /// What is drawn on is created by the path of the file that is written.
+    pub fn start_drawing(&mut self, path: &Path, create: impl FnOnce(&Path) -> io::Result<Box<dyn Canvas>>) {
+        let name = path.to_string_lossy().into_owned();
+        match Destination::of(path).and_then(|goes| Ok((create(goes.path())?, goes))) {
+            Ok((canvas, goes)) => {
+                self.answers_shown &= !goes.is_standard_output();
+                self.drawings.push(Drawing { name, canvas, goes });
             }
-            Err(message) => self.wrong(&message),
+            Err(error) => self.wrong(&format!("{name}: {error}")),
         }
     }
 
@@ -62,6 +76,7 @@ impl<W: Write> Outlet<W> {
         self.note(message);
     }
 
+    /// Something is said, and nothing is wrong.
     pub fn note(&mut self, message: &str) {
         // a failure is met again when the next answer is written
         let _ = self.flush();
@@ -76,25 +91,23 @@ impl<W: Write> Outlet<W> {
         }
     }
 
-    /// A picture that fails is given up; the answers go on.
-    fn draw(&mut self, source: &Source, sketch: &Sketch) {
-        let Some(drawing) = &mut self.drawing else {
-            return;
-        };
-        let title = format!("{}, line {}", source.name, source.line);
-        if let Err(message) = drawing.add(&title, sketch) {
-            self.drawing = None;
-            self.wrong(&message);
+    /// A drawing that fails is given up; the answers go on.
+    pub fn draw(&mut self, source: &Source, sketch: &Sketch) {
+        for mut drawing in std::mem::take(&mut self.drawings) {
+            match drawing.canvas.add(source, sketch) {
+                Ok(()) => self.drawings.push(drawing),
+                Err(error) => self.wrong(&format!("{}: {error}", drawing.name)),
+            }
         }
     }
 
-    /// The picture is ended; the worst that was met.
+    /// Drawings are ended; the worst that was met.
     pub fn finish(mut self) -> Status {
-        if let Some(Err(message)) = self.drawing.take().map(|drawing| drawing.finish()) {
-            self.status = Status::Wrong;
-            // one that nobody reads any more needs no message
-            if !message.is_empty() {
-                self.wrong(&message);
+        for Drawing { name, canvas, goes } in std::mem::take(&mut self.drawings) {
+            match canvas.finish().and_then(|()| goes.finish()) {
+                Err(error) if error.kind() == ErrorKind::BrokenPipe => self.status = Status::Wrong,
+                Err(error) => self.wrong(&format!("{name}: {error}")),
+                Ok(()) => {}
             }
         }
         self.status

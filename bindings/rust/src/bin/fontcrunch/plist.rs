@@ -1,9 +1,19 @@
 //! The names and files of a layer, as its contents.plist has them. Outside the proofs.
 
-use crate::look::xml::{Fault, Kind, Scanner};
+use std::path::Path;
+
+use crate::look::xml::{line_and_column, Fault, Kind, Scanner};
+
+/// The pairs of a list, or what is wrong with it and where.
+pub fn named(path: &Path, bytes: &[u8]) -> Result<Vec<(String, String)>, String> {
+    pairs(bytes).map_err(|fault| {
+        let (line, column) = line_and_column(bytes, fault.at);
+        format!("{}:{line}:{column}: {}", path.display(), fault.what)
+    })
+}
 
 /// The pairs of the one dictionary of a property list, each a key and a string.
-pub fn pairs(bytes: &[u8]) -> Result<Vec<(String, String)>, Fault> {
+fn pairs(bytes: &[u8]) -> Result<Vec<(String, String)>, Fault> {
     let mut scanner = Scanner::new(bytes, true)?;
     let mut pairs = Vec::new();
     let (mut path, mut key, mut said) = (Vec::new(), None, String::new());

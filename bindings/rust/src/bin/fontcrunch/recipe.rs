@@ -106,7 +106,7 @@ impl Recipe {
 
 /// The points of a file as they stand in it. Where the second reader does not read what the proved one reads, those that enter
 /// are counted.
-fn stand_in(bytes: &[u8]) -> usize {
+pub fn stand_in(bytes: &[u8]) -> usize {
     let enter = || glif::read(bytes).map_or(0, |contours| contours.iter().map(Vec::len).sum());
     look::points_in(bytes).unwrap_or_else(enter)
 }

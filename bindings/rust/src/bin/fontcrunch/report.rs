@@ -2,6 +2,8 @@
 
 use std::fmt::Write as _;
 
+use fontcrunch::trace::quoted;
+
 use crate::arguments::FilesJob;
 use crate::summary::Counts;
 use crate::whole::{Fate, Item, Outcome, Outcomes};
@@ -64,31 +66,5 @@ fn file(item: &Item, outcome: Option<&Outcome>) -> String {
             )
         }
         Fate::Failed { words } => format!("{head}, \"fate\": \"failed\", \"words\": {}}}", quoted(words)),
-    }
-}
-
-/// A string of JSON.
-fn quoted(text: &str) -> String {
-    let mut quoted = String::from("\"");
-    for c in text.chars() {
-        match c {
-            '"' => quoted.push_str("\\\""),
-            '\\' => quoted.push_str("\\\\"),
-            c if c < ' ' => {
-                let _ = write!(quoted, "\\u{:04x}", u32::from(c));
-            }
-            c => quoted.push(c),
-        }
-    }
-    quoted + "\""
-}
-
-#[cfg(test)]
-mod tests {
-    use super::*;
-
-    #[test]
-    fn strings_are_quoted() {
-        assert_eq!(quoted("a\"b\\c\n\u{e9}"), "\"a\\\"b\\\\c\\u000a\u{e9}\"");
     }
 }

@@ -9,7 +9,6 @@ use std::path::{Component, Path, PathBuf};
 use crate::arguments::FilesJob;
 use crate::beside::{remove_temporary, Beside, OURS};
 use crate::interrupt;
-use crate::look::xml::line_and_column;
 use crate::plist;
 use crate::service::{complain, Status};
 use crate::summary;
@@ -125,10 +124,7 @@ fn file_of(path: &Path) -> &Path {
 fn glyphs(layer: &Path, tree: &Tree, plan: &mut Plan) -> Result<Vec<(String, PathBuf)>, String> {
     let list = layer.join(CONTENTS);
     let named = match fs::read(&list) {
-        Ok(bytes) => plist::pairs(&bytes).map_err(|fault| {
-            let (line, column) = line_and_column(&bytes, fault.at);
-            format!("{}:{line}:{column}: {}", list.display(), fault.what)
-        })?,
+        Ok(bytes) => plist::named(&list, &bytes)?,
         Err(error) if error.kind() == io::ErrorKind::NotFound => {
             let note = "is missing: every file there whose name ends with .glif is a glyph";
             plan.notes.push(format!("{}: {note}", list.display()));

@@ -13,12 +13,14 @@ use crate::explicit;
 use crate::fallen::Fallen;
 use crate::glif;
 use crate::glyph::{self, How};
+use crate::idle;
 use crate::look::{self, Hints};
 use crate::notes;
 use crate::odd_bytes;
-use crate::picture::Sketch;
 use crate::reasons;
 use crate::service::Status;
+use crate::sketch::Sketch;
+use crate::trace;
 
 /// All that comes of a line.
 pub struct Answer {
@@ -49,6 +51,8 @@ pub struct Worker {
     more: More,
     draws: bool,
     cruncher: Cruncher,
+    /// Of a second edition, which is drawn too.
+    second: Option<Cruncher>,
     points: Vec<Point>,
     /// The points that were crunched last, or were to be: what a second look is taken at.
     ready: Vec<Point>,
@@ -62,8 +66,9 @@ impl Worker {
             tool: job.tool,
             fallen: job.fallen,
             more: job.more,
-            draws: job.picture.is_some(),
+            draws: job.drawing.is_asked(),
             cruncher: Cruncher::new(job.settings),
+            second: second(job),
             points: Vec::new(),
             ready: Vec::new(),
             seen: Vec::new(),
@@ -86,7 +91,9 @@ impl Worker {
                 let messages = self.refused(refusal);
                 Answer { text, status: Status::SomeRefused, messages, sketch }
             }
+            Err(fault) if self.tool == Tool::Trace => trace::malformed(&fault),
             Err(fault) => {
+                sketch = self.draws.then(|| Sketch::Malformed(fault.to_string()));
                 let text = Some("malformed".to_owned()).filter(|_| !self.more.with_contour);
                 let odd = odd_bytes::told(line).map_or(String::new(), |odd| format!("; {odd}"));
                 let messages = vec![format!("malformed: {fault}{odd}")];
@@ -124,11 +131,19 @@ impl Worker {
             Tool::Glyph { step, explicit } => {
                 let how = How { explicit, more: self.more };
                 let text = glyph::answer(step, how, &mut self.cruncher, line, &mut self.seen)?;
+                let implied = explicit || self.more.prepare;
+                *sketch =
+                    self.draws.then(|| Sketch::of_glyph_line(&mut self.cruncher, line, implied)).flatten();
                 return Ok(text.map(Reply::from));
             }
             Tool::Glif { step } => {
                 let text = glif::answer(step, self.more, &mut self.cruncher, line, &mut self.seen)?;
+                *sketch = self.draws.then(|| Sketch::of_glif_line(&mut self.cruncher, line)).flatten();
                 return Ok(text.map(Reply::from));
+            }
+            Tool::Trace => {
+                contour_line::parse(line, &mut self.points)?;
+                return Ok(Ok(trace::answer(&mut self.cruncher, &self.points, &mut self.seen)));
             }
             Tool::Check { run } => {
                 let chain = chain_line::parse(line, &mut self.points)?;
@@ -153,6 +168,7 @@ impl Worker {
         let points = &self.points;
         match self.tool {
             Tool::Clean { crunch: false } => cleaning::clean(points).map(Reply::from),
+            Tool::Idle { crunch: false } => idle::idle(points).map(Reply::from),
             Tool::Cubic { crunch: false } => cubics::cubic(points).map(Reply::from),
             Tool::Explicit { crunch: false } => explicit::explicit(points).map(Reply::from),
             Tool::Why { .. } => {
@@ -160,8 +176,9 @@ impl Worker {
                 why(&mut self.cruncher, points).map(Reply::from)
             }
             Tool::Chain { run, segments } => self.chain(run, segments),
-            Tool::Editions { penalty } => Ok(self.editions(penalty)),
+            Tool::Editions { penalty } => Ok(self.editions(penalty, sketch)),
             Tool::Clean { .. } => self.crunch(fontcrunch::clean(points).map(|made| made.points), sketch),
+            Tool::Idle { .. } => self.crunch(fontcrunch::drop_idle(points).map(|made| made.points), sketch),
             Tool::Cubic { .. } => self.crunch(fontcrunch::from_cubics(points), sketch),
             Tool::Explicit { .. } => self.crunch(fontcrunch::explicit(points), sketch),
             _ => self.crunch(Ok(points.clone()), sketch),
@@ -185,7 +202,8 @@ impl Worker {
         let told = |crunched: &Crunched| self.fallen.after(crunched_text(crunched), crunched.fallen);
         let text = result.as_ref().map(told).map_err(|refusal| *refusal);
         if self.draws {
-            *sketch = Some(Sketch::of(&mut self.cruncher, &self.ready, self.points.len(), result));
+            let traces = vec![self.cruncher.trace(&self.ready)];
+            *sketch = Some(Sketch::Contour { traces, stood: self.points.len() });
         }
         text.map(Reply::from)
     }
@@ -203,7 +221,7 @@ impl Worker {
     }
 
     /// The first edition has the cruncher's penalty, the second this one.
-    fn editions(&mut self, penalty: u32) -> Reply {
+    fn editions(&mut self, penalty: u32, sketch: &mut Option<Sketch>) -> Reply {
         let cruncher = &mut self.cruncher;
         let first = cruncher.settings().penalty;
         if let (true, Ok(ready)) = (self.more.prepare, prepared(&self.points)) {
@@ -216,6 +234,10 @@ impl Worker {
         if let (Some(crunched), false) = (both.a.as_ref().or(both.b.as_ref()).ok(), self.more.quiet) {
             self.seen = notes::of(cruncher, &self.ready, &crunched.points);
         }
+        if let Some(second) = &mut self.second {
+            let traces = vec![self.cruncher.trace(&self.ready), second.trace(&self.ready)];
+            *sketch = Some(Sketch::Contour { traces, stood: self.points.len() });
+        }
         let hints = self.hints();
         for (name, refusal) in editions::refusals(&both) {
             let met = look::at_contour(&mut self.cruncher, &self.ready, refusal, hints);
@@ -224,6 +246,16 @@ impl Worker {
             );
         }
         editions::reply(&both, self.fallen)
+    }
+}
+
+/// Where two editions are drawn.
+fn second(job: &Job) -> Option<Cruncher> {
+    match job.tool {
+        Tool::Editions { penalty } if job.drawing.is_asked() => {
+            Some(Cruncher::new(job.settings.with_penalty(penalty)))
+        }
+        _ => None,
     }
 }
 

@@ -13,6 +13,8 @@ pub fn help(tool: Option<Tool>) -> String {
     match tool {
         None => format!("{OVERVIEW}\n{SETTINGS}\n{COMMON}\n{}\n{STATUS}", told(&ALL_REFUSALS)),
         Some(Tool::Ufo) => UFO.with(UFO_COMMON, "", UFO_STATUS),
+        // every line of trace is an object
+        Some(Tool::Trace) => page(Tool::Trace).with(COMMON, "", STATUS),
         Some(tool) => page(tool).with(COMMON, OTHERWISE, STATUS),
     }
 }
@@ -50,7 +52,9 @@ impl Page {
 fn page(tool: Tool) -> &'static Page {
     match tool {
         Tool::Crunch => &CRUNCH,
+        Tool::Trace => &TRACE,
         Tool::Clean { .. } => &CLEAN,
+        Tool::Idle { .. } => &IDLE,
         Tool::Cubic { .. } => &CUBIC,
         Tool::Explicit { .. } => &EXPLICIT,
         Tool::Why { .. } => &WHY,
@@ -66,9 +70,10 @@ fn page(tool: Tool) -> &'static Page {
 const OVERVIEW: &str = "\
 Crunches TrueType contours: puts fewer quadratic pieces between their corners.
 
-usage: fontcrunch [crunch] [--prepare] [--fallen] [SETTINGS] [--svg PICTURE] [FILE...]
+usage: fontcrunch [crunch] [--prepare] [--fallen] [SETTINGS] [--svg PICTURE] [--html PAGE] [FILE...]
        fontcrunch ufo IN.ufo -o OUT.ufo [--cubic] [--report FILE.json] [SETTINGS]
        fontcrunch editions --penalty A --penalty B [--whole-units] [--closed] [--prepare] [--fallen] [FILE...]
+       fontcrunch trace [SETTINGS] [FILE...]
        fontcrunch why [--index] [--words] [FILE...]
        fontcrunch chain K [--segments] [--fallen] [--with-contour] [SETTINGS] [FILE...]
        fontcrunch check K [--fallen] [SETTINGS] [FILE...]
@@ -77,6 +82,7 @@ usage: fontcrunch [crunch] [--prepare] [--fallen] [SETTINGS] [--svg PICTURE] [FI
        fontcrunch glif -o DIR [--cubic] [--report FILE.json] [SETTINGS] FILE.glif...
        fontcrunch glif read|write|crunch [SETTINGS] [FILE...]
        fontcrunch clean [--crunch [--prepare] [SETTINGS]] [FILE...]
+       fontcrunch idle [--crunch [--prepare] [SETTINGS]] [FILE...]
        fontcrunch cubic [--crunch [--prepare] [SETTINGS]] [FILE...]
        fontcrunch explicit [--crunch [--prepare] [SETTINGS]] [FILE...]
        fontcrunch help [TOOL]
@@ -85,12 +91,14 @@ crunch         crunches contours, which a first word that names no tool does too
                of a tool's name is ./crunch, ./clean and so on
 ufo            crunches the glyphs of a whole UFO
 editions       crunches each contour twice, at two penalties, from one sampling
+trace          tells all that came of each contour, as lines of JSON
 why            tells why segments start at corners
 chain K        gives the chain of run K, counted from 0
 check K        checks chains of run K, whoever made them
 glyph          reads, writes and crunches simple glyph descriptions
 glif           reads, writes and crunches files of UFO's GLIF
 clean          drops repeated points
+idle           drops controls that stand on an end of their curve
 cubic          makes quads of cubics
 explicit       writes out implied points
 
@@ -148,7 +156,9 @@ const CRUNCH: Page = Page {
     what: "\
 Crunches TrueType contours: puts fewer quadratic pieces between their corners.
 
-usage: fontcrunch [crunch] [--prepare] [--fallen] [SETTINGS] [--svg PICTURE] [FILE...]
+usage: fontcrunch [crunch] [--prepare] [--fallen] [SETTINGS] [--svg PICTURE [--together]] [--html PAGE] [FILE...]
+       fontcrunch [SETTINGS] --html PAGE FONT.ttf
+       fontcrunch [SETTINGS] --html PAGE FOLDER.ufo
 
 --prepare      first writes out implied points, drops repeated points, and drops controls
                that stand on an end of their curve: contours as fonts and old uploads
@@ -156,8 +166,13 @@ usage: fontcrunch [crunch] [--prepare] [--fallen] [SETTINGS] [--svg PICTURE] [FI
 --fallen       ends each answer with fallen N: how many lookups fell past the samples in
                all that was measured, a place and a direction one each; 0 where refused
 --svg PICTURE  draws each contour before and after, to a file, which is there when it is
-               whole. For - the picture goes to standard output, in place of the answers.
-               Without --penalty the penalty is 16, of the picture and of the answers
+               whole. For - the picture goes to standard output, in place of the answers
+--together     with --svg: draws all contours of a file in one frame
+--html PAGE    writes a page to be pointed at: all contours of a file as one letter. With
+               editions it shows both, with glyph crunch and glif a letter a glyph. Of a
+               TrueType font or a UFO: all glyphs, implied points written out
+               With --svg or --html and without --penalty the penalty is 16, of what is
+               shown and of the answers; standard error says so
 ",
     settings: true,
     lines: "\
@@ -184,13 +199,40 @@ A note on standard error says where segments outside the corners are not written
 ",
 };
 
+const TRACE: Page = Page {
+    what: "\
+Tells all that came of each contour, run by run and piece by piece, as a line of JSON:
+segments and corners with their reasons, what each piece replaced, its place, its share of
+the score and its distance from the upload; or what refused it, and where.
+
+usage: fontcrunch trace [SETTINGS] [FILE...]
+
+               Without --penalty the penalty is 16; standard error says so
+",
+    settings: true,
+    lines: "\
+A line in is a contour, x y f x y f ..., as for fontcrunch crunch.
+
+A line out, for each line in, is an object of JSON. docs/trace.schema.json tells its names,
+docs/TRACE.md what they mean. What no entry of the library says stands under beside. An
+object has refused where the contour is refused, and is {\"malformed\":\"...\"} where the line
+is no contour; standard error says so too.
+",
+    refusals: &[2, 3, 4, 5, 6, 7, 8, 9, 16],
+    example: "  \
+  $ echo '7 9 1' | fontcrunch trace --penalty 16
+  {\"settings\":{\"penalty\":16,\"whole_units\":false,\"closed\":false},\"points\":[[7,9,1]],\"crunch\":{\"points\":[[7,9,1]],\"pairs\":0,\"fallen\":0},\"segments\":[{\"start\":[7,9],\"end\":[7,9],\"why\":[\"before\",\"after\"]}],\"runs\":[],\"beside\":{\"lost\":[],\"limit\":{\"sine\":0.02,\"degrees\":1.1459919983885924}}}
+",
+};
+
 const EDITIONS: Page = Page {
     what: "\
 Crunches each contour into two editions, a and b, with a penalty each. Each run is sampled
 once for both, and an edition gets what fontcrunch crunch gives at its penalty, whatever
 becomes of the other.
 
-usage: fontcrunch editions --penalty A --penalty B [--whole-units] [--closed] [--prepare] [--fallen] [FILE...]
+usage: fontcrunch editions --penalty A --penalty B [--whole-units] [--closed] [--prepare]
+                           [--fallen] [--html PAGE] [FILE...]
 
 --penalty A --penalty B
                what each piece adds to a score, in sixteenths, 1 to 256: of a, then of b
@@ -198,6 +240,7 @@ usage: fontcrunch editions --penalty A --penalty B [--whole-units] [--closed] [-
 --closed       of both: as for fontcrunch crunch
 --prepare      of both: as for fontcrunch crunch
 --fallen       ends the line of each with its own fallen N, as for fontcrunch crunch
+--html PAGE    writes a page that shows both beside each other
 ",
     settings: false,
     lines: "\
@@ -327,7 +370,8 @@ Reads, writes and crunches simple glyph descriptions, as OpenType's glyf table h
 
 usage: fontcrunch glyph read [FILE...]
        fontcrunch glyph write [FILE...]
-       fontcrunch glyph crunch [--explicit] [--prepare] [--keep-unless-fewer] [SETTINGS] [FILE...]
+       fontcrunch glyph crunch [--explicit] [--prepare] [--keep-unless-fewer] [SETTINGS]
+                               [--html PAGE] [FILE...]
 
 crunch         crunches each contour as fontcrunch crunch does. The first that is
                refused refuses the glyph. Instructions stay as they stand
@@ -338,6 +382,7 @@ crunch         crunches each contour as fontcrunch crunch does. The first that i
 --keep-unless-fewer
                a description that does not get fewer points comes out byte for byte as
                it was
+--html PAGE    writes a page of the glyphs, as for fontcrunch crunch
 ",
     settings: true,
     lines: "\
@@ -366,12 +411,13 @@ const GLIF: Page = Page {
 Reads, writes and crunches files of UFO's GLIF. What stands outside the insides of contours
 is kept byte for byte.
 
-usage: fontcrunch glif [--prepare] [--cubic] [--keep-unless-fewer] [SETTINGS] FILE.glif
+usage: fontcrunch glif [--prepare] [--cubic] [--keep-unless-fewer] [SETTINGS] [--html PAGE] FILE.glif
        fontcrunch glif -o DIR [--cubic] [--report FILE.json] [SETTINGS] FILE.glif...
        fontcrunch glif --in-place [--cubic] [--report FILE.json] [SETTINGS] FILE.glif...
        fontcrunch glif read [FILE...]
        fontcrunch glif write [FILE...]
-       fontcrunch glif crunch [--prepare] [--cubic] [--keep-unless-fewer] [SETTINGS] [FILE...]
+       fontcrunch glif crunch [--prepare] [--cubic] [--keep-unless-fewer] [SETTINGS]
+                              [--html PAGE] [FILE...]
 
 FILE.glif      a file of GLIF: it comes out on standard output with each contour
                crunched. One of the name read, write or crunch is ./read and so on
@@ -386,6 +432,7 @@ crunch         crunches each contour as fontcrunch crunch does. The first that i
                outside the proved reader
 --keep-unless-fewer
                a file that does not get fewer points comes out byte for byte as it was
+--html PAGE    writes a page of the glyphs, as for fontcrunch crunch
 ",
     settings: true,
     lines: "\
@@ -466,6 +513,33 @@ A line out, for each line in:
     example: "  \
   $ echo '0 0 1 0 0 1 5 0 1' | fontcrunch clean
   ok 0 0 1 5 0 1 | 1:before
+",
+};
+
+const IDLE: Page = Page {
+    what: "\
+Drops idle controls: off-curve points that stand on an end of their curve. The curve is the
+line between its ends, and left in, such a point makes its run come out straight.
+
+usage: fontcrunch idle [--crunch [--prepare] [SETTINGS]] [FILE...]
+
+--crunch       drops idle controls, then crunches what is left: lines out are those of
+               fontcrunch crunch
+",
+    settings: true,
+    lines: "\
+A line in is a contour, x y f x y f ..., as for fontcrunch crunch.
+
+A line out, for each line in:
+  ok x y f ... | k:end ...
+                      the points kept, and each dropped place k of the line, counted
+                      from 0, in order; end is before (equal to the point before it) or
+                      after (equal to the point after it, going round)
+",
+    refusals: &[2, 3, 4, 5, 6, 7, 8, 9, 16],
+    example: "  \
+  $ echo '0 0 1 0 0 0 100 0 1 300 0 0 300 200 1 0 200 1' | fontcrunch idle
+  ok 0 0 1 100 0 1 300 0 0 300 200 1 0 200 1 | 1:before
 ",
 };
 

@@ -31,10 +31,10 @@ fn files_and_standard_input() {
 fn a_picture() {
     for words in [["--svg", "p", "a"], ["a", "--svg", "p"]] {
         let job = job(&words);
-        assert_eq!((job.inputs, job.picture), (vec![file("a")], Some("p".into())));
+        assert_eq!((job.inputs, job.drawing.picture), (vec![file("a")], Some("p".into())));
     }
-    assert_eq!(job(&["--svg=a=b"]).picture, Some("a=b".into()));
-    assert_eq!(job(&[]).picture, None);
+    assert_eq!(job(&["--svg=a=b"]).drawing.picture, Some("a=b".into()));
+    assert_eq!(job(&[]).drawing.picture, None);
 }
 
 #[test]
@@ -53,6 +53,8 @@ fn only_the_first_word_names_a_tool() {
 fn cleaning_and_cubics() {
     assert_eq!(job(&["clean"]).tool, Tool::Clean { crunch: false });
     assert_eq!(job(&["clean", "--crunch", "a"]).tool, Tool::Clean { crunch: true });
+    assert_eq!(job(&["idle"]).tool, Tool::Idle { crunch: false });
+    assert_eq!(job(&["idle", "--crunch", "a"]).tool, Tool::Idle { crunch: true });
     assert_eq!(job(&["cubic"]).tool, Tool::Cubic { crunch: false });
     assert_eq!(job(&["cubic", "a", "--crunch"]).tool, Tool::Cubic { crunch: true });
     assert_eq!(job(&["explicit", "a"]).tool, Tool::Explicit { crunch: false });
@@ -155,7 +157,7 @@ fn closed() {
 
 #[test]
 fn settings_are_for_what_crunches() {
-    for tool in ["clean", "cubic", "explicit", "why"] {
+    for tool in ["clean", "idle", "cubic", "explicit", "why"] {
         assert!(fault(&[tool, "--penalty", "16"]).contains("--penalty is for crunching"), "{tool}");
         assert!(fault(&[tool, "--whole-units"]).contains("--whole-units is for crunching"), "{tool}");
         assert!(fault(&[tool, "--closed"]).contains("--closed is for crunching"), "{tool}");
@@ -251,8 +253,10 @@ fn wrong_words() {
     assert!(fault(&["-x"]).contains("no option -x"));
 }
 
-const TOOLS: [&str; 11] =
-    ["crunch", "ufo", "editions", "why", "chain", "check", "glyph", "glif", "clean", "cubic", "explicit"];
+const TOOLS: [&str; 13] = [
+    "crunch", "ufo", "editions", "trace", "why", "chain", "check", "glyph", "glif", "clean", "idle", "cubic",
+    "explicit",
+];
 
 #[test]
 fn each_tool_has_a_page() {
@@ -267,7 +271,8 @@ fn each_tool_has_a_page() {
         assert!(page.contains(&format!("fontcrunch {tool}")) || tool == "crunch", "{tool}");
         assert!(help(None).contains(&format!("\n{tool} ")), "{tool}");
         assert!(page.contains("\nExample:\n  $ ") && page.ends_with("was wrong.\n"), "{tool}");
-        assert!(page.lines().all(|line| line.len() <= 132), "{tool}");
+        // but for an answer of JSON, which is as long as it is
+        assert!(page.lines().all(|line| line.len() <= 132 || line.starts_with("  {")), "{tool}");
         // settings by the same names and words wherever runs are worked; editions has two penalties
         let has_settings = page.contains("--penalty N    what each piece adds");
         assert_eq!(has_settings, !["why", "editions"].contains(&tool), "{tool}");

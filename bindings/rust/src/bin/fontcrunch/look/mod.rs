@@ -6,10 +6,10 @@ pub mod xml;
 
 use std::ops::Range;
 
+use fontcrunch::outline::{runs, Outline, Place};
 use fontcrunch::{glif, glyph, prepared, Cruncher, Point, Refusal, MOST_POINTS_IN};
 
-use crate::picture::outline::{Outline, Place};
-use crate::picture::reading::{lines, spans, why};
+use crate::corners::{is_corner, lines};
 use crate::picture::svg::{counted, grouped};
 use outline::{ContourElement, PointKind};
 use xml::line_and_column;
@@ -123,9 +123,9 @@ fn stretch(points: &[Point], hints: Hints) -> Option<String> {
 /// The run for which a contour is refused, with its length.
 fn at_run(cruncher: &mut Cruncher, points: &[Point], refusal: Refusal, hints: Hints) -> Option<String> {
     let lines = lines(points);
-    let corners: Vec<usize> = (0..lines.len()).filter(|&i| why(cruncher, points, i).is_some()).collect();
+    let corners: Vec<usize> = (0..lines.len()).filter(|&i| is_corner(cruncher, points, i)).collect();
     let settings = cruncher.settings();
-    let runs = spans(&corners, lines.len(), settings.closed);
+    let runs = runs(&corners, lines.len(), settings.closed);
     let refuses = |k: &usize| cruncher.chain(points, *k) == Err(refusal);
     let run = hints.run.or_else(|| (0..runs.len()).find(refuses))?;
     let units = length(points, runs.get(run)?.clone());
@@ -213,19 +213,21 @@ fn cubic_or_open(contour: &ContourElement, at: usize, hints: Hints) -> Option<St
         PointKind::Curve if contour.has(PointKind::Qcurve) => {
             Some("cubic and quadratic curves stand in one contour".to_owned())
         }
-        PointKind::Curve if !hints.may_cubic => Some(format!("cubic, after {}", stands_after(contour, at))),
-        PointKind::Curve => Some(format!("cubic{way}")),
+        PointKind::Curve if hints.may_cubic => Some(format!("cubic{way}")),
         _ if point.x.is_none() || point.y.is_none() => Some("a coordinate is not whole".to_owned()),
+        PointKind::Curve => stands_after(contour, at).or_else(|| outside_16_bits(contour, at)),
+        PointKind::Off if contour.has(PointKind::Curve) => outside_16_bits(contour, at),
         _ => None,
     }
 }
 
 /// How many off-curve points a curve has, where that is not what --cubic takes.
-fn stands_after(contour: &ContourElement, at: usize) -> String {
+fn stands_after(contour: &ContourElement, at: usize) -> Option<String> {
     let count = contour.points.len();
     let off = |back: &usize| contour.points[(at + count - back) % count].kind == PointKind::Off;
     let number = (1..count).take_while(off).count();
-    format!("{}, where cubics have two", counted(number, "off-curve point"))
+    let after = format!("cubic, after {}, where cubics have two", counted(number, "off-curve point"));
+    Some(after).filter(|_| number != 0 && number != 2)
 }
 
 fn outside_16_bits(contour: &ContourElement, at: usize) -> Option<String> {

@@ -64,6 +64,14 @@ fn a_file_is_told_by_contour_and_point() {
         "A.glif: contour 0, point 2: cubic, after 1 off-curve point, where cubics have two"
     );
     assert_eq!(
+        seen_file(false, &curve.replacen("<point x='1' y='1'/>", "<point x='1' y='1.5'/>", 1)),
+        "A.glif: contour 0, point 1: a coordinate is not whole"
+    );
+    assert_eq!(
+        seen_file(false, &curve.replacen("<point x='1' y='1'/>", "<point x='1' y='40000'/>", 1)),
+        "A.glif: contour 0, point 1: 40000 is outside -32768 and 32767"
+    );
+    assert_eq!(
         seen_file(true, "<contour><point x='0' y='0' type='move'/></contour>"),
         "A.glif: contour 0, point 0: a move alone, an anchor of format 1; try --cubic"
     );
@@ -87,4 +95,106 @@ fn points_as_they_stand() {
     let bytes = b"<glyph><outline><contour><point x='0' y='0' type='qcurve'/><point x='1' y='2'/><point x='3' y='4'/></contour></outline></glyph>";
     assert_eq!(points_in(bytes), Some(3));
     assert_eq!(points_in(b"<glyph><outline><contour><point/></contour></outline></glyph>"), None);
+}
+
+/// Pieces of XML that a reader may take wrongly.
+const SNIPPETS: [&str; 44] = [
+    "<",
+    ">",
+    "/",
+    "&",
+    ";",
+    "'",
+    "\"",
+    "=",
+    " ",
+    "\n",
+    "\t",
+    "\r",
+    "<?",
+    "?>",
+    "<!",
+    "<!--",
+    "-->",
+    "--",
+    "<![CDATA[",
+    "]]>",
+    "&lt;",
+    "&#65;",
+    "&#x41;",
+    "&#0;",
+    "&#32;",
+    "<!DOCTYPE a>",
+    "<a>",
+    "</a>",
+    "<a/>",
+    "<outline>",
+    "</outline>",
+    "<contour>",
+    "</contour>",
+    "<point x='1' y='2'/>",
+    "<point x='1.5' y='2' type='line'/>",
+    " type='move'",
+    " x='9'",
+    "\u{feff}",
+    "\u{e9}",
+    "\u{1}",
+    "<?x y?>",
+    "<?a?>",
+    "<?xml version='1.0'?>",
+    "</glyph>",
+];
+
+/// Both readers call the same files malformed, and the second one never stops.
+#[test]
+fn the_second_reader_agrees_with_the_proved_one() {
+    let whole = "<?xml version=\"1.0\" encoding=\"UTF-8\"?>\n<glyph name='a'>\n<!-- a --><lib><outline/></lib>\n<outline>\n\
+         <contour a='1'><point x='1' y='-2' type='line'/><point x='3' y='4'/><point x='5.0' y='6' type='qcurve'/></contour>\n\
+         <contour><point x='1' y='2' type='qcurve'/><point x='3' y='4'/> <point x='3' y='4'></point></contour><b>&amp;</b></outline></glyph>\n";
+    assert!(glif::read(whole.as_bytes()).is_ok(), "{:?}", outline::contours(whole.as_bytes()));
+    let mut state = 11u64;
+    let mut below = |bound: usize| {
+        state = state.wrapping_mul(6_364_136_223_846_793_005).wrapping_add(1_442_695_040_888_963_407);
+        (state >> 33) as usize % bound
+    };
+    let mut malformed = 0;
+    for _ in 0..6000 {
+        let mut bytes = whole.as_bytes().to_vec();
+        for _ in 0..1 + below(2) {
+            let mut at = below(bytes.len() + 1);
+            // beside a tag more often than within one
+            if below(3) > 0 {
+                at += bytes[at..].iter().position(|&byte| byte == b'>').map_or(0, |end| end + 1);
+            }
+            let until = if below(6) == 0 { (at + below(20)).min(bytes.len()) } else { at };
+            let put = match below(12) {
+                0 => vec![below(256) as u8],
+                1..=3 => b" <b c='d'/>".to_vec(),
+                _ => SNIPPETS[below(44)].as_bytes().to_vec(),
+            };
+            bytes.splice(at..until, put);
+        }
+        let proved = glif::read(&bytes) == Err(Refusal::Malformed);
+        let told = outline::contours(&bytes);
+        assert_eq!(told.is_err(), proved, "{told:?} {}", bytes.escape_ascii());
+        malformed += usize::from(proved);
+    }
+    assert!((1000..5700).contains(&malformed), "{malformed}");
+}
+
+/// As many names at once as the proved reader holds, and one more: of attributes, and of elements in each other.
+#[test]
+fn the_second_reader_holds_as_many_names() {
+    for count in [254, 255, 256, 257] {
+        let attributes: String = (0..count).map(|k| format!(" k{k}=''")).collect();
+        let nested = "<a>".repeat(count - 1) + "<b/>" + &"</a>".repeat(count - 1);
+        for text in [
+            format!("<glyph{attributes}/>"),
+            format!("<glyph><a{attributes}/></glyph>"),
+            format!("<glyph>{nested}</glyph>"),
+        ] {
+            let proved = glif::read(text.as_bytes()) == Err(Refusal::Malformed);
+            assert_eq!(outline::contours(text.as_bytes()).is_err(), proved, "{count}");
+        }
+    }
 }

@@ -85,10 +85,10 @@ impl<'a> Scanner<'a> {
         if !self.rest().starts_with("<?") {
             return Ok(());
         }
-        let Some(length) = self.rest().find("?>") else {
+        let Some(length) = self.rest()[2..].find("?>") else {
             return fault(self.at, "the XML declaration is not ended");
         };
-        let said = &self.rest()[2..length];
+        let said = &self.rest()[2..2 + length];
         let after = said.strip_prefix("xml").filter(|after| after.starts_with(is_blank));
         let Some(after) = after else {
             return fault(0, "an instruction at the very start is not read");
@@ -99,7 +99,7 @@ impl<'a> Scanner<'a> {
                 "the XML declaration has version 1.0, perhaps the encoding UTF-8, and nothing else",
             );
         }
-        self.at += length + 2;
+        self.at += 2 + length + 2;
         Ok(())
     }
 
@@ -247,13 +247,13 @@ impl<'a> Scanner<'a> {
             return fault(self.at, "an instruction whose name begins with x is not read");
         }
         let name = name_length(&rest[2..]);
-        let Some(length) = rest.find("?>") else {
+        let Some(length) = rest[2..].find("?>") else {
             return fault(self.at, "an instruction is not ended");
         };
-        if name == 0 || (name != length - 2 && !rest[2 + name..].starts_with(is_blank)) {
+        if name == 0 || (name != length && !rest[2 + name..].starts_with(is_blank)) {
             return fault(self.at, "an instruction has no proper name");
         }
-        self.at += length + 2;
+        self.at += 2 + length + 2;
         Ok(())
     }
 
@@ -298,16 +298,16 @@ impl<'a> Scanner<'a> {
                 return fault(at, format!("the attribute {} stands twice", word(key)));
             }
             attributes.push((key, value));
-            if self.open.len() + attributes.len() + 1 > MOST_NAMES {
+            if self.open.len() + attributes.len() > MOST_NAMES {
                 return fault(at, format!("more than {MOST_NAMES} names are open at once"));
             }
         };
         self.rooted = true;
+        if self.open.len() >= MOST_NAMES {
+            return fault(from, format!("more than {MOST_NAMES} names are open at once"));
+        }
         if !empty {
             self.open.push(name);
-            if self.open.len() > MOST_NAMES {
-                return fault(from, format!("more than {MOST_NAMES} names are open at once"));
-            }
         }
         Ok(Token { span: from..self.at, kind: Kind::Start { name, attributes, empty } })
     }

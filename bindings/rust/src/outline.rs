@@ -1,16 +1,28 @@
 //! A contour as its rasteriser sees it: a closed line of curves, implied points put in.
 
-use fontcrunch::Point;
+use std::ops::Range;
 
+use crate::cruncher::Point;
+
+/// A place in the plane of a contour, not of whole units alone.
 #[derive(Clone, Copy, Debug, PartialEq)]
 pub struct Place {
+    /// To the right.
     pub x: f64,
+    /// Upward.
     pub y: f64,
 }
 
 impl Place {
+    /// (0, 0).
     pub const ORIGIN: Place = Place { x: 0.0, y: 0.0 };
 
+    /// A place by its coordinates.
+    pub const fn at(x: f64, y: f64) -> Place {
+        Place { x, y }
+    }
+
+    /// The middle of two places.
     pub fn midway(self, other: Place) -> Place {
         Place { x: (self.x + other.x) / 2.0, y: (self.y + other.y) / 2.0 }
     }
@@ -25,6 +37,7 @@ impl From<Point> for Place {
 /// A place that the outline goes through, between two curves.
 #[derive(Clone, Copy, Debug, PartialEq)]
 pub struct Node {
+    /// Where it is.
     pub place: Place,
     /// Whether it is a point of the contour; if not, it is implied.
     pub written: bool,
@@ -33,15 +46,19 @@ pub struct Node {
 /// A line, or a curve with a control, that leads to a node.
 #[derive(Clone, Copy, Debug, PartialEq)]
 pub struct Curve {
+    /// Of a line, none.
     pub control: Option<Place>,
+    /// The node that it leads to.
     pub end: Place,
 }
 
 /// Nodes in the order of the contour's points. Curve i leads from node i to the next, the last one back to
 /// the first.
-#[derive(Debug, Default, PartialEq)]
+#[derive(Clone, Debug, Default, PartialEq)]
 pub struct Outline {
+    /// The places that it goes through.
     pub nodes: Vec<Node>,
+    /// As many as there are nodes.
     pub curves: Vec<Curve>,
 }
 
@@ -88,6 +105,24 @@ impl Outline {
         let came_from = self.curves[before].control.unwrap_or(self.nodes[before].place);
         let goes_to = self.curves[node].control.unwrap_or(self.curves[node].end);
         (came_from, goes_to)
+    }
+}
+
+/// The segments of each run: from corner to corner, and in closed mode a last one from the last corner round to the
+/// first.
+pub fn runs(corners: &[usize], segments: usize, closed: bool) -> Vec<Range<usize>> {
+    let between = corners.windows(2).map(|ends| ends[0]..ends[1]);
+    let closing = corners.first().zip(corners.last()).map(|(first, last)| *last..segments + first);
+    between.chain(closing.filter(|_| closed)).collect()
+}
+
+/// The segments before the first corner and after the last, which the crate's mode does not write. One line from the
+/// last corner to the first is no loss: the contour closes by it.
+pub fn outside(corners: Option<(usize, usize)>, lines: &[bool]) -> Vec<usize> {
+    match corners {
+        None => (0..lines.len()).collect(),
+        Some((0, last)) if last + 1 == lines.len() && lines[last] => Vec::new(),
+        Some((first, last)) => (0..first).chain(last..lines.len()).collect(),
     }
 }
 
