@@ -27,10 +27,9 @@ from __future__ import annotations
 from typing import Any, Iterable, NamedTuple
 
 from ._contours import Settings, crunch, words_of
-from ._idle import drop_idle
 from ._refusal import Refused
 from ._rows import AnyPoint, Point
-from ._uploads import explicit, from_cubics
+from ._uploads import drop_idle, explicit, from_cubics
 
 __all__ = ["CrunchPen", "CrunchPointPen", "Left"]
 
