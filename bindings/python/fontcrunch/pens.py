@@ -29,7 +29,7 @@ from typing import Any, Iterable, NamedTuple
 from ._contours import Settings, crunch, words_of
 from ._refusal import Refused
 from ._rows import AnyPoint, Point
-from ._uploads import explicit, from_cubics
+from ._uploads import drop_idle, explicit, from_cubics
 
 __all__ = ["CrunchPen", "CrunchPointPen", "Left"]
 
