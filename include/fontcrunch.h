@@ -7,9 +7,15 @@
  * (aarch64):
  *
  *     tools/library                                writes build/libfontcrunch.a
- *     cc -Iinclude program.c -Lbuild -lfontcrunch
+ *     cc -Iinclude program.c build/libfontcrunch.a
  *
- * examples/c has a program that calls the first three.
+ * Nothing else is needed to link, -lm neither. The archive is named by its path, since -lfontcrunch takes the shared
+ * library where both lie in a folder. Where tools/install has put them under a prefix it is
+ *
+ *     cc program.c $(pkg-config --cflags --libs fontcrunch)
+ *
+ * fontcrunch_easy.h has the same functions with five to eight arguments each, over rows that are made once. examples/c
+ * has a program that calls the first three, and one that does the same by way of fontcrunch_easy.h.
  *
  *
  * ROWS
@@ -43,7 +49,9 @@
  * FONTCRUNCH_CRATE_PENALTY is that of the Rust that this follows, whose points come out at it.
  *
  * `whole_units` is 0 where breaks are rounded to half units, as the Rust rounds them. Any other number has them
- * rounded to whole units, for engines that misdraw implied points on half ones.
+ * rounded to whole units, for engines that misdraw implied points on half ones. It serves these together with
+ * `closed`, and only then: in closed mode no implied point lies on a half unit, while the crate's mode drops points
+ * that are no exact midpoints, on whole units too.
  *
  * `closed` is 0 for the crate's mode, that of the Rust, and any other number for closed mode, in which nothing is
  * lost: what lies before the first corner and after the last is a run too.
@@ -102,6 +110,13 @@
 extern "C" {
 #endif
 
+/* The version. Within one major version equal orders give equal bytes, numbers and settings keep their meaning, and no
+   function here goes or takes other arguments; CHANGELOG.md tells what a version brings. */
+#define FONTCRUNCH_VERSION "1.0.0"
+#define FONTCRUNCH_VERSION_MAJOR 1
+#define FONTCRUNCH_VERSION_MINOR 0
+#define FONTCRUNCH_VERSION_PATCH 0
+
 /* Full rooms. Longer rows are never needed, and are not used further. */
 #define FONTCRUNCH_POINTS_IN 1024
 #define FONTCRUNCH_SAMPLES 16384
@@ -119,20 +134,22 @@ extern "C" {
    result of more points than were lent is refused by 9. */
 #define FONTCRUNCH_POINTS_OUT 16384
 
-/* The number in every report: 0, or why nothing was done. Where several hold, 1 to 5 are tested first, in
-   this order; then 16; then 10 or 11; then runs are worked in order and the first 6, 7 or 8 met is given; 9
-   comes last. */
+/* The number in every report: 0, or why nothing was done. Where several hold, the first in a function's own order is
+   given. Each function says its order, and docs/REFUSALS.md has all of them in one table. A number is tested over the
+   whole input before the next one; of numbers in parentheses the one is given that is met first as runs are worked. */
 enum {
     FONTCRUNCH_OK = 0,
     /* xs, ys and flags differ in length */
     FONTCRUNCH_UNEVEN_ROWS = 1,
     /* the contour has no point */
     FONTCRUNCH_NO_POINT = 2,
-    /* it has more than FONTCRUNCH_POINTS_IN points */
+    /* it has more than FONTCRUNCH_POINTS_IN points; fontcrunch_put_back, fontcrunch_from_cubics and
+       fontcrunch_explicit: more than so many would come out */
     FONTCRUNCH_TOO_MANY_POINTS = 3,
     /* its first point is off-curve */
     FONTCRUNCH_STARTS_OFF_CURVE = 4,
-    /* two neighbours in the rows are both off-curve (the last point and the first are no neighbours) */
+    /* two neighbours in the rows are both off-curve (the last point and the first are no neighbours);
+       fontcrunch_from_cubics: a stretch of off-curve points is not two long */
     FONTCRUNCH_OFF_CURVE_NEIGHBOURS = 5,
     /* a run needs more samples than the sample room */
     FONTCRUNCH_TOO_MANY_SAMPLES = 6,
@@ -143,7 +160,7 @@ enum {
     /* fontcrunch_crunch: the points, counted before implied ones are dropped, are more than the shortest of
        ox, oy, of and points has places; in closed mode the end that is not written does not count.
        fontcrunch_chain: the pieces are more than the shortest of starts, ends, cxs, cys and spans has
-       places */
+       places. The others: a row is too short for what is read or written */
     FONTCRUNCH_OUTPUT_TOO_SHORT = 9,
     /* fontcrunch_chain and fontcrunch_check: there is no such run, or it is one copied line */
     FONTCRUNCH_NO_SUCH_RUN = 10,
@@ -158,11 +175,11 @@ enum {
     FONTCRUNCH_TOO_LARGE = 14,
     /* the glyph is composite */
     FONTCRUNCH_COMPOSITE = 15,
-    /* penalty is not from 1 to 256; tested after 1 to 5, before 10 and before any run is worked */
+    /* penalty is not from 1 to 256 */
     FONTCRUNCH_NO_SUCH_PENALTY = 16,
     /* fontcrunch_from_cubics: a rounded point is outside 16 bits */
     FONTCRUNCH_OUTSIDE_16_BITS = 17,
-    /* fontcrunch_clean: there are more drops than list has places */
+    /* fontcrunch_clean, fontcrunch_drop_idle: there are more drops than list has places */
     FONTCRUNCH_LIST_TOO_SHORT = 18,
     /* GLIF: the file is malformed */
     FONTCRUNCH_MALFORMED = 19,
@@ -172,7 +189,7 @@ enum {
     FONTCRUNCH_NO_ON_CURVE = 21
 };
 
-/* Why a point was dropped: the second number of a place of a list. */
+/* Why a point was dropped: the second number of a place of the list of fontcrunch_clean. */
 enum {
     /* an on-curve point equal to the on-curve point before it */
     FONTCRUNCH_FOR_BEFORE = 1,
@@ -180,6 +197,14 @@ enum {
     FONTCRUNCH_FOR_BOTH = 2,
     /* a last on-curve point equal to the first point */
     FONTCRUNCH_FOR_FIRST = 3
+};
+
+/* The neighbour that an idle control equals: the second number of a place of the list of fontcrunch_drop_idle. */
+enum {
+    /* the point before it */
+    FONTCRUNCH_BESIDE_BEFORE = 1,
+    /* the point after it, going round */
+    FONTCRUNCH_BESIDE_AFTER = 2
 };
 
 /* Why a segment starts at a corner: a bit for each reason. */
@@ -194,52 +219,92 @@ enum {
     FONTCRUNCH_ANGLE = 16
 };
 
-typedef struct CrunchReport {
+/* A refusal in words, without its number. The text stays: it is no copy, and is not to be freed. */
+static inline const char *fontcrunch_reason(uint32_t number)
+{
+    switch (number) {
+    case FONTCRUNCH_OK: return "nothing is refused";
+    case FONTCRUNCH_UNEVEN_ROWS: return "the rows of the contour differ in length";
+    case FONTCRUNCH_NO_POINT: return "the contour has no point";
+    case FONTCRUNCH_TOO_MANY_POINTS: return "the contour has more than 1,024 points";
+    case FONTCRUNCH_STARTS_OFF_CURVE: return "the first point is off-curve; start with an on-curve one";
+    case FONTCRUNCH_OFF_CURVE_NEIGHBOURS:
+        return "off-curve points stand together; write out the implied point between two (cubics: pairs alone)";
+    case FONTCRUNCH_TOO_MANY_SAMPLES:
+        return "a run between two corners is too long: it needs more than 16,384 samples, one a unit";
+    case FONTCRUNCH_TOO_MANY_BREAKS:
+        return "a run between two corners is too long: it has more than 2,048 breaks, half a unit or a whole one apart";
+    case FONTCRUNCH_PAST_LAST_SAMPLE:
+        return "a piece was to be measured past the last sample of its run, where no answer is defined";
+    case FONTCRUNCH_OUTPUT_TOO_SHORT: return "the result has more points than there is room for";
+    case FONTCRUNCH_NO_SUCH_RUN: return "there is no such run, or it is one line, which is copied";
+    case FONTCRUNCH_NO_SUCH_SEGMENT: return "there is no such segment: the index is not below their number";
+    case FONTCRUNCH_CUT_SHORT:
+        return "the glyph description ends too soon, or there are fewer points than the last end says";
+    case FONTCRUNCH_ENDS_NOT_RISING: return "the ends of the glyph's contours do not rise";
+    case FONTCRUNCH_TOO_LARGE: return "a coordinate, a difference or a count is too large for its field";
+    case FONTCRUNCH_COMPOSITE: return "the glyph is composite";
+    case FONTCRUNCH_NO_SUCH_PENALTY: return "the penalty is not from 1 to 256 sixteenths";
+    case FONTCRUNCH_OUTSIDE_16_BITS: return "a point of the quads is outside -32768 and 32767";
+    case FONTCRUNCH_LIST_TOO_SHORT: return "there are more dropped points than the list has places";
+    case FONTCRUNCH_MALFORMED: return "the file is no GLIF by docs/GLIF.md";
+    case FONTCRUNCH_CUBIC_OR_OPEN: return "a point is cubic or not whole, or a contour is open";
+    case FONTCRUNCH_NO_ON_CURVE: return "a contour has no on-curve point";
+    default: return "the library gives a reason that this version has no words for";
+    }
+}
+
+/* What a function fontcrunch_X hands back is a fontcrunch_X_report. */
+typedef struct fontcrunch_crunch_report {
     uint32_t number; /* of the refusal, or 0 */
     size_t points;   /* points written; 0 where refused */
     size_t pairs;    /* pairs of breaks tried, over all runs worked; 0 where refused */
     size_t fallen;   /* lookups that fell past the samples, over all runs worked; 0 where refused */
-} CrunchReport;
+} fontcrunch_crunch_report;
 
-typedef struct ChainReport {
+typedef struct fontcrunch_chain_report {
     uint32_t number;     /* of the refusal, or 0 */
     size_t pieces;       /* pieces written; 0 where refused, and where the run leaves the contour unchanged */
     size_t pairs;        /* pairs of breaks tried; 0 where refused */
     uint64_t score_bits; /* the score's bits, see fontcrunch_score; 0 (which is 0.0) where there is no piece */
     size_t fallen;       /* lookups of this run that fell past the samples; 0 where refused */
-} ChainReport;
+} fontcrunch_chain_report;
 
-typedef struct CheckReport {
+typedef struct fontcrunch_check_report {
     uint32_t number;   /* of the refusal, or 0 */
     uint32_t accepted; /* 1: the chain is accepted; 0: it is not, or nothing was checked */
     size_t fallen;     /* lookups that fell as this chain's pieces were measured; 0 where none was, or refused */
-} CheckReport;
+} fontcrunch_check_report;
 
-typedef struct CleanReport {
+typedef struct fontcrunch_clean_report {
     uint32_t number; /* of the refusal, or 0 */
     size_t kept;     /* points written; 0 where refused */
     size_t dropped;  /* places of list written; 0 where refused */
-} CleanReport;
+} fontcrunch_clean_report;
 
-typedef struct PutReport {
+typedef struct fontcrunch_put_back_report {
     uint32_t number; /* of the refusal, or 0 */
     size_t points;   /* points written; 0 where refused */
-} PutReport;
+} fontcrunch_put_back_report;
 
-typedef struct CubicReport {
+typedef fontcrunch_clean_report fontcrunch_drop_idle_report;
+
+typedef fontcrunch_put_back_report fontcrunch_put_back_idle_report;
+
+typedef struct fontcrunch_from_cubics_report {
     uint32_t number; /* of the refusal, or 0 */
     size_t points;   /* points written; 0 where refused */
-} CubicReport;
+} fontcrunch_from_cubics_report;
 
-typedef struct ExplicitReport {
+typedef struct fontcrunch_explicit_report {
     uint32_t number; /* of the refusal, or 0 */
     size_t points;   /* points written; 0 where refused */
-} ExplicitReport;
+} fontcrunch_explicit_report;
 
-typedef struct WhyReport {
+typedef struct fontcrunch_why_report {
     uint32_t number;  /* of the refusal, or 0 */
     uint32_t reasons; /* a bit for each that holds; 0 where there is none, or where refused */
-} WhyReport;
+} fontcrunch_why_report;
 
 /*
  * Crunches a contour. Its points are written to the first places of ox, oy and of, and no other place of
@@ -249,13 +314,15 @@ typedef struct WhyReport {
  * the sum of theirs, as OpenType has it. In the crate's mode the sum is cut to 16 bits and then halved toward 0.
  *
  * In the crate's mode the points come out in reverse order. In closed mode they come out in order, from the first
- * corner on; this start is not written again at the end, but stands for the end of the last piece, wherever that
- * break was rounded to. It is dropped itself where it is implied.
+ * corner on. This start always stays, also where it is implied, so that what comes out starts on-curve. It is not
+ * written again at the end, but stands for the end of the last piece, wherever that break was rounded to.
  *
  * A run for which no chain is found leaves the whole contour unchanged: then its own points come out, in the
  * crate's mode reversed and with the start at both ends, in closed mode as they stand. That is no refusal.
+ *
+ * Refusals, in this order: 1 2 3 4 5 16 (6 7 8) 9.
  */
-CrunchReport fontcrunch_crunch(
+fontcrunch_crunch_report fontcrunch_crunch(
     const int16_t *xs, size_t xs_len,
     const int16_t *ys, size_t ys_len,
     const uint8_t *flags, size_t flags_len,
@@ -275,10 +342,12 @@ CrunchReport fontcrunch_crunch(
  * that hold its start break and its end break. A segment is counted by its start, each on-curve point starting
  * one, from 0; in closed mode a run goes round, so that the last may be before the first. Where a segment ends
  * exactly at a break, the break is in it, not in the next. The first places of these five rows are written, and
- * no other place is touched. A refusal writes none; so does a run that leaves the contour unchanged, with number 0, no piece
- * and the score 0.0. Other runs are not worked, so their refusals do not count.
+ * no other place is touched. A refusal writes none; so does a run that leaves the contour unchanged, with number 0,
+ * no piece and the score 0.0. Other runs are not worked, so their refusals do not count.
+ *
+ * Refusals, in this order: 1 2 3 4 5 16 10 (6 7 8) 9.
  */
-ChainReport fontcrunch_chain(
+fontcrunch_chain_report fontcrunch_chain(
     const int16_t *xs, size_t xs_len,
     const int16_t *ys, size_t ys_len,
     const uint8_t *flags, size_t flags_len,
@@ -300,8 +369,11 @@ ChainReport fontcrunch_chain(
  * no piece, are not accepted, which is no refusal. Answers and links are lent for their lengths alone: the
  * checker refuses by 7 where fontcrunch_chain would. `fallen` is that of the pieces as they are measured, whatever
  * their score; 0 where they are not, since rows are of unequal length or pieces do not lead so.
+ *
+ * Refusals, in this order: 1 2 3 4 5 16 10 6 7 8. Between 7 and 8 the shape is judged: a chain that does not lead so is
+ * not accepted, and none of its pieces is measured.
  */
-CheckReport fontcrunch_check(
+fontcrunch_check_report fontcrunch_check(
     const int16_t *xs, size_t xs_len,
     const int16_t *ys, size_t ys_len,
     const uint8_t *flags, size_t flags_len,
@@ -323,12 +395,11 @@ CheckReport fontcrunch_check(
  * written to list, in the order of dropping: the point's place in the contour as it came, and why. No other
  * place is touched, and a refusal writes nothing.
  *
- * Refused by 1 to 5; then by 18, list too short for the drops; last by 9, an output row too short for the
- * points kept. Rows as long as the contour always suffice. No scratch is needed.
+ * Refusals, in this order: 1 2 3 4 5 18 9. Rows as long as the contour always suffice. No scratch is needed.
  *
  * What is left is refused by none of 1 to 5, and cleaning it again drops nothing.
  */
-CleanReport fontcrunch_clean(
+fontcrunch_clean_report fontcrunch_clean(
     const int16_t *xs, size_t xs_len,
     const int16_t *ys, size_t ys_len,
     const uint8_t *flags, size_t flags_len,
@@ -343,10 +414,50 @@ CleanReport fontcrunch_clean(
  * less the drops before it in the list; for first a copy of the first point, at the end. Any list is put back
  * by this rule, also one that no cleaning gave.
  *
- * Refused by 1, rows of the points kept that differ in length; 2, none; 3, more than FONTCRUNCH_POINTS_IN with
- * those of the list; last by 9, an output row too short. A refusal writes nothing.
+ * Refusals, in this order: 1 2 3 9. Here 1 and 2 speak of the points kept, and 3 counts them with those of the list. A
+ * refusal writes nothing.
  */
-PutReport fontcrunch_put_back(
+fontcrunch_put_back_report fontcrunch_put_back(
+    const int16_t *xs, size_t xs_len,
+    const int16_t *ys, size_t ys_len,
+    const uint8_t *flags, size_t flags_len,
+    const uint32_t (*list)[2], size_t list_len,
+    int16_t *ox, size_t ox_len,
+    int16_t *oy, size_t oy_len,
+    uint8_t *of, size_t of_len);
+
+/*
+ * Drops idle controls: off-curve points equal, in x and y, to one of their neighbours, going round. The curve of
+ * such a point is the line between its ends; left in, it has no direction at that end, and its run comes out
+ * straight. The points kept are written to the first places of ox, oy and of, in order, their flags as 1 or 0.
+ * Each drop is written to list, by rising place: its place in the contour as it came, and which neighbour it
+ * equals, the one before it where it equals both. No on-curve point is dropped. No other place is touched, and a
+ * refusal writes nothing.
+ *
+ * Refusals, in this order: 1 2 3 4 5 18 9. Rows as long as the contour always suffice. No scratch is needed.
+ *
+ * The outline stays what it was. What is left is refused by none of 1 to 5, and dropping again drops nothing.
+ */
+fontcrunch_drop_idle_report fontcrunch_drop_idle(
+    const int16_t *xs, size_t xs_len,
+    const int16_t *ys, size_t ys_len,
+    const uint8_t *flags, size_t flags_len,
+    int16_t *ox, size_t ox_len,
+    int16_t *oy, size_t oy_len,
+    uint8_t *of, size_t of_len,
+    uint32_t (*list)[2], size_t list_len);
+
+/*
+ * Puts back what fontcrunch_drop_idle dropped: of the points kept and its list, the contour as it came, with flags
+ * 1 or 0. Places are filled in order: by the next drop of the list where it names the place, or where no kept
+ * point is left, and else by the next kept point. A drop is an off-curve copy of the kept point before it, or, for
+ * any second number but FONTCRUNCH_BESIDE_BEFORE, of the kept point after it, going round. Any list is put back by
+ * this rule, also one that no dropping gave.
+ *
+ * Refusals, in this order: 1 2 3 9. Here 1 and 2 speak of the points kept, and 3 counts them with those of the list. A
+ * refusal writes nothing.
+ */
+fontcrunch_put_back_idle_report fontcrunch_put_back_idle(
     const int16_t *xs, size_t xs_len,
     const int16_t *ys, size_t ys_len,
     const uint8_t *flags, size_t flags_len,
@@ -363,13 +474,13 @@ PutReport fontcrunch_put_back(
  * order; no other place is touched. After a last pair the start is not written again, so that the row ends
  * off-curve.
  *
- * Refused by 1, 2 and 4; by 5, a stretch of off-curve points that is not two long; by 3, more than
- * FONTCRUNCH_POINTS_IN points after replacement; by 17; last by 9, an output row too short. A refusal writes
- * nothing. Rows of FONTCRUNCH_POINTS_IN places always suffice. No scratch is needed.
+ * Refusals, in this order: 1 2 4 5 3 17 9. Here 5 is a stretch of off-curve points that is not two long, and 3 counts
+ * the points after replacement. A refusal writes nothing. Rows of FONTCRUNCH_POINTS_IN places always suffice. No
+ * scratch is needed.
  *
  * What is written is refused by none of 1 to 5 by the other functions.
  */
-CubicReport fontcrunch_from_cubics(
+fontcrunch_from_cubics_report fontcrunch_from_cubics(
     const int16_t *xs, size_t xs_len,
     const int16_t *ys, size_t ys_len,
     const uint8_t *flags, size_t flags_len,
@@ -383,14 +494,13 @@ CubicReport fontcrunch_from_cubics(
  * between them, on-curve. Each coordinate of a middle is half of the sum, halves away from zero. The points are
  * written to the first places of ox, oy and of, in order, flags 1 or 0; no other place is touched.
  *
- * Refused by 1 and 2; by 21, no on-curve point; by 3, more than FONTCRUNCH_POINTS_IN points with the implied ones;
- * last by 9, an output row too short. A refusal writes nothing. Rows of FONTCRUNCH_POINTS_IN places always
- * suffice. No scratch is needed.
+ * Refusals, in this order: 1 2 21 3 9. Here 3 counts the points with the implied ones. A refusal writes nothing. Rows of
+ * FONTCRUNCH_POINTS_IN places always suffice. No scratch is needed.
  *
  * What is written is refused by none of 1 to 5 by the other functions. A contour that they let through is written
  * as it came. Where each middle is whole, the outline is the same.
  */
-ExplicitReport fontcrunch_explicit(
+fontcrunch_explicit_report fontcrunch_explicit(
     const int16_t *xs, size_t xs_len,
     const int16_t *ys, size_t ys_len,
     const uint8_t *flags, size_t flags_len,
@@ -402,16 +512,16 @@ ExplicitReport fontcrunch_explicit(
  * Why segment k of a contour, counted from 0, starts at a corner: all reasons that hold. It is a corner exactly
  * when there is one. A contour has a segment for each on-curve point.
  *
- * Refused by 1 to 5, then by 11. Nothing is written, and no scratch is needed.
+ * Refusals, in this order: 1 2 3 4 5 11. Nothing is written, and no scratch is needed.
  */
-WhyReport fontcrunch_why(
+fontcrunch_why_report fontcrunch_why(
     const int16_t *xs, size_t xs_len,
     const int16_t *ys, size_t ys_len,
     const uint8_t *flags, size_t flags_len,
     size_t k);
 
 /* The score of a chain. All NaNs have one bit pattern in a report. */
-static inline double fontcrunch_score(ChainReport report)
+static inline double fontcrunch_score(fontcrunch_chain_report report)
 {
     double score;
     memcpy(&score, &report.score_bits, sizeof score);
@@ -431,42 +541,44 @@ static inline double fontcrunch_score(ChainReport report)
  * times or more a repeat, and the box is that of the points. Bits 6 and 7 of the flags are lost.
  */
 
-typedef struct GlyphReadReport {
+typedef struct fontcrunch_read_glyph_report {
     uint32_t number;     /* of the refusal, or 0 */
     size_t contours;     /* ends read; 0 where refused */
     size_t points;       /* points read; 0 where refused */
     size_t instructions; /* instruction bytes read; 0 where refused */
-} GlyphReadReport;
+} fontcrunch_read_glyph_report;
 
-typedef struct GlyphWriteReport {
+typedef struct fontcrunch_write_glyph_report {
     uint32_t number; /* of the refusal, or 0 */
     size_t bytes;    /* bytes written; 0 where refused */
-} GlyphWriteReport;
+} fontcrunch_write_glyph_report;
+
+typedef fontcrunch_write_glyph_report fontcrunch_crunch_glyph_report;
 
 /*
  * Reads a description into the first places of the rows, flags 1 or 0; no other place is touched. The box and
  * bytes after the last coordinate are not looked at, and a repeat that runs past the last point is used as far
  * as there are points.
  *
- * Refusals, each tested over the whole description before the next: 15 (as soon as two bytes stand), 12, 13, 14,
- * and last 9, a row too short for what is read. A refusal changes no row.
+ * Refusals, in this order: 15 12 13 14 9. 15 is given as soon as two bytes stand. A refusal changes no row.
  */
-GlyphReadReport fontcrunch_read_glyph(const uint8_t *bytes, size_t bytes_len, uint16_t *ends, size_t ends_len,
-                                      int16_t *xs, size_t xs_len, int16_t *ys, size_t ys_len, uint8_t *flags,
-                                      size_t flags_len, uint8_t *instructions, size_t instructions_len);
+fontcrunch_read_glyph_report fontcrunch_read_glyph(
+    const uint8_t *bytes, size_t bytes_len, uint16_t *ends, size_t ends_len, int16_t *xs, size_t xs_len,
+    int16_t *ys, size_t ys_len, uint8_t *flags, size_t flags_len,
+    uint8_t *instructions, size_t instructions_len);
 
 /*
  * Writes the description to the first places of `out`; no other place is touched. Points after the last end are
- * not written. 12 + 2 * ends_len + instructions_len + 5 * points places always suffice.
+ * not written. 12 + 2 * ends_len + instructions_len + 5 * points places always suffice. A description that was read
+ * and is written again says the same, but may be longer than it was.
  *
- * Refusals, in this order: 1 (xs, ys and flags differ in length), 12, 13, 14 (a difference outside 16 bits, more
- * than 32,767 contours, more than 65,535 instruction bytes), and last 9, `out` too short. A refusal writes
- * nothing.
+ * Refusals, in this order: 1 12 13 14 9. Here 14 is a difference outside 16 bits, more than 32,767 contours, or more
+ * than 65,535 instruction bytes. A refusal writes nothing.
  */
-GlyphWriteReport fontcrunch_write_glyph(const uint16_t *ends, size_t ends_len, const int16_t *xs, size_t xs_len,
-                                        const int16_t *ys, size_t ys_len, const uint8_t *flags, size_t flags_len,
-                                        const uint8_t *instructions, size_t instructions_len, uint8_t *out,
-                                        size_t out_len);
+fontcrunch_write_glyph_report fontcrunch_write_glyph(
+    const uint16_t *ends, size_t ends_len, const int16_t *xs, size_t xs_len, const int16_t *ys, size_t ys_len,
+    const uint8_t *flags, size_t flags_len, const uint8_t *instructions, size_t instructions_len,
+    uint8_t *out, size_t out_len);
 
 /*
  * Crunches a description: reads it, crunches each contour in order as fontcrunch_crunch does, and writes what they
@@ -479,20 +591,19 @@ GlyphWriteReport fontcrunch_write_glyph(const uint16_t *ends, size_t ends_len, c
  * `xs`, `ys` and `flags`: all contours together have as many places as the shortest of these four, and a contour
  * has those that the ones before it left.
  *
- * Refusals, in this order: 15, 12, 13 and 14 of reading, 9 where a row is too short for what is read; then, contour
- * by contour, whatever fontcrunch_crunch gives, so that the first contour that is refused refuses the glyph by its
- * number (4 or 5 where it starts off-curve or has implied points, 9 where its places do not suffice); 16 where
- * there is no contour and the penalty is not 1 to 256; then 14 (a difference outside 16 bits, more than 65,536
- * points), and last 9, `out` too short. A refusal writes nothing.
+ * Refusals, in this order: 15 12 13 14 9 [1 2 3 4 5 16 (6 7 8) 9] 16 14 9. The first five are those of reading. Those in
+ * brackets are what fontcrunch_crunch gives, contour by contour: the first contour that is refused refuses the glyph by
+ * its number, whatever it is (4 or 5 where it starts off-curve or has implied points, 9 where its places do not
+ * suffice; 1 and 2 are never met here). Then 16 where there is no contour; 14, a difference outside 16 bits or more than
+ * 65,536 points; 9, `out` too short. A refusal writes nothing.
  */
-GlyphWriteReport fontcrunch_crunch_glyph(const uint8_t *bytes, size_t bytes_len, uint32_t penalty,
-                                         uint32_t whole_units, uint32_t closed, uint8_t *out, size_t out_len,
-                                         uint16_t *ends, size_t ends_len, int16_t *xs, size_t xs_len, int16_t *ys,
-                                         size_t ys_len, uint8_t *flags, size_t flags_len, uint8_t *instructions,
-                                         size_t instructions_len, double (*samples)[4], size_t samples_len,
-                                         double (*breaks)[6], size_t breaks_len, double (*answers)[3],
-                                         size_t answers_len, uint32_t *links, size_t links_len,
-                                         int16_t (*points)[3], size_t points_len);
+fontcrunch_crunch_glyph_report fontcrunch_crunch_glyph(
+    const uint8_t *bytes, size_t bytes_len, uint32_t penalty, uint32_t whole_units, uint32_t closed,
+    uint8_t *out, size_t out_len, uint16_t *ends, size_t ends_len, int16_t *xs, size_t xs_len,
+    int16_t *ys, size_t ys_len, uint8_t *flags, size_t flags_len,
+    uint8_t *instructions, size_t instructions_len, double (*samples)[4], size_t samples_len,
+    double (*breaks)[6], size_t breaks_len, double (*answers)[3], size_t answers_len,
+    uint32_t *links, size_t links_len, int16_t (*points)[3], size_t points_len);
 
 /*
  * UFO GLIF
@@ -501,11 +612,11 @@ GlyphWriteReport fontcrunch_crunch_glyph(const uint8_t *bytes, size_t bytes_len,
  * two off-curve points that follow each other, halves away from zero, between them.
  */
 
-typedef struct GlifReadReport {
+typedef struct fontcrunch_read_glif_report {
     uint32_t number; /* of the refusal, or 0 */
     size_t contours; /* ends read; 0 where refused */
     size_t points;   /* points read; 0 where refused */
-} GlifReadReport;
+} fontcrunch_read_glif_report;
 
 /*
  * Reads a file into the first places of the rows: the number of each contour's last point, and the points of all
@@ -513,32 +624,34 @@ typedef struct GlifReadReport {
  * holds on entry does not matter, and it is zero throughout on every return. bytes_len / 16 + 1 places in `ends`
  * and `points`, and twice as many in the others, always suffice.
  *
- * Refusals, each tested over the whole file before the next: 19 malformed, 20 a cubic or fractional point or an
- * open contour, 14 a coordinate outside 16 bits or more than 65,536 points, 21 a contour without an on-curve point,
- * and last 9, a row too short. A refusal changes no row but the scratch row.
+ * Refusals, in this order: 19 20 14 21 9. Here 14 is a coordinate outside 16 bits, or more than 65,536 points. A refusal
+ * changes no row but the scratch row.
  */
-GlifReadReport fontcrunch_read_glif(const uint8_t *bytes, size_t bytes_len, uint16_t *ends, size_t ends_len,
-                                    int16_t *xs, size_t xs_len, int16_t *ys, size_t ys_len, uint8_t *flags,
-                                    size_t flags_len, size_t (*points)[3], size_t points_len);
+fontcrunch_read_glif_report fontcrunch_read_glif(
+    const uint8_t *bytes, size_t bytes_len, uint16_t *ends, size_t ends_len, int16_t *xs, size_t xs_len,
+    int16_t *ys, size_t ys_len, uint8_t *flags, size_t flags_len, size_t (*points)[3], size_t points_len);
 
-typedef struct GlifWriteReport {
+typedef struct fontcrunch_write_glif_report {
     uint32_t number; /* of the refusal, or 0 */
     size_t bytes;    /* bytes written; 0 where refused */
-} GlifWriteReport;
+} fontcrunch_write_glif_report;
+
+typedef fontcrunch_write_glif_report fontcrunch_crunch_glif_report;
 
 /*
  * Writes the file to the first places of `out`, with a contour of the rows in place of the inside of each of its
  * own; every other byte is as it stood, and no other place of `out` is touched. An on-curve point is a line where the
  * point before it, going round, is on-curve, else a qcurve. bytes_len + 48 * xs_len places always suffice.
  *
- * Refusals, in this order: those of reading the file (19, 20, 14, 21); 1, where xs, ys and flags differ in length, the
- * last end is not that of the last point, or there are not as many ends as contours; 2, where a contour has no point
- * (an end is not above the one before it, or there is no point at all); and last 9, `out` too short. A refusal writes
- * nothing.
+ * Refusals, in this order: 19 20 14 21 1 2 9. The first four are those of reading the file. Then 1, where xs, ys and
+ * flags differ in length, the last end is not that of the last point, or there are not as many ends as contours; 2,
+ * where a contour has no point (an end is not above the one before it, or there is no point at all); 9, `out` too short.
+ * A refusal writes nothing.
  */
-GlifWriteReport fontcrunch_write_glif(const uint8_t *bytes, size_t bytes_len, const uint16_t *ends, size_t ends_len,
-                                      const int16_t *xs, size_t xs_len, const int16_t *ys, size_t ys_len,
-                                      const uint8_t *flags, size_t flags_len, uint8_t *out, size_t out_len);
+fontcrunch_write_glif_report fontcrunch_write_glif(
+    const uint8_t *bytes, size_t bytes_len, const uint16_t *ends, size_t ends_len,
+    const int16_t *xs, size_t xs_len, const int16_t *ys, size_t ys_len, const uint8_t *flags, size_t flags_len,
+    uint8_t *out, size_t out_len);
 
 /*
  * Crunches a file: reads it, crunches each contour in order as fontcrunch_crunch does, and writes the file to the first
@@ -551,18 +664,18 @@ GlifWriteReport fontcrunch_write_glif(const uint8_t *bytes, size_t bytes_len, co
  * together in `points` and pass through `xs`, `ys` and `flags`: all contours together have as many places as the shortest of
  * these four, and a contour has those that the ones before it left.
  *
- * Refusals, in this order: 19, 20, 14, 21 of the file, 9 where a row is too short for what is read; then, contour by
- * contour, whatever fontcrunch_crunch gives, so that the first contour that is refused refuses the file by its number;
- * 16 where there is no contour and the penalty is not 1 to 256; 14 where the new points are more than 65,536; and last 9,
+ * Refusals, in this order: 19 20 14 21 9 [1 2 3 4 5 16 (6 7 8) 9] 16 14 9. The first five are those of reading. Those in
+ * brackets are what fontcrunch_crunch gives, contour by contour: the first contour that is refused refuses the file by
+ * its number (1, 2, 4 and 5 are never met here). Then 16 where there is no contour; 14, more than 65,536 new points; 9,
  * `out` too short. A refusal writes nothing.
  */
-GlifWriteReport fontcrunch_crunch_glif(const uint8_t *bytes, size_t bytes_len, uint32_t penalty, uint32_t whole_units,
-                                       uint32_t closed, uint8_t *out, size_t out_len, uint16_t *ends, size_t ends_len,
-                                       int16_t *xs, size_t xs_len, int16_t *ys, size_t ys_len, uint8_t *flags,
-                                       size_t flags_len, size_t (*marks)[3], size_t marks_len, double (*samples)[4],
-                                       size_t samples_len, double (*breaks)[6], size_t breaks_len, double (*answers)[3],
-                                       size_t answers_len, uint32_t *links, size_t links_len, int16_t (*points)[3],
-                                       size_t points_len);
+fontcrunch_crunch_glif_report fontcrunch_crunch_glif(
+    const uint8_t *bytes, size_t bytes_len, uint32_t penalty, uint32_t whole_units, uint32_t closed,
+    uint8_t *out, size_t out_len, uint16_t *ends, size_t ends_len, int16_t *xs, size_t xs_len,
+    int16_t *ys, size_t ys_len, uint8_t *flags, size_t flags_len, size_t (*marks)[3], size_t marks_len,
+    double (*samples)[4], size_t samples_len, double (*breaks)[6], size_t breaks_len,
+    double (*answers)[3], size_t answers_len, uint32_t *links, size_t links_len,
+    int16_t (*points)[3], size_t points_len);
 
 /*
  * TWO EDITIONS
@@ -576,13 +689,15 @@ GlifWriteReport fontcrunch_crunch_glif(const uint8_t *bytes, size_t bytes_len, u
  * 7 for want of breaks, goes to each edition whose work has not ended by then; a 7 for want of answers or links, an 8
  * and a 9 go to the edition that met them. Scratch rows are zero throughout on every return, also those of an edition
  * that is refused.
+ *
+ * Refusals of each edition, in this order: 1 2 3 4 5 16 (6 7 8) 9.
  */
-typedef struct EditionsReport {
-    CrunchReport a;
-    CrunchReport b;
-} EditionsReport;
+typedef struct fontcrunch_editions_report {
+    fontcrunch_crunch_report a;
+    fontcrunch_crunch_report b;
+} fontcrunch_editions_report;
 
-EditionsReport fontcrunch_editions(
+fontcrunch_editions_report fontcrunch_editions(
     const int16_t *xs, size_t xs_len, const int16_t *ys, size_t ys_len, const uint8_t *flags, size_t flags_len,
     uint32_t penalty_a, uint32_t penalty_b, uint32_t whole_units, uint32_t closed,
     double (*samples)[4], size_t samples_len, double (*breaks)[6], size_t breaks_len,

@@ -72,7 +72,7 @@ static bool read_contour(char *line)
     return true;
 }
 
-static CrunchReport crunch(void)
+static fontcrunch_crunch_report crunch(void)
 {
     return fontcrunch_crunch(
         contour.xs, contour.n, contour.ys, contour.n, contour.flags, contour.n, PENALTY, WHOLE_UNITS, CLOSED,
@@ -81,7 +81,7 @@ static CrunchReport crunch(void)
         answers, FONTCRUNCH_ANSWERS, links, FONTCRUNCH_ANSWERS, points, OUT);
 }
 
-static ChainReport chain_of_run(size_t k)
+static fontcrunch_chain_report chain_of_run(size_t k)
 {
     return fontcrunch_chain(
         contour.xs, contour.n, contour.ys, contour.n, contour.flags, contour.n, k, PENALTY, WHOLE_UNITS, CLOSED,
@@ -90,7 +90,7 @@ static ChainReport chain_of_run(size_t k)
         answers, FONTCRUNCH_ANSWERS, links, FONTCRUNCH_ANSWERS);
 }
 
-static CheckReport check_of_run(size_t k, size_t pieces, double score)
+static fontcrunch_check_report check_of_run(size_t k, size_t pieces, double score)
 {
     return fontcrunch_check(
         contour.xs, contour.n, contour.ys, contour.n, contour.flags, contour.n, k, PENALTY, WHOLE_UNITS, CLOSED,
@@ -99,14 +99,14 @@ static CheckReport check_of_run(size_t k, size_t pieces, double score)
         answers, FONTCRUNCH_ANSWERS, links, FONTCRUNCH_ANSWERS);
 }
 
-static void print_points(CrunchReport report)
+static void print_points(fontcrunch_crunch_report report)
 {
     printf("%zu points in, %zu out, %zu pairs tried, %zu lookups fell\n", contour.n, report.points, report.pairs, report.fallen);
     for (size_t i = 0; i < report.points; i++)
         printf("  %6" PRId16 " %6" PRId16 "  %s\n", crunched.xs[i], crunched.ys[i], crunched.flags[i] ? "on" : "off");
 }
 
-static void print_chain(size_t k, ChainReport report)
+static void print_chain(size_t k, fontcrunch_chain_report report)
 {
     printf("run %zu: score %.17g, %zu pairs tried, %zu lookups fell\n", k, fontcrunch_score(report), report.pairs, report.fallen);
     for (size_t i = 0; i < report.pieces; i++)
@@ -114,13 +114,13 @@ static void print_chain(size_t k, ChainReport report)
                chain.ends[i], chain.cxs[i], chain.cys[i], chain.spans[i][0], chain.spans[i][1]);
 }
 
-static const char *verdict(CheckReport report)
+static const char *verdict(fontcrunch_check_report report)
 {
     return report.accepted ? "accepted" : "not accepted";
 }
 
 /* The first run that is not copied. There are fewer runs than points, and 10 says no such run, or a copied one. */
-static bool find_chain(size_t *k, ChainReport *report)
+static bool find_chain(size_t *k, fontcrunch_chain_report *report)
 {
     for (*k = 0; *k < contour.n; (*k)++) {
         *report = chain_of_run(*k);
@@ -133,7 +133,7 @@ static bool find_chain(size_t *k, ChainReport *report)
 static void show_chain(void)
 {
     size_t k;
-    ChainReport report;
+    fontcrunch_chain_report report;
     if (!find_chain(&k, &report)) {
         printf("no run with a chain\n");
         return;
@@ -147,7 +147,7 @@ static void show_chain(void)
 
 static void show_contour(void)
 {
-    CrunchReport report = crunch();
+    fontcrunch_crunch_report report = crunch();
     if (report.number != FONTCRUNCH_OK) {
         printf("refused %" PRIu32 "\n", report.number);
         return;

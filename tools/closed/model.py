@@ -79,8 +79,8 @@ def is_implied(before, this, after):
 
 
 def without_implied(row):
-    """Looked at from place 0, going round; after a removal the same place is looked at again."""
-    row, i = list(row), 0
+    """Looked at from place 1 on, going round, so that place 0 stays; after a removal the same place is looked at again."""
+    row, i = list(row), 1
     while i < len(row):
         if is_implied(row[i - 1], row[i], row[(i + 1) % len(row)]):
             del row[i]

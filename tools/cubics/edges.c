@@ -40,7 +40,7 @@ static void drop(struct rows r) {
     free(r.of);
 }
 
-static CubicReport call(size_t nx, size_t ny, size_t nf, struct rows r) {
+static fontcrunch_from_cubics_report call(size_t nx, size_t ny, size_t nf, struct rows r) {
     calls++;
     return fontcrunch_from_cubics(xs, nx, ys, ny, flags, nf, r.ox, r.nx, r.oy, r.ny, r.of, r.nf);
 }
@@ -56,12 +56,12 @@ static void same(struct rows a, struct rows b, size_t n) {
     wrong += memcmp(a.ox, b.ox, n * 2) || memcmp(a.oy, b.oy, n * 2) || memcmp(a.of, b.of, n);
 }
 
-static void edges(size_t n, CubicReport whole, struct rows first) {
+static void edges(size_t n, fontcrunch_from_cubics_report whole, struct rows first) {
     size_t p = whole.points;
     for (int k = 0; k < 8; k++) {
         /* each of the three rows long enough to the place, or one place longer */
         struct rows r = lend(p + (k & 1), p + (k >> 1 & 1), p + (k >> 2 & 1), k);
-        CubicReport got = call(n, n, n, r);
+        fontcrunch_from_cubics_report got = call(n, n, n, r);
         wrong += got.number != 0 || got.points != p;
         same(r, first, p);
         untouched(r, p, k);
@@ -80,7 +80,7 @@ static void uneven(size_t n) {
     for (int k = 1; k < 7; k++) {
         size_t a = n + (k & 1), b = n + (k >> 1 & 1), c = n + (k >> 2 & 1);
         struct rows r = lend(4, 4, 4, k);
-        CubicReport got = call(a, b, c, r);
+        fontcrunch_from_cubics_report got = call(a, b, c, r);
         wrong += got.number != 1 || got.points != 0;
         untouched(r, 0, k);
         drop(r);
@@ -102,7 +102,7 @@ int main(int count, char **words) {
             n++;
         }
         struct rows first = lend(ROOM, ROOM + 1, ROOM + 2, 99);
-        CubicReport whole = call(n, n, n, first);
+        fontcrunch_from_cubics_report whole = call(n, n, n, first);
         if (whole.number) {
             printf("refused %u\n", whole.number);
             wrong += whole.points != 0;

@@ -105,7 +105,7 @@ static uint32_t choice(void) { return below(2) ? 0 : (uint32_t)any(); }
 static void crunch(Row in[3]) {
     Row out[3] = {row(length(60), 2), row(length(60), 2), row(length(60), 1)}, work[4], points = row(length(60), 6);
     scratch(work);
-    CrunchReport r = fontcrunch_crunch(IN(in), penalty(), choice(), choice(), out[0].at, out[0].places, out[1].at, out[1].places, out[2].at,
+    fontcrunch_crunch_report r = fontcrunch_crunch(IN(in), penalty(), choice(), choice(), out[0].at, out[0].places, out[1].at, out[1].places, out[2].at,
                                        out[2].places, WORK(work), points.at, points.places);
     demand(r.number <= 9 || r.number == 16, "a number of the documents");
     demand(r.number == 0 || (r.points == 0 && r.pairs == 0 && r.fallen == 0), "a refusal reports nothing else");
@@ -119,7 +119,7 @@ static void chain(Row in[3], size_t run) {
     Row rows[5] = {row(length(20), 4), row(length(20), 4), row(length(20), 8), row(length(20), 8), row(length(20), 8)}, work[4];
     uint32_t cost = penalty(), whole_units = choice(), closed = choice();
     scratch(work);
-    ChainReport r = fontcrunch_chain(IN(in), run, cost, whole_units, closed, WORK(rows), rows[4].at, rows[4].places, WORK(work));
+    fontcrunch_chain_report r = fontcrunch_chain(IN(in), run, cost, whole_units, closed, WORK(rows), rows[4].at, rows[4].places, WORK(work));
     demand(r.number <= 10 || r.number == 16, "a number of the documents");
     demand(r.number == 0 || (r.pieces == 0 && r.pairs == 0 && r.score_bits == 0 && r.fallen == 0), "a refusal reports nothing else");
     for (int i = 0; i < 5; i++) demand(kept(rows[i], r.pieces), "places beyond the pieces stay");
@@ -133,7 +133,7 @@ static void chain(Row in[3], size_t run) {
     }
     for (int i = 0; i < 4; i++)
         for (size_t k = 0; k < work[i].places * work[i].size; k++) ((uint8_t *)work[i].at)[k] = (uint8_t)any();
-    CheckReport v = fontcrunch_check(IN(in), run, cost, whole_units, closed, WORK(given), fontcrunch_score(r), WORK(work));
+    fontcrunch_check_report v = fontcrunch_check(IN(in), run, cost, whole_units, closed, WORK(given), fontcrunch_score(r), WORK(work));
     demand(r.pieces == 0 || (v.number == 0 && v.accepted == 1), "a chain is accepted");
     demand(v.number == 0 || (v.accepted == 0 && v.fallen == 0), "a refusal accepts nothing and counts nothing");
     demand(r.pieces == 0 || v.fallen <= r.fallen, "the pieces of a chain are some of the attempts");

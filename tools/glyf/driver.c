@@ -52,7 +52,7 @@ static void answer_read(void) {
     uint16_t *ends = row(e, 2);
     int16_t *xs = row(x, 2), *ys = row(y, 2);
     take(bytes, n);
-    GlyphReadReport r = fontcrunch_read_glyph(bytes, n, ends, e, xs, x, ys, y, flags, f, code, i);
+    fontcrunch_read_glyph_report r = fontcrunch_read_glyph(bytes, n, ends, e, xs, x, ys, y, flags, f, code, i);
     give_number(r.number), give_number(r.contours), give_number(r.points), give_number(r.instructions);
     give(ends, 2 * e), give(xs, 2 * x), give(ys, 2 * y), give(flags, f), give(code, i);
     free(bytes), free(flags), free(code), free(ends), free(xs), free(ys);
@@ -64,7 +64,7 @@ static void answer_write(void) {
     uint16_t *ends = row(e, 2);
     int16_t *xs = row(x, 2), *ys = row(y, 2);
     take(ends, 2 * e), take(xs, 2 * x), take(ys, 2 * y), take(flags, f), take(code, i);
-    GlyphWriteReport r = fontcrunch_write_glyph(ends, e, xs, x, ys, y, flags, f, code, i, out, n);
+    fontcrunch_write_glyph_report r = fontcrunch_write_glyph(ends, e, xs, x, ys, y, flags, f, code, i, out, n);
     give_number(r.number), give_number(r.bytes), give(out, n);
     free(out), free(flags), free(code), free(ends), free(xs), free(ys);
 }
@@ -86,7 +86,7 @@ static void answer_crunch(void) {
     double (*samples)[4] = row(s, sizeof *samples), (*breaks)[6] = row(b, sizeof *breaks), (*answers)[3] = row(a, sizeof *answers);
     uint32_t *links = row(l, 4);
     take(bytes, n);
-    GlyphWriteReport r = fontcrunch_crunch_glyph(bytes, n, penalty, whole_units, closed, out, o, ends, e, xs, x, ys, y, flags, f, code, i, samples, s,
+    fontcrunch_crunch_glyph_report r = fontcrunch_crunch_glyph(bytes, n, penalty, whole_units, closed, out, o, ends, e, xs, x, ys, y, flags, f, code, i, samples, s,
                                                  breaks, b, answers, a, links, l, points, p);
     int clear = zero(ends, 2 * e) && zero(xs, 2 * x) && zero(ys, 2 * y) && zero(flags, f) && zero(code, i) && zero(samples, s * sizeof *samples) &&
                 zero(breaks, b * sizeof *breaks) && zero(answers, a * sizeof *answers) && zero(links, 4 * l) && zero(points, p * sizeof *points);

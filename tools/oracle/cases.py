@@ -151,11 +151,11 @@ CLOSED = [
     ("0 0 1 100 0 1 100 60 1 0 0 1", "ok 0 0 0 1 100 0 1 100 60 1 0 0 1", None),
     # the last piece's end is not written, wherever its break is: here it is at (7.5, 6)
     ("8 6 1 1 0 1 9 7 0", "ok 1 8 6 1 1 0 1", None),
-    # the first corner itself is implied and goes, the others after it
-    ("10 -8 1 34 -2 0 44 32 1 -10 37 1 -14 -14 0", "ok 2 34 -2 0 44 32 1 -10 37 1 -14 -14 0", None),
-    ("0 0 1 10 10 0 0 0 1 -10 -10 0", "ok 0 10 10 0 -10 -10 0", "ok 0 0 0 1"),
+    # the first point is the midpoint of its neighbours and stays; others go
+    ("10 -8 1 34 -2 0 44 32 1 -10 37 1 -14 -14 0", "ok 2 10 -8 1 34 -2 0 44 32 1 -10 37 1 -14 -14 0", None),
+    ("0 0 1 10 10 0 0 0 1 -10 -10 0", "ok 0 0 0 1 10 10 0 -10 -10 0", "ok 0 0 0 1"),
     # one off-curve point is both neighbours
-    ("5 5 1 5 5 0", "ok 1 5 5 0", "ok 0 5 5 1"),
+    ("5 5 1 5 5 0", "ok 1 5 5 1 5 5 0", "ok 0 5 5 1"),
     # a joint at a half unit is written cut, and stays
     ("22 -6 1 9 -4 0 9 -5 1 9 -6 0", "ok 2 22 -6 1 10 -4 0 9 -5 1 9 -6 0", None),
     # the full sum: -1 between two at 32767 stays, and 0 between 0 and 1

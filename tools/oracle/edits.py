@@ -77,12 +77,16 @@ RECORDS = [
 ]
 
 # What a caller chooses; without a word each is as the Rust has it.
-SETTINGS = [
-    one("penalty of a piece", "thetas.optimize(1.0)", "thetas.optimize(hooks::settings().per_piece())"),
-    one("half units as a constant", "const HALF_STEP: bool = true;", ""),
+SETTINGS = [one("penalty of a piece", "thetas.optimize(1.0)", "thetas.optimize(hooks::settings().per_piece())")]
+
+CONSTANT = "const HALF_STEP: bool = true;"
+CHOSEN_UNITS = [
+    one("half units as a constant", CONSTANT, ""),
     # once the constant is gone its name stands where it is read, and nowhere else
     one("half units where they are read", "HALF_STEP", "hooks::settings().half_step()"),
 ]
+# The Rust rebuilt with its constant: nothing is chosen, and what reads it stays as it is.
+WHOLE_UNITS = [one("whole units as a constant", CONSTANT, "const HALF_STEP: bool = false;")]
 
 # Closed mode: the closing run, which the Rust leaves as a comment, is put back, and the points are written from the first
 # corner in the input's order, without the last piece's end.
@@ -118,6 +122,9 @@ STANDARD = [
     for c in "xy"
 ]
 
+# In closed mode the point at place 0 stays.
+FIRST = [one("first place looked at", "let mut i: usize = 0;", "let mut i = usize::from(crate::hooks::settings().closed);")]
+
 ROOTS = [
     one(
         "root in the bend test",
@@ -132,8 +139,8 @@ IMPLIED = [one("explicit points left out", "insert_explicit_oncurves(&mut contou
 WORDS = [one("name of 16 bits", "use otspec::types::*;", "#[allow(non_camel_case_types)] type int16 = i16;")]
 
 IN_FONTCRUNCH = IMPORTS + ROOMS + FALLS + RECORDS + SETTINGS + CLOSED
-IN_CONTOURUTILS = IMPLIED + STANDARD
-ALL = IN_FONTCRUNCH + ROOTS + IN_CONTOURUTILS + WORDS
+IN_CONTOURUTILS = IMPLIED + STANDARD + FIRST
+ALL = IN_FONTCRUNCH + CHOSEN_UNITS + WHOLE_UNITS + ROOTS + IN_CONTOURUTILS + WORDS
 
 
 def apply(text, edits, where):
@@ -153,9 +160,9 @@ def cut(text):
     return text[: text.index(CUT)] + TAIL
 
 
-def edited(read, roots):
+def edited(read, roots, whole_units):
     """The three edited files by name; `read` gives a published file's text."""
-    edits = IN_FONTCRUNCH + (ROOTS if roots else [])
+    edits = IN_FONTCRUNCH + (WHOLE_UNITS if whole_units else CHOSEN_UNITS) + (ROOTS if roots else [])
     return {
         "main.rs": apply(cut(read(FONTCRUNCH)), edits, FONTCRUNCH),
         "fonttools/tables/glyf/contourutils.rs": apply(read(CONTOURUTILS), IN_CONTOURUTILS, CONTOURUTILS),

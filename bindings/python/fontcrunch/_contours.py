@@ -3,14 +3,15 @@
 from __future__ import annotations
 
 import dataclasses
-import operator
 import struct
 from typing import Any, Iterable, NamedTuple
 
 from ._entries import F64, U32, call, told
+from ._prepared import prepared
 from ._refusal import Refused
 from ._rows import MOST_PIECES, SCRATCH, USUAL_POINT_ROOM
 from ._rows import AnyPoint, Point, assembly_room, counted, point_rows, points_in, points_room, row_of
+from ._wrong import kind_of, room, shown, whole
 
 DEFAULT_PENALTY = 32
 """The penalty of Settings(), 2.0."""
@@ -31,22 +32,33 @@ class Settings:
     from 1 to 256."""
 
     whole_units: bool = False
-    """Whether breaks are rounded to whole units instead of half ones, for engines that misdraw implied points on half units."""
+    """Whether breaks are rounded to whole units instead of half ones, for engines that misdraw implied points on half units.
+    It serves these together with closed, and only then: in closed mode no implied point lies on a half unit, while the mode
+    of the Rust drops points that are no exact midpoints, on whole units too."""
 
     closed: bool = False
     """Whether a last run goes round from the last corner to the first, so that nothing is lost. Then points come out in order,
-    from the first corner on, the start is not written again at the end, and implied points are those that OpenType
-    implies. Without it the mode is that of the Rust which this follows."""
+    from the first corner on, which stays also where it is implied; the start is not written again at the end, and implied
+    points are those that OpenType implies. Without it the mode is that of the Rust which this follows."""
 
     @classmethod
     def of_crate(cls) -> Settings:
         """Those of the Rust that this follows, whose points come out with them."""
         return cls(penalty=CRATE_PENALTY)
 
-    def _words(self) -> tuple[int, int, int]:
-        """As the library takes them. A penalty that cannot be held is out of the range, as its neighbour is that can be."""
-        penalty = min(max(operator.index(self.penalty), 0), _MOST_U32)
-        return penalty, int(bool(self.whole_units)), int(bool(self.closed))
+
+
+def penalty_word(penalty: int) -> int:
+    """As the library takes it. A penalty that cannot be held is out of the range, as its neighbour is that can be."""
+    return min(max(whole(penalty, "a penalty"), 0), _MOST_U32)
+
+
+def words_of(settings: Settings) -> tuple[int, int, int]:
+    """Settings as the library takes them."""
+    if not isinstance(settings, Settings):
+        hint = ": write Settings(**settings)" if isinstance(settings, dict) else ""
+        raise TypeError(f"settings are fontcrunch.Settings(penalty, whole_units, closed), and not {kind_of(settings)}{hint}")
+    return penalty_word(settings.penalty), int(bool(settings.whole_units)), int(bool(settings.closed))
 
 
 class Crunched(NamedTuple):
@@ -139,9 +151,13 @@ class Reasons(NamedTuple):
 
 
 def crunch(
-    points: Iterable[AnyPoint], settings: Settings = Settings(), *, point_room: int = USUAL_POINT_ROOM
+    points: Iterable[AnyPoint],
+    settings: Settings = Settings(),
+    *,
+    point_room: int = USUAL_POINT_ROOM,
+    prepare: bool = False,
 ) -> Crunched:
-    """Crunches a contour.
+    """Crunches a contour; where prepare is true, what `prepared` makes of it.
 
     A run for which no chain is found leaves the whole contour unchanged: then its own points come out, reversed, with the
     start at both ends. In closed mode they come out as they stand, and so do those of a contour with no corner.
@@ -149,9 +165,9 @@ def crunch(
     No fixed number of points suffices for every result; one that has more than point_room, implied points counted, is
     refused by 9.
     """
-    out = points_room(point_room)
-    assembled = assembly_room(point_room)
-    report = call("crunch", *point_rows(points), *settings._words(), *out, *SCRATCH.rows, assembled)
+    places = room(point_room)
+    out, assembled = points_room(places), assembly_room(places)
+    report = call("crunch", *point_rows(prepared(points) if prepare else points), *words_of(settings), *out, *SCRATCH.rows, assembled)
     return _crunched(report, out)
 
 
@@ -161,18 +177,31 @@ def _crunched(report: Any, out: Any) -> Crunched:
 
 
 def editions(
-    points: Iterable[AnyPoint], a: int, b: int, settings: Settings = Settings(), *, point_room: int = USUAL_POINT_ROOM
+    points: Iterable[AnyPoint],
+    a: int,
+    b: int,
+    settings: Settings = Settings(),
+    *,
+    point_room: int = USUAL_POINT_ROOM,
+    prepare: bool = False,
 ) -> Editions:
     """Two editions of a contour, with a penalty each, in sixteenths; grid and mode are those of the settings, whose own
     penalty is not looked at. Each run is sampled once for both.
 
-    Each edition gets what `crunch` gives at its penalty, whichever comes first and whatever becomes of the other.
+    Each edition gets what `crunch` gives at its penalty, whichever comes first and whatever becomes of the other. Where
+    prepare is true, both are of what `prepared` makes of the contour, and what it refuses is refused for both.
     """
+    if prepare:
+        try:
+            points = prepared(points)
+        except Refused as refused:
+            return Editions(refused, refused)
     samples, breaks, answers, links = SCRATCH.rows
-    out_a, out_b = points_room(point_room), points_room(point_room)
-    own_a = (answers, links, assembly_room(point_room), *out_a)
-    own_b = (type(answers)(), type(links)(), assembly_room(point_room), *out_b)
-    words = (Settings(penalty=a)._words()[0], *Settings(b, settings.whole_units, settings.closed)._words())
+    places = room(point_room)
+    out_a, out_b = points_room(places), points_room(places)
+    own_a = (answers, links, assembly_room(places), *out_a)
+    own_b = (type(answers)(), type(links)(), assembly_room(places), *out_b)
+    words = (penalty_word(a), penalty_word(b), *words_of(settings)[1:])
     report = told("editions", *point_rows(points), *words, samples, breaks, *own_a, *own_b)
 
     def edition(said: Any, out: Any) -> Crunched | Refused:
@@ -189,7 +218,7 @@ def chain(points: Iterable[AnyPoint], run: int, settings: Settings = Settings())
     starts, ends = (U32 * MOST_PIECES)(), (U32 * MOST_PIECES)()
     xs, ys = (F64 * MOST_PIECES)(), (F64 * MOST_PIECES)()
     spans = (U32 * 2 * MOST_PIECES)()
-    asked = (*point_rows(points), counted(run, _MOST_SIZE), *settings._words())
+    asked = (*point_rows(points), counted(run, _MOST_SIZE), *words_of(settings))
     report = call("chain", *asked, starts, ends, xs, ys, spans, *SCRATCH.rows)
     n = report.pieces
     pieces = [Piece(a, b, (x, y)) for a, b, x, y in zip(starts[:n], ends[:n], xs[:n], ys[:n])]
@@ -210,11 +239,24 @@ def check(points: Iterable[AnyPoint], run: int, given: Chain, settings: Settings
 
 def verdict(points: Iterable[AnyPoint], run: int, given: Chain, settings: Settings = Settings()) -> Verdict:
     """What `check` says, and how many lookups fell past the samples as the chain was measured."""
-    starts, ends = (row_of(U32, (piece[k] for piece in given.pieces)) for k in (0, 1))
-    xs, ys = (row_of(F64, (piece.control[k] for piece in given.pieces)) for k in (0, 1))
-    asked = (*point_rows(points), counted(run, _MOST_SIZE), *settings._words())
+    starts, ends, xs, ys = _chain_rows(given)
+    asked = (*point_rows(points), counted(run, _MOST_SIZE), *words_of(settings))
     report = call("check", *asked, starts, ends, xs, ys, given.score, *SCRATCH.rows)
     return Verdict(bool(report.accepted), report.fallen)
+
+
+def _chain_rows(given: Chain) -> tuple[Any, Any, Any, Any]:
+    """The rows of a chain's pieces: starts, ends, and the controls' x and y."""
+    if not isinstance(given, Chain):
+        raise TypeError(f"a chain is fontcrunch.Chain(pieces, score, pairs), and not {kind_of(given)}")
+    pieces = []
+    for place, piece in enumerate(given.pieces):
+        try:
+            start, end, (x, y) = piece
+            pieces.append((whole(start, "a break"), whole(end, "a break"), float(x), float(y)))
+        except (TypeError, ValueError):
+            raise TypeError(f"piece {place} is {shown(piece)}: a piece is fontcrunch.Piece(start, end, (x, y))") from None
+    return tuple(row_of(kind, [piece[k] for piece in pieces]) for k, kind in enumerate((U32, U32, F64, F64)))
 
 
 def why(points: Iterable[AnyPoint], index: int) -> Reasons:

@@ -10,6 +10,7 @@ from __future__ import annotations
 import ctypes
 import os
 import pathlib
+import sys
 from typing import Any
 
 from ._refusal import Refused
@@ -54,6 +55,8 @@ SIGNATURES: dict[str, tuple[type, ...]] = {
     "why": (_report(reasons=U32), *_POINTS, SIZE),
     "clean": (_report(kept=SIZE, dropped=SIZE), *_POINTS, *_POINTS, _DROPS),
     "put_back": (_report(points=SIZE), *_POINTS, _DROPS, *_POINTS),
+    "drop_idle": (_report(kept=SIZE, dropped=SIZE), *_POINTS, *_POINTS, _DROPS),
+    "put_back_idle": (_report(points=SIZE), *_POINTS, _DROPS, *_POINTS),
     "from_cubics": (_report(points=SIZE), *_POINTS, *_POINTS),
     "explicit": (_report(points=SIZE), *_POINTS, *_POINTS),
     "read_glyph": (_report(contours=SIZE, points=SIZE, instructions=SIZE), _row(U8), *_GLYPH),
@@ -80,11 +83,12 @@ def _folders() -> list[pathlib.Path]:
     return [here, here.parents[2] / "build"]
 
 
-def _library() -> ctypes.CDLL:
+def library_file() -> pathlib.Path:
+    """The library's file."""
     folders = _folders()
     for folder in folders:
         if (folder / LIBRARY).is_file():
-            return ctypes.CDLL(str(folder / LIBRARY))
+            return folder / LIBRARY
     raise ImportError(
         f"there is no {LIBRARY} in {' or '.join(map(str, folders))}; `tools/library && tools/shared`, run at the "
         f"repository's top, writes it to build. If it is elsewhere, set {FOLDER_VARIABLE} to its folder."
@@ -107,11 +111,18 @@ def _entry(library: ctypes.CDLL, name: str) -> Any:
 
 
 def _entries() -> dict[str, Any]:
-    library = _library()
+    library = ctypes.CDLL(str(library_file()))
     return {name: _entry(library, name) for name in SIGNATURES}
 
 
-_ENTRIES = _entries()
+try:
+    _ENTRIES = _entries()
+except (ImportError, OSError) as error:
+    # so sys.argv begins while Python looks for the module that `python3 -m` names: a command says what is wrong in a line
+    if sys.argv[:1] != ["-m"]:
+        raise
+    print(f"fontcrunch: {error}", file=sys.stderr)
+    raise SystemExit(2) from None
 
 
 def told(name: str, *values: Any) -> Any:

@@ -4,15 +4,20 @@ from __future__ import annotations
 
 import dataclasses
 import itertools
-from typing import Iterable, NamedTuple
+from typing import Callable, Iterable, NamedTuple
 
-from ._contours import Settings
+from ._contours import Settings, words_of
 from ._entries import U8, U16, call
+from ._prepared import prepared
 from ._refusal import Refused
-from ._rows import SCRATCH, USUAL_POINT_ROOM, AnyPoint, assembly_room, point_rows, points_in, points_room, row_of
+from ._rows import SCRATCH, USUAL_POINT_ROOM, AnyPoint, Point, assembly_room, point_rows, points_in, points_room, row_of
 from ._uploads import explicit as made_explicit
+from ._wrong import bytes_of, kind_of, listed
+from ._wrong import room as checked_room
 
 _MOST_POINTS = 65536
+
+_A_DESCRIPTION = "a glyph description"
 
 
 @dataclasses.dataclass
@@ -29,7 +34,7 @@ class Glyph:
     @classmethod
     def of_contours(cls, contours: Iterable[Iterable[AnyPoint]], instructions: bytes = b"") -> Glyph:
         """The glyph of these contours."""
-        held = [list(contour) for contour in contours]
+        held = [listed(contour) for contour in contours]
         ends = [count - 1 for count in itertools.accumulate(map(len, held))]
         return cls(ends, list(itertools.chain.from_iterable(held)), instructions)
 
@@ -72,6 +77,7 @@ def read_glyph(data: bytes) -> Glyph:
     Refused, in this order: by 15, composite; 12, cut short; 13, ends that do not rise; 14, a coordinate outside 16 bits.
     Bytes after the last coordinate are not looked at.
     """
+    data = bytes_of(data, _A_DESCRIPTION)
     room = _room(data)
     ends, points, instructions = (U16 * room.ends)(), points_room(room.points), (U8 * room.instructions)()
     report = call("read_glyph", row_of(U8, data), ends, *points, instructions)
@@ -85,23 +91,31 @@ def write_glyph(glyph: Glyph) -> bytes:
     Refused, in this order: by 12, fewer points than the last end says; 13, ends that do not rise; 14, a difference outside
     16 bits, more than 32,767 contours, more than 65,535 instruction bytes.
     """
-    ends, points, instructions = row_of(U16, glyph.ends), point_rows(glyph.points), row_of(U8, glyph.instructions)
+    if not isinstance(glyph, Glyph):
+        raise TypeError(f"a glyph is fontcrunch.Glyph(ends, points, instructions), and not {kind_of(glyph)}")
+    ends, points = row_of(U16, glyph.ends), point_rows(glyph.points)
+    instructions = row_of(U8, bytes_of(glyph.instructions, "a glyph's code of instructions"))
     out = (U8 * _most_bytes(_Room(len(ends), len(points[0]), len(instructions))))()
     report = call("write_glyph", ends, *points, instructions, out)
     return bytes(out[: report.bytes])
 
 
-def _written_out(data: bytes) -> bytes:
-    """The description with the implied points of each contour written out."""
+def _with_contours(data: bytes, made_of: Callable[[Iterable[AnyPoint]], list[Point]]) -> bytes:
+    """The description with each contour made another."""
     glyph = read_glyph(data)
-    made = Glyph.of_contours(map(made_explicit, glyph.contours()), glyph.instructions)
+    made = Glyph.of_contours(map(made_of, glyph.contours()), glyph.instructions)
     if len(made.points) > _MOST_POINTS:
         raise Refused(14)
     return write_glyph(made)
 
 
 def crunch_glyph(
-    data: bytes, settings: Settings = Settings(), *, point_room: int = USUAL_POINT_ROOM, explicit: bool = False
+    data: bytes,
+    settings: Settings = Settings(),
+    *,
+    point_room: int = USUAL_POINT_ROOM,
+    explicit: bool = False,
+    prepare: bool = False,
 ) -> bytes:
     """Crunches a description, each contour as `crunch` does, and writes the new one. Instructions stay as they stand, though
     the points that they name are others now.
@@ -114,13 +128,15 @@ def crunch_glyph(
     Glyphs of fonts are often refused by 4 or 5. Where explicit is true, the description is read, each contour goes through
     `explicit` in order, and what they became is written and crunched: refused as `read_glyph`, then by the first contour
     that is refused there, by 21 or 3, then by 14 where the glyph with its implied points cannot be written, then as above.
+    Where prepare is true each contour goes through `prepared` instead, in the same way.
     """
-    if explicit:
-        data = _written_out(data)
+    data = bytes_of(data, _A_DESCRIPTION)
+    if explicit or prepare:
+        data = _with_contours(data, prepared if prepare else made_explicit)
     held = _room(data)
-    room = held._replace(points=max(held.points, point_room))
+    room = held._replace(points=max(held.points, checked_room(point_room)))
     out = (U8 * _most_bytes(room))()
     glyph = ((U16 * room.ends)(), *points_room(room.points), (U8 * room.instructions)())
-    asked = (row_of(U8, data), *settings._words())
+    asked = (row_of(U8, data), *words_of(settings))
     report = call("crunch_glyph", *asked, out, *glyph, *SCRATCH.rows, assembly_room(room.points))
     return bytes(out[: report.bytes])

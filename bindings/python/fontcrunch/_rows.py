@@ -4,11 +4,11 @@ from __future__ import annotations
 
 import array
 import ctypes
-import operator
 import threading
 from typing import Any, Iterable, NamedTuple, Sequence, Tuple
 
 from ._entries import F64, I16, U8, U16, U32
+from ._wrong import listed, whole, wrong_point
 
 MOST_POINTS_IN = 1024
 """A contour of more points is refused by 3."""
@@ -51,6 +51,8 @@ def row_of(place: Any, numbers: Iterable[Any]) -> Any:
     """A row of these numbers."""
     try:
         held = array.array(_LETTERS[place], numbers)
+    except TypeError as error:
+        raise TypeError(f"a number of another kind: {error}") from None
     except OverflowError as error:
         raise ValueError(f"a number does not fit {8 * ctypes.sizeof(place)} bits: {error}") from None
     return (place * len(held)).from_buffer_copy(held)
@@ -58,10 +60,13 @@ def row_of(place: Any, numbers: Iterable[Any]) -> Any:
 
 def point_rows(points: Iterable[AnyPoint]) -> tuple[Any, Any, Any]:
     """A contour: a place for each point, of its x, of its y and of its flag."""
-    points = list(points)
-    xs, ys = (row_of(I16, (point[k] for point in points)) for k in (0, 1))
-    # other bits of a flag are not looked at
-    return xs, ys, row_of(U8, (point[2] & 1 for point in points))
+    held = listed(points)
+    try:
+        xs, ys = (row_of(I16, [point[k] for point in held]) for k in (0, 1))
+        # other bits of a flag are not looked at
+        return xs, ys, row_of(U8, [point[2] & 1 for point in held])
+    except (TypeError, ValueError, IndexError, KeyError) as error:
+        raise wrong_point(held) or error from None
 
 
 def points_room(places: int) -> tuple[Any, Any, Any]:
@@ -97,7 +102,7 @@ SCRATCH = _Scratch()
 
 def counted(number: int, most: int) -> int:
     """A number of something that is counted from 0. One too large to be held is past all of them, as the largest is."""
-    number = operator.index(number)
+    number = whole(number, "the number of a run or a segment")
     if number < 0:
         raise ValueError(f"{number} is no number of a run or a segment: they are counted from 0")
     return min(number, most)

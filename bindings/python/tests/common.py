@@ -3,6 +3,7 @@
 import importlib.util
 import pathlib
 import struct
+import sys
 import unittest
 
 import fontcrunch
@@ -72,6 +73,21 @@ def model(folder):
     module = importlib.util.module_from_spec(spec)
     spec.loader.exec_module(module)
     return module
+
+
+def needs(found, what):
+    """A class of tests that is passed over where something is missing, which is said in a line."""
+
+    def around(case):
+        if found:
+            return case
+        print(f"{case.__module__}.{case.__name__} is passed over: {what} is missing", file=sys.stderr)
+        return unittest.skip(f"{what} is missing")(case)
+
+    return around
+
+
+needs_fonttools = needs(importlib.util.find_spec("fontTools"), "fontTools (Debian's python3-fonttools)")
 
 
 class Case(unittest.TestCase):

@@ -5,6 +5,7 @@ import unittest
 
 import fontcrunch
 from fontcrunch import Chain, Crunched, Piece, Settings, Verdict
+from fontcrunch._contours import words_of
 from fontcrunch._entries import F64, I16, U8, U32, told
 from fontcrunch._rows import SCRATCH, assembly_room, point_rows, points_room
 
@@ -76,7 +77,7 @@ class NoneRefused(Case):
     """A refusal reports no lookup, also where some fell before it."""
 
     def report(self, line, settings, places=9, scratch=SCRATCH.rows):
-        return told("crunch", *point_rows(points(line)), *settings._words(), *points_room(places), *scratch, assembly_room(places))
+        return told("crunch", *point_rows(points(line)), *words_of(settings), *points_room(places), *scratch, assembly_room(places))
 
     def assert_none(self, number, report):
         self.assertEqual((report.number, report.fallen), (number, 0))
@@ -93,7 +94,7 @@ class NoneRefused(Case):
     def test_chains(self):
         def report(run, places):
             rows = ((U32 * places)(), (U32 * 2)(), (F64 * 2)(), (F64 * 2)(), (U32 * 2 * 2)())
-            return told("chain", *point_rows(points(FELL)), run, *HIGH._words(), *rows, *SCRATCH.rows)
+            return told("chain", *point_rows(points(FELL)), run, *words_of(HIGH), *rows, *SCRATCH.rows)
 
         self.assertEqual((report(0, 2).number, report(0, 2).fallen), (0, 4))
         self.assert_none(9, report(0, 1))

@@ -7,6 +7,7 @@ import re
 import subprocess
 import sys
 import tempfile
+import types
 import unittest
 
 import fontcrunch
@@ -42,16 +43,34 @@ def constant(name):
 
 class Header(Case):
     def test_signatures(self):
-        declared = re.findall(r"^(\w+Report) fontcrunch_(\w+)\((.*?)\);", HEADER, flags=re.M | re.S)
+        declared = re.findall(r"^(fontcrunch_\w+_report) fontcrunch_(\w+)\((.*?)\);", HEADER, flags=re.M | re.S)
         self.assertEqual([name for _, name, _ in declared if name not in _entries.SIGNATURES], [])
         self.assertEqual(len(declared), len(_entries.SIGNATURES))
         for report, name, parameters in declared:
             entry = _entries._ENTRIES[name]
+            self.assertEqual(report, f"fontcrunch_{name}_report")
             self.assertEqual(entry.argtypes, [in_c(word) for word in parameters.split(",")], name)
             self.assert_fields(report, entry.restype)
 
+    def test_names_have_the_prefix(self):
+        """What the headers bring into a program: types, functions, enumerators and macros."""
+        for header in ("fontcrunch.h", "fontcrunch_easy.h"):
+            text = re.sub(r"/\*.*?\*/", "", (TOP / "include" / header).read_text(), flags=re.S)
+            patterns = (
+                r"^typedef (?:struct )?(\w+)",
+                r"^(?:typedef \w+|}) (\w+);",
+                r"^(?:static inline )?(?:const )?\w+ \*?(\w+)\(",
+                r"^    ([A-Z]\w+) = \d+,?$",
+                r"^#define (\w+)",
+            )
+            names = [name for pattern in patterns for name in re.findall(pattern, text, re.M)]
+            self.assertGreater(len(names), 20, header)
+            self.assertEqual([name for name in names if not name.lower().startswith("fontcrunch_")], [], header)
+
     def assert_fields(self, report, kind):
         """A report's fields, each a number or a report."""
+        same = re.search(rf"typedef (\w+) {report};", HEADER)
+        report = same[1] if same else report
         fields = re.search(rf"typedef struct {report} \{{(.*?)\}} {report};", HEADER, re.S)[1]
         pairs = [line.split() for line in fields.replace(";", "").strip().splitlines()]
         self.assertEqual([field for field, _ in kind._fields_], [field for _, field in pairs], report)
@@ -82,7 +101,8 @@ class Module(Case):
         self.assertEqual(result.failed, 0)
 
     def test_all_names(self):
-        public = {name for name in vars(fontcrunch) if not name.startswith("_")}
+        # modules of the package, as pens, are imported by their own names
+        public = {name for name, held in vars(fontcrunch).items() if not (name.startswith("_") or isinstance(held, types.ModuleType))}
         self.assertEqual(set(fontcrunch.__all__), public)
         for name in fontcrunch.__all__:
             self.assertTrue(getattr(fontcrunch, name).__doc__, name)

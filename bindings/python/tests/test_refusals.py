@@ -26,6 +26,7 @@ class ByNumber(Case):
         self.assert_refused(number, fontcrunch.check, contour, 7, SOME_CHAIN, none)
         self.assert_refused(number, fontcrunch.why, contour, 2000)
         self.assert_refused(number, fontcrunch.clean, contour)
+        self.assert_refused(number, fontcrunch.drop_idle, contour)
 
     def of_run_0(self, number, line):
         self.assert_refused(number, fontcrunch.crunch, points(line), RECORDED)
@@ -139,6 +140,8 @@ class ByEntries(Case):
             self.assertEqual(told("why", *rows, 9).number, 1)
             self.assertEqual(told("clean", *rows, *out, (U32 * 2 * 0)()).number, 1)
             self.assertEqual(told("put_back", *rows, (U32 * 2 * 0)(), *out).number, 1)
+            self.assertEqual(told("drop_idle", *rows, *out, (U32 * 2 * 0)()).number, 1)
+            self.assertEqual(told("put_back_idle", *rows, (U32 * 2 * 0)(), *out).number, 1)
             self.assertEqual(told("from_cubics", *rows, *out).number, 1)
             self.assertEqual(told("explicit", *rows, *out).number, 1)
 
@@ -166,6 +169,10 @@ class ByEntries(Case):
         self.assertEqual(told("clean", *twice, *points_room(0), (U32 * 2 * 0)()).number, 18)
         self.assertEqual(told("clean", *twice, *points_room(0), (U32 * 2 * 1)()).number, 9)
         self.assertEqual(told("clean", *twice, *points_room(1), (U32 * 2 * 1)()).number, 0)
+        idle = point_rows(points("0 0 1 0 0 0"))
+        self.assertEqual(told("drop_idle", *idle, *points_room(0), (U32 * 2 * 0)()).number, 18)
+        self.assertEqual(told("drop_idle", *idle, *points_room(0), (U32 * 2 * 1)()).number, 9)
+        self.assertEqual(told("drop_idle", *idle, *points_room(1), (U32 * 2 * 1)()).number, 0)
 
     def test_no_room_for_samples_and_breaks(self):
         hill, out = point_rows(points(HILL)), (*points_room(9),)
@@ -198,6 +205,15 @@ class Sentences(Case):
         unknown = Refused(max(sentences) + 1).sentence
         self.assertNotIn(unknown, sentences.values())
         self.assertEqual(Refused(10**9).sentence, unknown)
+
+    def test_those_of_the_header(self):
+        header = (TOP / "include/fontcrunch.h").read_text()
+        table = header[header.index("fontcrunch_reason(uint32_t number)") :].split("\n}\n", 1)[0]
+        sentences = dict(re.findall(r'case FONTCRUNCH_(\w+):\s+return "([^"]*)";', table))
+        self.assertEqual(sentences.pop("OK"), "nothing is refused")
+        names = dict(re.findall(r"^    FONTCRUNCH_(\w+) = (\d+),?$", header.split("/* Why a point", 1)[0], re.M))
+        self.assertEqual({int(names[name]): said for name, said in sentences.items()}, self.of_rust())
+        self.assertEqual(re.search(r'default: return "([^"]*)";', table)[1], Refused(10**9).sentence)
 
     def test_numbers_of_the_header(self):
         header = (TOP / "include/fontcrunch.h").read_text()

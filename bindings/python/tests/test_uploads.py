@@ -1,10 +1,10 @@
-"""Cleaning: which points go and why, and that they can be put back. Cubics made quads. Implied points written out."""
+"""Cleaning and idle controls: which points go and why, and that they can be put back. Cubics made quads. Implied points written out."""
 
 import random
 import unittest
 
 import fontcrunch
-from fontcrunch import Dropped, Glyph, Settings, Why
+from fontcrunch import Beside, Dropped, Glyph, IdleDrop, Settings, Why
 
 from .common import HILL, RECORDED, STILL, Case, model, points, zigzag
 
@@ -49,6 +49,51 @@ class Cleaning(Case):
         for wrong in ((1, 4), (1, 0), (2**32, 1), (-1, 1)):
             with self.assertRaises(ValueError):
                 fontcrunch.put_back(points("0 0 1"), [wrong])
+
+
+class IdleControls(Case):
+    def drops(self, line, kept, *dropped):
+        upload = points(line)
+        idle = fontcrunch.drop_idle(upload)
+        self.assertEqual(idle.points, points(kept))
+        self.assertEqual(idle.dropped, [IdleDrop(*drop) for drop in dropped])
+        self.assertEqual(fontcrunch.put_back_idle(*idle), upload)
+        self.assertEqual(fontcrunch.drop_idle(idle.points).dropped, [])
+
+    def test_each_end(self):
+        self.drops("0 0 1 0 0 0 5 0 1", "0 0 1 5 0 1", (1, Beside.BEFORE))
+        self.drops("0 0 1 5 0 0 5 0 1", "0 0 1 5 0 1", (1, Beside.AFTER))
+        self.drops("0 0 1 5 0 1 0 0 0", "0 0 1 5 0 1", (2, Beside.AFTER))
+        self.drops("7 9 1 7 9 0", "7 9 1", (1, Beside.BEFORE))
+        self.drops("0 0 1 0 9 0 9 0 1 9 0 1", "0 0 1 0 9 0 9 0 1 9 0 1")
+        self.drops("0 0 1 0 0 0 9 0 1 9 5 0 9 9 1 9 9 0", "0 0 1 9 0 1 9 5 0 9 9 1", (1, Beside.BEFORE), (5, Beside.BEFORE))
+
+    def test_by_the_model(self):
+        rule, made = model("idle"), random.Random(2)
+        for _ in range(500):
+            upload = [(0, 0, 1)]
+            for _ in range(made.randrange(12)):
+                upload.append((made.randrange(2), made.randrange(2), int(made.random() < 0.5 or not upload[-1][2])))
+            _, kept, drops = rule.drop_idle(upload)
+            idle = fontcrunch.drop_idle(upload)
+            self.assertEqual(([tuple(p) for p in idle.points], [tuple(d) for d in idle.dropped]), (kept, drops))
+            self.assertEqual([tuple(p) for p in fontcrunch.put_back_idle(*idle)], upload)
+            self.assertEqual(rule.outline(kept), [rule.straight(segment) for segment in rule.outline(upload)])
+            other = [(made.randrange(14), made.randrange(1, 3)) for _ in range(made.randrange(6))]
+            self.assertEqual([tuple(p) for p in fontcrunch.put_back_idle(kept, other)], rule.put_back(kept, other)[1])
+
+    def test_a_run_keeps_its_bend(self):
+        upload, closed = points("0 0 1 0 0 0 100 0 1 300 0 0 300 200 1 0 200 1"), Settings(closed=True)
+        self.assertEqual(fontcrunch.crunch(upload, closed).points, points("0 0 1 300 200 1 0 200 1"))
+        kept = fontcrunch.drop_idle(upload).points
+        self.assertIn(False, [point.on_curve for point in fontcrunch.crunch(kept, closed).points])
+
+    def test_refusals(self):
+        self.assert_refused(3, fontcrunch.put_back_idle, zigzag(1024), [(1, 1)])
+        self.assert_refused(2, fontcrunch.put_back_idle, [], [])
+        for wrong in ((1, 3), (1, 0), (2**32, 1), (-1, 1)):
+            with self.assertRaises(ValueError):
+                fontcrunch.put_back_idle(points("0 0 1"), [wrong])
 
 
 class Cubics(Case):

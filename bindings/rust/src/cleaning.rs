@@ -40,6 +40,7 @@ pub struct Dropped {
 
 /// A cleaned contour.
 #[derive(Clone, Debug, PartialEq, Eq)]
+#[non_exhaustive]
 pub struct Cleaned {
     /// The points kept, in order. None of refusals 1 to 5 is given for them.
     pub points: Vec<Point>,

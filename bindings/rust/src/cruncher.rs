@@ -35,6 +35,7 @@ impl Point {
 
 /// A crunched contour.
 #[derive(Clone, Debug, PartialEq, Eq)]
+#[non_exhaustive]
 pub struct Crunched {
     /// Its points, with implied points dropped: in reverse order, or in closed mode in order.
     pub points: Vec<Point>,
@@ -63,8 +64,9 @@ pub struct Piece {
     pub control: (f64, f64),
 }
 
-/// The pieces of one run.
-#[derive(Clone, Debug, PartialEq)]
+/// The pieces of one run. One of anyone's pieces is made by [`Chain::new`].
+#[derive(Clone, Debug, Default, PartialEq)]
+#[non_exhaustive]
 pub struct Chain {
     /// The pieces in order. There is none where the run leaves the contour unchanged.
     pub pieces: Vec<Piece>,
@@ -82,8 +84,16 @@ pub struct Chain {
     pub fallen: usize,
 }
 
+impl Chain {
+    /// A chain of these pieces, as it can be checked. What the checker does not look at is 0 or empty.
+    pub fn new(pieces: Vec<Piece>, score: f64) -> Chain {
+        Chain { pieces, score, ..Chain::default() }
+    }
+}
+
 /// What the checker says of a chain.
 #[derive(Clone, Copy, Debug, PartialEq, Eq)]
+#[non_exhaustive]
 pub struct Verdict {
     /// Whether the chain is valid for its run and has the score that it says.
     pub accepted: bool,

@@ -1,5 +1,5 @@
 //! The library's entries, each called in one place: those for crunching here, the others in `cleaning`, `cubics`, `editions`, `explicit`,
-//! `glif`, `glyph` and `reasons`.
+//! `glif`, `glyph`, `idle` and `reasons`.
 //!
 //! The entries ask only that a row that is written overlaps no other, and that pointers are aligned and not
 //! null. Rust's slices are so, empty ones too, and those lent by `&mut` are apart from all others. So these
@@ -11,6 +11,7 @@ pub(crate) mod editions;
 pub(crate) mod explicit;
 pub(crate) mod glif;
 pub(crate) mod glyph;
+pub(crate) mod idle;
 pub(crate) mod reasons;
 
 use crate::rows::{ChainRows, Contour, Output, Scratch};

@@ -116,9 +116,9 @@ const MOST_TEXT: usize = 48;
 
 /// Writes contours into a file, in place of its own, one for each.
 ///
-/// Refused, in this order: what [`read`] refuses; [`UnevenRows`](Refusal::UnevenRows), where the file has another
-/// number of contours; [`NoPoint`](Refusal::NoPoint), where a contour has none;
-/// [`TooLarge`](Refusal::TooLarge), which this function gives itself, where there are more than 65,536 points.
+/// Refused, in this order: [`TooLarge`](Refusal::TooLarge), which this function gives itself, where there are more
+/// than 65,536 points; what [`read`] refuses; [`UnevenRows`](Refusal::UnevenRows), where the file has another number of
+/// contours; [`NoPoint`](Refusal::NoPoint), where a contour has none.
 pub fn write(bytes: &[u8], contours: &[Vec<Point>]) -> Result<Vec<u8>, Refusal> {
     let points: Vec<Point> = contours.concat();
     let xs: Vec<i16> = points.iter().map(|p| p.x).collect();

@@ -182,15 +182,18 @@ impl Glyph {
         Ok(out)
     }
 
-    /// The glyph with the implied points of each contour written out. The first contour that is refused decides.
-    fn explicit(&self) -> Result<Glyph, Refusal> {
-        let mut made = Glyph { instructions: self.instructions.clone(), ..Glyph::default() };
-        let contours = self.contours().map(crate::explicit).collect::<Result<Vec<_>, _>>()?;
+    /// The glyph with each contour made another, in order. The first contour that is refused decides.
+    pub(crate) fn with_contours(
+        &self,
+        made: impl Fn(&[Point]) -> Result<Vec<Point>, Refusal>,
+    ) -> Result<Glyph, Refusal> {
+        let mut glyph = Glyph { instructions: self.instructions.clone(), ..Glyph::default() };
+        let contours = self.contours().map(made).collect::<Result<Vec<_>, _>>()?;
         for contour in contours {
-            made.points.extend(contour);
-            made.ends.push(u16::try_from(made.points.len() - 1).map_err(|_| Refusal::TooLarge)?);
+            glyph.points.extend(contour);
+            glyph.ends.push(u16::try_from(glyph.points.len() - 1).map_err(|_| Refusal::TooLarge)?);
         }
-        Ok(made)
+        Ok(glyph)
     }
 
     /// The points of each contour.
@@ -253,6 +256,6 @@ impl Cruncher {
     /// [`TooLarge`](Refusal::TooLarge), where the glyph with its implied points cannot be written: a difference is
     /// outside 16 bits, or there are more than 65,536 points; then as [`Cruncher::crunch_glyph`].
     pub fn crunch_glyph_explicit(&mut self, bytes: &[u8]) -> Result<Vec<u8>, Refusal> {
-        self.crunch_glyph(&read(bytes)?.explicit()?.to_bytes()?)
+        self.crunch_glyph(&read(bytes)?.with_contours(crate::explicit)?.to_bytes()?)
     }
 }

@@ -39,7 +39,8 @@
 //! which this follows takes (0, 0). [`Crunched::fallen`], [`Chain::fallen`] and [`Verdict::fallen`] count them; they
 //! change nothing else.
 //!
-//! [`Cruncher::why`] tells which tests make the start of a segment a corner.
+//! [`Cruncher::why`] tells which tests make the start of a segment a corner. [`Cruncher::trace`] tells all of it at
+//! once, run by run and piece by piece: what each piece replaced, its place, its share of the score and its distance.
 //!
 //! # Two editions
 //!
@@ -59,6 +60,11 @@
 //! A font's contours may start off-curve, and leave out on-curve points midway between two off-curve ones.
 //! [`explicit`] turns such a contour to its first on-curve point and writes these points out.
 //!
+//! # Idle controls
+//!
+//! A control that stands on an end of its curve flattens its run. [`drop_idle`] drops such controls and lists each;
+//! [`put_back_idle`] gives the contour's points again. [`Cruncher::prepared`] writes out implied points, cleans, drops idle controls and then crunches.
+//!
 //! # Glyph descriptions
 //!
 //! [`glyph`] reads and writes OpenType's simple glyph descriptions; [`Cruncher::crunch_glyph`] crunches one, contour
@@ -69,13 +75,33 @@
 //! [`glif`] reads the contours of files of UFO's GLIF, as `docs/GLIF.md` has them, and writes others into them;
 //! [`Cruncher::crunch_glif`] crunches a file, contour by contour.
 //!
+//! # Refusals
+//!
+//! What is not done is a [`Refusal`], with the same number and the same words in every program over the library. Where
+//! several reasons hold, the first in an entry's order is given; `docs/REFUSALS.md` has the order of each in one table.
+//!
 //! # Linking
 //!
-//! `tools/library`, run at the repository's top, writes the library where this crate looks for
-//! it. The environment variable `FONTCRUNCH_LIB_DIR` names another folder.
+//! The archive `libfontcrunch.a` is linked into whatever uses this crate; nothing is loaded when it runs. The build looks
+//! for it in one folder:
+//!
+//! 1. that of the environment variable `FONTCRUNCH_LIB_DIR`, an absolute path, where it is set: `PREFIX/lib` after
+//!    `tools/install PREFIX`;
+//! 2. else `build` at the top of the repository that this crate lies in, where `tools/library` writes it.
+//!
+//! Where there is none, or one for another processor, the build stops and says so. The archive is for Linux on the processor
+//! that it was made on, x86-64 or Arm (aarch64), and needs nothing but the C library.
+//!
+//! # Versions
+//!
+//! Within one major version equal orders give equal bytes. Structs to which fields may be added are `#[non_exhaustive]`:
+//! [`Settings`] are made by their functions, and a chain to be checked by [`Chain::new`].
 
 #![deny(missing_docs)]
 #![deny(unsafe_op_in_unsafe_fn)]
+
+/// The version, which the header `fontcrunch.h`, the command and the Python module have too.
+pub const VERSION: &str = env!("CARGO_PKG_VERSION");
 
 mod cleaning;
 mod cruncher;
@@ -85,17 +111,24 @@ mod entries;
 mod explicit;
 pub mod glif;
 pub mod glyph;
+mod idle;
+pub mod outline;
+mod prepared;
 mod reasons;
 mod refusal;
 mod rows;
 mod settings;
+pub mod trace;
 
 pub use cleaning::{clean, put_back, Cleaned, Dropped, Why};
 pub use cruncher::{Chain, Crunched, Cruncher, Piece, Point, Verdict};
 pub use cubics::from_cubics;
 pub use editions::Editions;
 pub use explicit::explicit;
+pub use idle::{drop_idle, put_back_idle, Beside, Idle, IdleDrop};
+pub use prepared::prepared;
 pub use reasons::Reasons;
 pub use refusal::Refusal;
 pub use rows::{ANSWER_ROOM, BREAK_ROOM, MOST_PIECES, MOST_POINTS_IN, SAMPLE_ROOM, USUAL_POINT_ROOM};
 pub use settings::{Settings, CRATE_PENALTY, DEFAULT_PENALTY};
+pub use trace::Trace;

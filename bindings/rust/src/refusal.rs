@@ -5,8 +5,8 @@ use std::fmt;
 
 /// Why a contour, or a run of it, is refused.
 ///
-/// Where several reasons hold, 1 to 5 are tested first, in that order; then 16; then 10 or 11; then runs are
-/// worked in order, and the first 6, 7 or 8 met is given; 9 comes last.
+/// Where several reasons hold, the first in the order of the entry that is called is given: `docs/REFUSALS.md`, at the
+/// repository's top, has the order of each in one table.
 #[derive(Clone, Copy, Debug, PartialEq, Eq, Hash)]
 #[non_exhaustive]
 pub enum Refusal {

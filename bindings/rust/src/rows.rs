@@ -143,7 +143,7 @@ impl GlifRows {
     }
 }
 
-/// The points that come out of cleaning, of cubics, and with implied ones written out.
+/// The points that come out of cleaning, of cubics, without idle controls, and with implied ones written out.
 pub(crate) struct PointRows {
     pub xs: Box<[i16]>,
     pub ys: Box<[i16]>,

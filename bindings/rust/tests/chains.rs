@@ -41,7 +41,7 @@ fn a_known_chain() {
 #[test]
 fn a_run_that_goes_round_comes_back_to_segment_0() {
     let square = points(&[50, 0, 1, 100, 0, 1, 100, 60, 1, 0, 60, 1, 0, 0, 1]);
-    let closed = Settings { closed: true, ..Settings::of_crate() };
+    let closed = Settings::of_crate().with_closed(true);
     let chain = Cruncher::new(closed).chain(&square, 3).unwrap();
     assert_eq!(chain.segments, [(4, 0)]);
 }
@@ -166,7 +166,7 @@ fn pairs_are_not_looked_at() {
 fn a_good_shape_with_the_score_of_another() {
     // the straight piece over the whole run
     let pieces = vec![Piece { start: 0, end: 469, control: (65.0, 60.0) }];
-    assert!(!accepts(&Chain { pieces, ..hill_chain() }));
+    assert!(!accepts(&Chain::new(pieces, hill_chain().score)));
 }
 
 #[test]
@@ -189,7 +189,8 @@ fn nans_are_equal_whatever_their_bits() {
 fn an_unchanged_run_has_no_chain() {
     let mut cruncher = as_recorded();
     let chain = cruncher.chain(&still(), 0).unwrap();
-    assert_eq!(chain, Chain { pieces: vec![], score: 0.0, pairs: 1, segments: vec![], fallen: 0 });
+    assert_eq!((chain.pairs, chain.fallen), (1, 0));
+    assert!(chain.pieces.is_empty() && chain.segments.is_empty());
     assert_eq!(chain.score.to_bits(), 0);
     assert_eq!(cruncher.check(&still(), 0, &chain), Ok(false));
 }

@@ -6,7 +6,7 @@ use common::{as_recorded, hill, letter, points};
 use fontcrunch::{Cruncher, Refusal, Settings};
 
 fn closed() -> Cruncher {
-    Cruncher::new(Settings { closed: true, ..Settings::of_crate() })
+    Cruncher::new(Settings::of_crate().with_closed(true))
 }
 
 fn assert_crunches(contour: &[i16], pairs: usize, out: &[i16]) {
@@ -50,10 +50,12 @@ fn no_corner_and_one() {
 }
 
 #[test]
-fn an_implied_start_is_dropped() {
-    let crunched =
-        closed().crunch(&points(&[10, -8, 1, 34, -2, 0, 44, 32, 1, -10, 37, 1, -14, -14, 0])).unwrap();
-    assert_eq!(crunched.points, points(&[34, -2, 0, 44, 32, 1, -10, 37, 1, -14, -14, 0]));
+fn the_start_stays_where_it_is_a_midpoint() {
+    let contour = [10, -8, 1, 34, -2, 0, 44, 32, 1, -10, 37, 1, -14, -14, 0];
+    assert_crunches(&contour, 2, &contour);
+    // others go
+    assert_crunches(&[0, 0, 1, 10, 10, 0, 0, 0, 1, -10, -10, 0], 0, &[0, 0, 1, 10, 10, 0, -10, -10, 0]);
+    assert_crunches(&[5, 5, 1, 5, 5, 0], 1, &[5, 5, 1, 5, 5, 0]);
 }
 
 #[test]
@@ -95,7 +97,7 @@ fn the_counters_of_a_letter_come_out_whole() {
 #[test]
 fn room_is_not_needed_for_the_start_again() {
     let room = |places| {
-        let settings = Settings { closed: true, ..Settings::of_crate() };
+        let settings = Settings::of_crate().with_closed(true);
         Cruncher::with_point_room(settings, places).crunch(&points(&[0, 0, 1, 100, 0, 1, 0, 100, 1]))
     };
     assert!(room(3).is_ok());

@@ -1,35 +1,14 @@
 //! The command: lines in and out, messages, exit status, files, pictures.
 
+mod common;
+
 use std::fs;
 use std::io::{BufRead, BufReader, Write};
 use std::path::PathBuf;
-use std::process::{Command, Output, Stdio};
+use std::process::{Command, Stdio};
 use std::thread;
 
-fn command() -> Command {
-    Command::new(env!("CARGO_BIN_EXE_fontcrunch"))
-}
-
-/// Runs the command on an input. What cannot be written to it was not read, which is not told here.
-fn run(words: &[&str], input: &[u8]) -> Output {
-    let mut child = command()
-        .args(words)
-        .stdin(Stdio::piped())
-        .stdout(Stdio::piped())
-        .stderr(Stdio::piped())
-        .spawn()
-        .unwrap();
-    let mut stdin = child.stdin.take().unwrap();
-    let bytes = input.to_vec();
-    let writer = thread::spawn(move || _ = stdin.write_all(&bytes));
-    let output = child.wait_with_output().unwrap();
-    writer.join().unwrap();
-    output
-}
-
-fn text(bytes: &[u8]) -> String {
-    String::from_utf8(bytes.to_vec()).unwrap()
-}
+use common::running::{command, folder, path, run, text};
 
 /// Lines in, lines out, at the penalty of the Rust that this follows.
 fn answers(input: &str) -> Vec<String> {
@@ -42,18 +21,6 @@ fn answers_to(words: &[&str], input: &str) -> Vec<String> {
 
 fn status(words: &[&str], input: &str) -> i32 {
     run(words, input.as_bytes()).status.code().unwrap()
-}
-
-/// A folder for one test, empty at first.
-fn folder(name: &str) -> PathBuf {
-    let folder = PathBuf::from(env!("CARGO_TARGET_TMPDIR")).join(name);
-    let _ = fs::remove_dir_all(&folder);
-    fs::create_dir_all(&folder).unwrap();
-    folder
-}
-
-fn path(folder: &std::path::Path, name: &str) -> String {
-    folder.join(name).to_str().unwrap().to_owned()
 }
 
 /// The letter that comes with the repository.
@@ -190,6 +157,7 @@ fn messages_name_the_input_the_line_and_the_reason() {
     assert_eq!(
         text(&output.stderr),
         "fontcrunch: (standard input):2: refused 4: the first point is off-curve; start with an on-curve one\n\
+         fontcrunch: (standard input):2: point 0 is off-curve; --prepare starts at the first on-curve one\n\
          fontcrunch: (standard input):3: malformed: number 3, 'y', is not a whole number\n"
     );
 }
@@ -203,8 +171,10 @@ fn shell(command: &str) -> String {
 
 #[test]
 fn the_examples_of_each_page_are_so() {
-    for tool in ["crunch", "editions", "why", "chain", "check", "glyph", "glif", "clean", "cubic", "explicit"]
-    {
+    for tool in [
+        "crunch", "ufo", "editions", "trace", "why", "chain", "check", "glyph", "glif", "clean", "idle",
+        "cubic", "explicit",
+    ] {
         let page = run(&[tool, "--help"], b"");
         assert!(page.status.success());
         let page = text(&page.stdout);
@@ -246,6 +216,7 @@ fn the_default_is_a_penalty_of_32() {
     assert_ne!(at(&["--penalty", "256"]), at(&["--penalty", "1"]));
     assert_eq!(at(&["clean", "--crunch"]), at(&[]));
     assert_eq!(at(&["clean", "--crunch", "--penalty", "16"]), [RECORDED_COUNTER]);
+    assert_eq!(at(&["idle", "--crunch", "--penalty", "16"]), [RECORDED_COUNTER]);
 }
 
 // examples/c/expected has the same
@@ -259,6 +230,7 @@ fn a_penalty_out_of_range_is_refused_line_by_line_after_1_to_5() {
     for penalty in ["0", "257", "99999999999999999999"] {
         assert_eq!(answers_to(&["--penalty", penalty], input), lines);
         assert_eq!(answers_to(&["clean", "--crunch", "--penalty", penalty], input), lines);
+        assert_eq!(answers_to(&["idle", "--crunch", "--penalty", penalty], input), lines);
     }
     assert_eq!(status(&["--penalty", "0"], "7 9 1\n"), 1);
     let cubics = "0 0 1 1 1 0\n7 9 1\n";
@@ -368,8 +340,9 @@ fn a_letter_is_drawn() {
         "after: 43 points",
         "letter.txt, line 3",
         "1,855 pairs tried",
-        "at the penalty 1.0, 16 sixteenths",
-        "<title>replaces segments 2 to 3</title>",
+        "at the penalty 1.0 (16 sixteenths), that of the crate, since none was given",
+        "<title>replaces segments 2 to 3, at most 0.18 units away</title>",
+        "<title>segment 7 at (438, 403): turns back in y; bend of 38.4 degrees, limit 1.15</title>",
     ] {
         assert!(svg.contains(words), "{words}");
     }
@@ -413,15 +386,17 @@ fn every_kind_of_contour_is_drawn() {
     for words in ["refused 2", "refused 4", "refused 5", "refused 6", "refused 7", "refused 8", "unchanged"] {
         assert!(svg.contains(words), "{words}");
     }
-    assert!(svg.contains("it is run 0, marked on the left"));
-    assert!(!svg.contains("malformed"));
+    assert!(svg.contains("marked on the left"));
+    let wrong = drawn("wrong", "7 9 1\n1 2\n");
+    assert!(wrong.contains("line 2") && wrong.contains(">malformed</text>"));
 }
 
 #[test]
 fn a_picture_says_at_which_penalty_it_was_drawn() {
-    for (penalty, words) in
-        [("32", "at the penalty 2.0, 32 sixteenths"), ("1", "at the penalty 0.0625, 1 sixteenth")]
-    {
+    for (penalty, words) in [
+        ("32", "at the penalty 2.0 (32 sixteenths)<"),
+        ("1", "at the penalty 0.0625 (1 sixteenth); an order"),
+    ] {
         let svg = drawn_with(&["--penalty", penalty], "penalties", "7 9 1\n");
         assert!(svg.contains(words), "{words}");
     }
@@ -487,7 +462,28 @@ fn a_picture_that_cannot_be_written_loses_no_answer() {
     let output = run(&["--svg", "/nonexistent/picture.svg"], b"7 9 1\n");
     assert_eq!(text(&output.stdout), "ok 0 7 9 1\n");
     assert_eq!(output.status.code(), Some(2));
-    assert!(text(&output.stderr).starts_with("fontcrunch: /nonexistent/picture.svg: "));
+    assert!(text(&output.stderr).contains("\nfontcrunch: /nonexistent/picture.svg: "));
+}
+
+#[test]
+fn contours_of_a_file_are_drawn_together() {
+    let apart = drawn("apart", "0 0 1 0 9 1 9 9 1 9 0 1\n2 2 1 7 2 1 7 7 1 2 7 1\n");
+    let together =
+        drawn_with(&["--together"], "together", "0 0 1 0 9 1 9 9 1 9 0 1\n2 2 1 7 2 1 7 7 1 2 7 1\nx\n");
+    assert!(height(&together) < height(&apart));
+    assert!(together.contains("2 contours, 8 \u{2192} 8 points") && together.contains("line 3: "));
+    assert_eq!(status(&["--together"], ""), 2);
+}
+
+#[test]
+fn whoever_names_no_penalty_for_a_picture_is_told_which_holds() {
+    let picture = path(&folder("told"), "picture.svg");
+    let told = "fontcrunch: the penalty is 16, that of Settings::of_crate(), since none is given; \
+                an order's default is another, 32\n";
+    assert_eq!(text(&run(&["--svg", &picture], b"7 9 1\n").stderr), told);
+    assert_eq!(text(&run(&["trace"], b"7 9 1\n").stderr), told);
+    assert_eq!(text(&run(&["--svg", &picture, "--penalty", "16"], b"7 9 1\n").stderr), "");
+    assert_eq!(text(&run(&[], b"7 9 1\n").stderr), "");
 }
 
 #[test]
@@ -842,6 +838,7 @@ fn the_same_for_any_number_of_threads() {
         &["--penalty", "16"][..],
         &["why"],
         &["clean", "--crunch"],
+        &["idle", "--crunch"],
         &["chain", "0", "--penalty", "16", "--fallen"],
         &["glyph", "read"],
     ] {

@@ -6,7 +6,7 @@ use common::{hill, letter, still, zigzag};
 use fontcrunch::{Cruncher, Editions, Point, Refusal, Settings};
 
 fn at(penalty: u32, closed: bool) -> Settings {
-    Settings { penalty, closed, ..Settings::default() }
+    Settings::default().with_penalty(penalty).with_closed(closed)
 }
 
 fn alone(contour: &[Point], penalty: u32, closed: bool) -> Result<fontcrunch::Crunched, Refusal> {

@@ -3,7 +3,7 @@
 mod common;
 
 use common::{as_recorded, hill, letter, points, still};
-use fontcrunch::{Chain, Crunched, Cruncher, Editions, Piece, Point, Refusal, Settings, Verdict};
+use fontcrunch::{Chain, Cruncher, Editions, Piece, Point, Refusal, Settings, Verdict};
 
 /// On whole units some lookups of run 0 fall past its samples.
 fn fell() -> Vec<Point> {
@@ -11,7 +11,7 @@ fn fell() -> Vec<Point> {
 }
 
 fn at(penalty: u32) -> Cruncher {
-    Cruncher::new(Settings { penalty, whole_units: true, closed: false })
+    Cruncher::new(Settings::default().with_penalty(penalty).with_whole_units(true))
 }
 
 fn high() -> Cruncher {
@@ -21,7 +21,8 @@ fn high() -> Cruncher {
 #[test]
 fn a_contour_counts_every_attempt() {
     let out = points(&[-1795, -900, 1, -3, 7, 1, 64, 2, 0, -297, 0, 1, -1795, 0, 1]);
-    assert_eq!(high().crunch(&fell()), Ok(Crunched { points: out, pairs: 3641, fallen: 4 }));
+    let crunched = high().crunch(&fell()).unwrap();
+    assert_eq!((crunched.points, crunched.pairs, crunched.fallen), (out, 3641, 4));
     // the full search tries more
     let crunched = at(16).crunch(&fell()).unwrap();
     assert_eq!((crunched.pairs, crunched.fallen), (1_662_572, 8));
@@ -37,7 +38,7 @@ fn a_run_counts_its_own() {
 
 #[test]
 fn in_closed_mode_too() {
-    let mut cruncher = Cruncher::new(Settings { closed: true, ..high().settings() });
+    let mut cruncher = Cruncher::new(high().settings().with_closed(true));
     assert_eq!(cruncher.crunch(&fell()).unwrap().fallen, 4);
 }
 
@@ -74,7 +75,11 @@ fn refusal_8_stays_where_lookups_fell_before_it() {
 fn bent() -> Chain {
     let pieces = vec![Piece { start: 0, end: 1821, control: (90.0, 0.0) }];
     let score = f64::from_bits(0x4089_1b56_6b74_f7c1);
-    Chain { pieces, score, pairs: 1, segments: vec![], fallen: 0 }
+    Chain::new(pieces, score)
+}
+
+fn said(verdict: Result<Verdict, Refusal>) -> Result<(bool, usize), Refusal> {
+    verdict.map(|verdict| (verdict.accepted, verdict.fallen))
 }
 
 #[test]
@@ -82,8 +87,8 @@ fn the_checker_counts_its_chain_alone() {
     let mut cruncher = high();
     // attempts of the run fell, and none of the pieces that were taken
     let found = cruncher.chain(&fell(), 0).unwrap();
-    assert_eq!(cruncher.verdict(&fell(), 0, &found), Ok(Verdict { accepted: true, fallen: 0 }));
-    assert_eq!(cruncher.verdict(&fell(), 0, &bent()), Ok(Verdict { accepted: true, fallen: 2 }));
+    assert_eq!(said(cruncher.verdict(&fell(), 0, &found)), Ok((true, 0)));
+    assert_eq!(said(cruncher.verdict(&fell(), 0, &bent())), Ok((true, 2)));
     assert_eq!(cruncher.check(&fell(), 0, &bent()), Ok(true));
 }
 
@@ -93,17 +98,17 @@ fn the_checker_counts_where_it_measures() {
     let mut verdict = |change: &dyn Fn(&mut Chain)| {
         let mut chain = bent();
         change(&mut chain);
-        cruncher.verdict(&fell(), 0, &chain)
+        said(cruncher.verdict(&fell(), 0, &chain))
     };
-    let measured = Ok(Verdict { accepted: false, fallen: 2 });
+    let measured = Ok((false, 2));
     assert_eq!(verdict(&|chain| chain.score = chain.score.next_up()), measured);
     assert_eq!(verdict(&|chain| chain.score = f64::NAN), measured);
-    let not_measured = Ok(Verdict { accepted: false, fallen: 0 });
+    let not_measured = Ok((false, 0));
     assert_eq!(verdict(&|chain| chain.pieces[0].end = 1820), not_measured);
     assert_eq!(verdict(&|chain| chain.pieces[0].control.0 = 90.5), not_measured);
     assert_eq!(verdict(&|chain| chain.pieces.clear()), not_measured);
     // what the chain says of its search is not looked at
-    assert_eq!(verdict(&|chain| chain.fallen = 7), Ok(Verdict { accepted: true, fallen: 2 }));
+    assert_eq!(verdict(&|chain| chain.fallen = 7), Ok((true, 2)));
 }
 
 #[test]

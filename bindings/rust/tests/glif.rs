@@ -112,8 +112,8 @@ fn crunching_a_file_is_reading_crunching_and_writing() {
     for settings in [
         Settings::default(),
         Settings::of_crate(),
-        Settings { penalty: 7, whole_units: true, closed: true },
-        Settings { penalty: 0, ..Settings::default() },
+        Settings::default().with_penalty(7).with_whole_units(true).with_closed(true),
+        Settings::default().with_penalty(0),
     ] {
         let mut cruncher = Cruncher::new(settings);
         let contours: Result<Vec<Vec<Point>>, Refusal> = glif::read(&bytes)
@@ -126,7 +126,7 @@ fn crunching_a_file_is_reading_crunching_and_writing() {
     }
     // without a contour the penalty is looked at all the same
     assert!(Cruncher::new(Settings::default()).crunch_glif(&file("")).is_ok_and(|same| same == file("")));
-    let none = Settings { penalty: 257, ..Settings::default() };
+    let none = Settings::default().with_penalty(257);
     assert_eq!(Cruncher::new(none).crunch_glif(&file("")), Err(Refusal::NoSuchPenalty));
     // the refusals of the file come first
     assert_eq!(Cruncher::new(none).crunch_glif(b"<glyph>"), Err(Refusal::Malformed));

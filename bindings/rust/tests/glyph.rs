@@ -80,9 +80,9 @@ fn a_glyph_is_crunched_contour_by_contour() {
     let crate_mode = Settings::of_crate();
     for settings in [
         crate_mode,
-        Settings { penalty: 256, ..crate_mode },
-        Settings { whole_units: true, ..crate_mode },
-        Settings { closed: true, ..crate_mode },
+        crate_mode.with_penalty(256),
+        crate_mode.with_whole_units(true),
+        crate_mode.with_closed(true),
     ] {
         let mut cruncher = Cruncher::new(settings);
         let new = glyph::read(&cruncher.crunch_glyph(&glyph.to_bytes().unwrap()).unwrap()).unwrap();
@@ -100,7 +100,7 @@ fn the_settings_are_those_of_the_cruncher() {
         instructions: vec![],
     };
     let at = |settings, glyph: &Glyph| Cruncher::new(settings).crunch_glyph(&glyph.to_bytes().unwrap());
-    let closed = Settings { closed: true, ..Settings::default() };
+    let closed = Settings::default().with_closed(true);
     let mut triangle = [Point::on(0, 0), Point::on(100, 0), Point::on(0, 100)];
     let forward = one(&triangle);
     triangle.reverse();
@@ -109,13 +109,13 @@ fn the_settings_are_those_of_the_cruncher() {
     // on half units its breaks are too many
     let bow = one(&[Point::on(0, 0), Point::off(700, 0), Point::on(700, 700)]);
     assert_eq!(at(Settings::default(), &bow), Err(Refusal::TooManyBreaks));
-    assert!(at(Settings { whole_units: true, ..Settings::default() }, &bow).is_ok());
+    assert!(at(Settings::default().with_whole_units(true), &bow).is_ok());
 }
 
 #[test]
 fn refusals_of_crunching() {
     let of = |glyph: &Glyph, penalty| {
-        let settings = Settings { penalty, ..Settings::default() };
+        let settings = Settings::default().with_penalty(penalty);
         Cruncher::new(settings).crunch_glyph(&glyph.to_bytes().unwrap())
     };
     let none = Glyph::default();

@@ -15,7 +15,7 @@ fn assert_refused(contour: &[Point], refusal: Refusal) {
 
 fn some_chain() -> Chain {
     let pieces = vec![Piece { start: 0, end: 1, control: (0.0, 0.0) }];
-    Chain { pieces, score: 1.0, pairs: 1, segments: vec![], fallen: 0 }
+    Chain::new(pieces, 1.0)
 }
 
 #[test]

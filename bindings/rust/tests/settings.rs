@@ -6,7 +6,7 @@ use common::{as_recorded, hill, letter, points};
 use fontcrunch::{Chain, Cruncher, Point, Refusal, Settings, CRATE_PENALTY, DEFAULT_PENALTY};
 
 fn at_penalty(penalty: u32) -> Cruncher {
-    Cruncher::new(Settings { penalty, ..Settings::default() })
+    Cruncher::new(Settings::default().with_penalty(penalty))
 }
 
 fn chain_at(penalty: u32, contour: &[Point]) -> Chain {
@@ -16,10 +16,7 @@ fn chain_at(penalty: u32, contour: &[Point]) -> Chain {
 #[test]
 fn the_default_is_twice_the_penalty_of_the_rust() {
     assert_eq!((DEFAULT_PENALTY, CRATE_PENALTY), (32, 16));
-    assert_eq!(
-        Cruncher::new(Settings::default()).settings(),
-        Settings { penalty: 32, ..Settings::of_crate() }
-    );
+    assert_eq!(Cruncher::new(Settings::default()).settings(), Settings::of_crate().with_penalty(32));
     let mut by_default = Cruncher::new(Settings::default());
     assert_eq!(by_default.chain(&hill(), 0), at_penalty(32).chain(&hill(), 0));
     assert_ne!(by_default.chain(&hill(), 0), as_recorded().chain(&hill(), 0));
@@ -49,7 +46,7 @@ fn a_larger_penalty_asks_for_fewer_pieces() {
 }
 
 fn in_whole_units(settings: Settings) -> Cruncher {
-    Cruncher::new(Settings { whole_units: true, ..settings })
+    Cruncher::new(settings.with_whole_units(true))
 }
 
 #[test]

@@ -1,14 +1,12 @@
 -- RK4 step by step: first over any number of values and any rates, then for the length. Assumes nothing.
-use Prim.Native.Nat.{ℕ, zero, suc, _+_, _*_, _/_, _%_, _-_, _≤_, _<_}
+use Prim.Native.Nat.{ℕ, suc, _+_, _-_, _≤_, _<_}
 use mathlib.Core.Path.{_≡_, refl, _∙_}
 use mathlib.Core.List.{List, [], _∷_}
 use native.Mathlib.Omega.{arith}
 use lib.Ieee.{Float, binary64, add}
-use Rattle.geometry.specs.declared.Quad.{Quad}
-use Rattle.float.specs.Numbers.{nought}
-use Rattle.arclen.specs.Rk4.{Tried, at, refused, Rates, halfOf, moved, grownBy, grownAll, rk4, walk}
-use Rattle.arclen.specs.Arclen.{tenth, arclenFunctorOf, speedOf, lengthRates, rk4One, arclenOf}
-use Rattle.arclen.specs.Stages.{timeAt, lengthAt, stageOf, stageAt}
+use Rattle.arclen.specs.Rk4.{Tried, at, refused, Rates, halfOf, movedBy, moved, grownBy, grownAll, rk4, walk}
+use Rattle.arclen.specs.Arclen.{speedOf, lengthRates, rk4One}
+use Rattle.arclen.specs.One.{RatesOne, StepsOne}
 use Rattle.arclen.specs.declared.ArclenFunctor.{ArclenFunctor}
 
 -- any number of values: the step from its four rates, and the four ways in which it is refused
@@ -62,23 +60,6 @@ module _ (f : Rates) (h t : Float) (y : List Float) where
       let none : n - k ≡ 0 = omega arith in
       rw none
 
--- n steps from the time 0, by the values z k after k steps
-module _ (f : Rates) (h : Float) (n : ℕ) (z : ℕ → List Float) where
-  abbrev Reaches : ℕ → Type 0
-  Reaches i = (k : ℕ) → k < i → rk4 f h (timeAt h k) (z k) ≡ at (z (suc k))
-
-  pub reach : (i : ℕ) → i ≤ n → Reaches i → walk f h n nought (z 0) ≡ walk f h (n - i) (timeAt h i) (z i)
-  unfolding timeAt
-  reach zero le all =
-      let all-left : n - 0 ≡ n = omega arith in
-      rw all-left
-  reach (suc i) le all =
-      let same : n - suc i ≡ n - (i + 1) = omega arith in
-      reach i (omega arith) (λ k less. all k (omega arith)) ∙ rw same (goes f h (timeAt h i) (z i) n i (omega arith) (all i (omega arith)))
-
-  pub all-steps : Reaches n → walk f h n nought (z 0) ≡ at (z n)
-  all-steps all = reach n (omega arith) all ∙ done f h (timeAt h n) (z n) n n (omega arith)
-
 -- one value, the length: the two middle rates are one
 module _ (f : ArclenFunctor) (h t y : Float) where
   abbrev v : Float
@@ -99,24 +80,14 @@ module _ (f : ArclenFunctor) (h t y : Float) where
   pub one-value : rk4 (lengthRates f) h t (y ∷ []) ≡ at (rk4One f h t y ∷ [])
   one-value = longer-step ∙ rw is-longer
 
--- ten steps give the length
-pub length-whole : (q : Quad) (f : ArclenFunctor) (y : Float) → f ≡ arclenFunctorOf q → y ≡ lengthAt f 10 → y ≡ arclenOf q
-unfolding arclenOf lengthAt
-length-whole q f y e p =
-    p ∙ rw (← e, all-steps (lengthRates f) tenth 10 (λ k. lengthAt f k ∷ []) (λ k less. one-value f tenth (timeAt tenth k) (lengthAt f k)))
+  -- a step by its four rates, each asked for by itself
+  pub step-one : {a b c d : Float} → RatesOne f t y a → RatesOne f (add binary64 t (halfOf h)) (movedBy (halfOf h) y a) b →
+      RatesOne f (add binary64 t (halfOf h)) (movedBy (halfOf h) y b) c → RatesOne f (add binary64 t h) (movedBy h y c) d →
+      StepsOne f h t y (grownBy h y a b c d)
+  unfolding moved grownAll
+  step-one p q r s = grows (lengthRates f) h t (y ∷ []) p q r s
 
--- the stages of the step i
-module _ (f : ArclenFunctor) (i : ℕ) where
-  pub stage-first : stageAt f (4 * i) ≡ stageOf f tenth (timeAt tenth i) (lengthAt f i) 0
-  unfolding stageAt
-  stage-first =
-      let step : 4 * i / 4 ≡ i = omega arith in
-      let part : 4 * i % 4 ≡ 0 = omega arith in
-      rw (step, part)
-
-  pub stage-next : (j : ℕ) → j < 4 → stageAt f (4 * i + j) ≡ stageOf f tenth (timeAt tenth i) (lengthAt f i) j
-  unfolding stageAt
-  stage-next j less =
-      let step : (4 * i + j) / 4 ≡ i = omega arith in
-      let part : (4 * i + j) % 4 ≡ j = omega arith in
-      rw (step, part)
+  -- and it is `rk4One`
+  pub stepped-one : {z : Float} → StepsOne f h t y z → rk4One f h t y ≡ z
+  unfolding rk4One
+  stepped-one p = rw p

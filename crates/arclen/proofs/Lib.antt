@@ -1,8 +1,3 @@
 -- What the proofs share, here and in the crates that build on this one. `Values` has theorems on the definitions, for a reader.
 pub mod Laws
-pub mod Again
-mod Walking
-pub mod Filling
-pub mod Times
-pub mod Straight
 mod Values

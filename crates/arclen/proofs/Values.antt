@@ -1,28 +1,19 @@
--- The named constants and worked values of the definitions, by computation. Assumes nothing.
+-- Worked values of the definitions, by computation. Assumes nothing.
 use mathlib.Core.Path.{_≡_, refl}
-use mathlib.Core.List.{List, [], _∷_, map}
+use mathlib.Core.List.{[], _∷_}
 use mathlib.Core.Bool.{false}
 use Prim.Native.Nat.{ℕ}
 use lib.Ieee as Ieee
 use lib.Ieee.{Float, binary64, round, ofBits}
 use Rattle.float.specs.Float.{rootDown, rootNear, rootUnits, rootOf}
-use Rattle.float.specs.Decimals.{Decimal, decimal, value, nearest}
 use Rattle.geometry.specs.declared.Point.{Point}
 use Rattle.geometry.specs.declared.Quad.{Quad}
 use Rattle.arclen.specs.Rk4.{moved, grownAll, rk4, walk}
-use Rattle.arclen.specs.Arclen.{tenth, hundredth, arclenFunctorOf, derivOf, speedOf, arclenOf}
+use Rattle.arclen.specs.Arclen.{arclenFunctorOf, derivOf, speedOf, arclenOf}
 
 -- n / d, rounded
 abbrev num : ℕ → ℕ → Float
 num n d = round binary64 false n d
-
--- each named constant is the f64 nearest to its decimal
-abbrev constants : List Decimal
-constants = decimal tenth 1 10 ∷ decimal hundredth 1 100 ∷ []
-
-constants-are-nearest : map value constants ≡ map nearest constants
-unfolding Ieee.ofBits Ieee.round Ieee.div
-constants-are-nearest = refl
 
 abbrev whole : ℕ → ℕ → Point
 whole a b = record { x = num a 1; y = num b 1 }

@@ -1,20 +1,14 @@
 -- The derivative of a quad, its speed, and its length by ten steps of RK4 over one value. Definitions only.
 use mathlib.Core.List.{[], _∷_}
 use lib.ListN.{getD}
-use lib.Ieee.{Float, nan, binary64, sub, mul, div}
-use Rattle.float.specs.Numbers.{nought, one, two, ten, hundred}
+use lib.Ieee.{Float, nan, binary64, sub, mul}
+use Rattle.float.specs.Numbers.{nought, two}
+pub use Rattle.float.specs.Numbers.{tenth, hundredth}
 use Rattle.geometry.specs.Geometry.{alongOf, normOf}
 use Rattle.geometry.specs.declared.Point.{Point}
 use Rattle.geometry.specs.declared.Quad.{Quad}
 use Rattle.arclen.specs.Rk4.{Tried, at, refused, Rates, rk4, walk}
 use Rattle.arclen.specs.declared.ArclenFunctor.{ArclenFunctor}
-
--- the steps in t: of a quad's length and of the measure, and of the samples
-abbrev pub tenth : Float
-tenth = div binary64 one ten
-
-abbrev pub hundredth : Float
-hundredth = div binary64 one hundred
 
 abbrev pub doubled : Float → Float → Float
 doubled a b = mul binary64 two (sub binary64 b a)

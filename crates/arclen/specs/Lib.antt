@@ -1,5 +1,4 @@
--- Stages and Straight are for contracts inside the product alone: no promise of an entry and no statement for a reader speaks of them.
+-- One is for contracts inside the product alone: no promise of an entry and no statement for a reader speaks of it.
 pub mod Rk4
 pub mod Arclen
-pub mod Stages
-pub mod Straight
+pub mod One

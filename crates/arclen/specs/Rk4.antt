@@ -20,11 +20,15 @@ Rates = Float → List Float → Tried
 abbrev pub halfOf : Float → Float
 halfOf h = mul binary64 h half
 
--- y + a * k, value by value
+-- y + a * k
+abbrev pub movedBy : Float → Float → Float → Float
+movedBy a y k = add binary64 y (mul binary64 a k)
+
+-- the same, value by value
 unfoldable pub moved : Float → List Float → List Float → List Float
 moved a [] ks = []
 moved a (y ∷ ys) [] = []
-moved a (y ∷ ys) (k ∷ ks) = add binary64 y (mul binary64 a k) ∷ moved a ys ks
+moved a (y ∷ ys) (k ∷ ks) = movedBy a y k ∷ moved a ys ks
 
 -- y + h / 6 * (a + d + 2 * (c + b)), with the four rates a, b, c and d
 abbrev pub grownBy : Float → Float → Float → Float → Float → Float → Float

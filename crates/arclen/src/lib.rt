@@ -1,19 +1,10 @@
-// Module 4: the derivative of a quad, and its length by RK4. The rate of the length does not look at the
-// length, so that the two middle rates of a step are one, and a step's last rate is the next one's first:
-// 21 speeds serve ten steps, and 20 more the ten after them. Their roots are guessed in a loop of their own, which is
-// compiled to take several at a time, and taken by these guesses in another, where they overlap. Of a straight piece all
-// speeds are one.
-ghost use mathlib.Core.Bool.{true};
+// Module 4: the derivative of a quad, and its length by RK4 for one value. Each float operation stands where the definition has it, and
+// each root is taken by its digits. That this is the RK4 of the definitions is a law over lists of any length, cited for one value here
+// and for two in `measure`.
 ghost use mathlib.Core.Path.{_≡_};
-ghost use Prim.Native.Nat.{_<_};
-ghost use lib.ListN.{length, getD};
-ghost use lib.Ieee.{nan};
-ghost use Rattle.arclen.specs.Rk4.{grownBy};
-ghost use Rattle.arclen.specs.Arclen.{tenth, arclenFunctorOf, derivOf, speedOf, arclenOf};
-ghost use Rattle.arclen.specs.Straight.{Unmoved, Straight};
-ghost use Rattle.arclen.specs.Stages.{Paced, paceWith, paceOf, reachedBy, timeFrom, Squares, Ready, Roots, SameSpeeds, Lengths};
-ghost use Rattle.arclen.specs.Stages.{withStep, Walked};
-ghost use Rattle.geometry.specs.Geometry.{squareNormOf};
+ghost use Rattle.arclen.specs.Rk4.{movedBy, grownBy};
+ghost use Rattle.arclen.specs.Arclen.{arclenFunctorOf, derivOf, speedOf, arclenOf};
+ghost use Rattle.arclen.specs.One.{RatesOne, StepsOne};
 use geometry::Point;
 use geometry::Quad;
 
@@ -23,57 +14,6 @@ pub struct ArclenFunctor {
     pub dy0: f64,
     pub dx1: f64,
     pub dy1: f64,
-}
-
-// A speed and its square.
-pub struct Pace {
-    pub square: f64,
-    pub speed: f64,
-}
-
-// The length so far, and the pace there.
-pub struct Reached {
-    pub length: f64,
-    pub pace: Pace,
-}
-
-impl Pace {
-    // Before any other is known.
-    pub fn still() -> Self
-        ensures { λ r. ⌜ Paced r ⌝ }
-    {
-        Pace {
-            square: 0.0,
-            speed: 0.0,
-        }
-    }
-
-    // The pace of a square. Where it is that of the last pace, as all along a line, the root is not taken
-    // again.
-    fn next(self, square: f64) -> Self
-        requires { ⌜ Paced self ⌝ }
-        ensures { λ r. ⌜ r ≡ paceWith square ⌝ }
-    {
-        if square > 0.0 {
-            if square == self.square {
-                return Pace {
-                    square,
-                    speed: self.speed,
-                };
-            }
-        }
-        Pace {
-            square,
-            speed: quickroot::root(square),
-        }
-    }
-}
-
-// Whether what goes from a to b does not move.
-fn unmoved(a: f64, b: f64) -> bool
-    ensures { λ r. ⌜ (r ≡ true → Unmoved a b) ⌝ }
-{
-    b - a == 0.0
 }
 
 impl ArclenFunctor {
@@ -97,216 +37,59 @@ impl ArclenFunctor {
         }
     }
 
-    // Whether the derivative is one all along, as that of a straight piece is.
-    pub fn is_straight(self) -> bool
-        ensures { λ r. ⌜ (r ≡ true → Straight self) ⌝ }
+    // The speed at the time t.
+    pub fn speed(self, t: f64) -> f64
+        ensures { λ r. ⌜ r ≡ speedOf self t ⌝ }
     {
-        if unmoved(self.dx0, self.dx1) {
-            return unmoved(self.dy0, self.dy1);
-        }
-        false
+        self.deriv(t).norm()
     }
 
-    // The square of the speed at t.
-    fn square(self, t: f64) -> f64
-        ensures { λ r. ⌜ r ≡ squareNormOf (derivOf self t) ⌝ }
+    // The rate of the length at the time t. It does not look at the length y, as the Rust's `apply` for one value.
+    fn rate(self, t: f64, y: f64) -> f64
+        ensures { λ r. ⌜ RatesOne self t y r ⌝ }
     {
-        self.deriv(t).square_norm()
-    }
-
-    // The pace at t, with the root of the last one where it serves.
-    pub fn pace(self, t: f64, last: Pace) -> Pace
-        requires { ⌜ Paced last ⌝ }
-        ensures { λ r. ⌜ r ≡ paceOf self t ⌝ }
-    {
-        last.next(self.square(t))
+        self.speed(t)
     }
 }
 
-// A value after a step of h, from its four rates.
+// One value moved on by the rate k for a while a.
+pub fn moved(a: f64, y: f64, k: f64) -> f64
+    ensures { λ r. ⌜ r ≡ movedBy a y k ⌝ }
+{
+    y + a * k
+}
+
+// One value after a step of h, from its four rates.
 pub fn grown(h: f64, y: f64, a: f64, b: f64, c: f64, d: f64) -> f64
     ensures { λ r. ⌜ r ≡ grownBy h y a b c d ⌝ }
 {
     y + h / 6.0 * (a + d + 2.0 * (c + b))
 }
 
-// One step of h of RK4 for one value, the length. It takes two roots, since it starts from the pace at t.
-pub fn rk4(f: ArclenFunctor, h: f64, t: f64, from: Reached) -> Reached
-    requires { ⌜ from .pace ≡ paceOf f t ⌝ }
-    ensures { λ r. ⌜ r ≡ reachedBy f h t (from .length) ⌝ }
+// One step of h from the length y at the time t.
+pub fn rk4(f: ArclenFunctor, h: f64, t: f64, y: f64) -> f64
+    ensures { λ r. ⌜ StepsOne f h t y r ⌝ }
 {
-    let first = from.pace;
-    let middle = f.pace(t + h * 0.5, first);
-    let pace = f.pace(t + h, middle);
-    let v = middle.speed;
-    let length = grown(h, from.length, first.speed, v, v, pace.speed);
-    Reached { length, pace }
+    let a = f.rate(t, y);
+    let b = f.rate(t + h * 0.5, moved(h * 0.5, y, a));
+    let c = f.rate(t + h * 0.5, moved(h * 0.5, y, b));
+    let d = f.rate(t + h, moved(h, y, c));
+    grown(h, y, a, b, c, d)
 }
 
-// Writes the squares of the speeds in the middle and at the end of each of ten steps of h from t on.
-fn fill_squares(f: ArclenFunctor, h: f64, t: f64, w: &mut [f64; 20])
-    requires { ⌜ length (now w) ≡ 20 ⌝ }
-    ensures { λ r. ⌜ Squares f h t (now (w .exit)) 20 ⌝ }
-{
-    let mut time = t;
-    let mut i = 0usize;
-    while i < 10 {
-        let middle = f.square(time + h * 0.5);
-        time = time + h;
-        w[2 * i] = middle;
-        w[2 * i + 1] = f.square(time);
-        i += 1;
-    }
-}
-
-// Guesses the roots of 20 squares. The loop has no branch.
-fn fill_guesses(w: &[f64; 20], guesses: &mut [f64; 20])
-    requires { ⌜ (length (now w) ≡ 20) × (length (now guesses) ≡ 20) ⌝ }
-    ensures { λ r. ⌜ length (now (guesses .exit)) ≡ 20 ⌝ }
-{
-    let mut k = 0usize;
-    while k < 20 {
-        guesses[k] = quickroot::likely(w[k]);
-        k += 1;
-    }
-}
-
-// Writes the roots of 20 squares after the first place of v, by guesses of them, which may be any numbers.
-fn fill_roots(w: &[f64; 20], guesses: &[f64; 20], v: &mut [f64; 21])
-    requires { ⌜ (length (now w) ≡ 20) × (length (now guesses) ≡ 20) × (length (now v) ≡ 21) ⌝ }
-    ensures { λ r. ⌜ Roots (now (w .entry)) (getD (now (v .entry)) 0 nan) (now (v .exit)) 20 ⌝ }
-{
-    let mut k = 0usize;
-    while k < 20 {
-        v[k + 1] = quickroot::root_by(w[k], guesses[k]);
-        k += 1;
-    }
-}
-
-// The 21 speeds of ten steps of h from t on, over those of the ten steps before them, whose last is the
-// first of these.
-pub fn speeds_on(f: ArclenFunctor, h: f64, t: f64, v: &mut [f64; 21])
-    requires { ⌜ (length (now v) ≡ 21) × (getD (now v) 20 nan ≡ speedOf f t) ⌝ }
-    ensures { λ r. ⌜ (length (now (v .exit)) ≡ 21) × Ready f h t (now (v .exit)) 0 ⌝ }
-{
-    v[0] = v[20];
-    let mut w = [0.0; 20];
-    fill_squares(f, h, t, &mut w);
-    let mut guesses = [0.0; 20];
-    fill_guesses(&w, &mut guesses);
-    fill_roots(&w, &guesses, v);
-}
-
-// The speed at t, 21 times: all of those that a straight piece has.
-pub fn same_speeds(f: ArclenFunctor, t: f64) -> [f64; 21]
-    ensures { λ r. ⌜ SameSpeeds f t r ⌝ }
-{
-    [quickroot::root(f.square(t)); 21]
-}
-
-// The 21 speeds of ten steps of h from t on.
-pub fn speeds(f: ArclenFunctor, h: f64, t: f64) -> [f64; 21]
-    ensures { λ r. ⌜ Ready f h t r 0 ⌝ }
-{
-    let mut v = same_speeds(f, t);
-    speeds_on(f, h, t, &mut v);
-    v
-}
-
-// The lengths where each of ten steps of h starts, from y on and with these speeds, and where the last one ends.
-pub fn lengths(h: f64, y: f64, v: &[f64; 21]) -> [f64; 11]
-    requires { ⌜ length (now v) ≡ 21 ⌝ }
-    ensures { λ r. ⌜ Lengths h y (now (v .entry)) r 10 ⌝ }
-{
-    let mut at = [y; 11];
-    let mut i = 0usize;
-    while i < 10 {
-        let middle = v[2 * i + 1];
-        at[i + 1] = grown(h, at[i], v[2 * i], middle, middle, v[2 * i + 2]);
-        i += 1;
-    }
-    at
-}
-
-// The time after n steps of h from t on.
-pub fn later(h: f64, t: f64, n: usize) -> f64
-    ensures { λ r. ⌜ r ≡ timeFrom h t n ⌝ }
-{
-    let mut at = t;
-    let mut i = 0;
-    while i < n {
-        at = at + h;
-        i += 1;
-    }
-    at
-}
-
-// Writes the four stages of the step i, from the length y at the time t on and with the speeds a, b and d at its start, middle and
-// end, and gives the length where it ends.
-fn write_step(i: usize, t: f64, y: f64, a: f64, b: f64, d: f64, stages: &mut [[f64; 3]; 40]) -> f64
-    requires { ⌜ (length (now stages) ≡ 40) × (i < 10) ⌝ }
-    ensures { λ r. ⌜ (now (stages .exit) ≡ withStep (now (stages .entry)) i t y a b d) × (r ≡ grownBy tenth y a b b d) ⌝ }
-{
-    let h = 1.0 / 10.0;
-    stages[4 * i] = [t, a, y];
-    stages[4 * i + 1] = [t + h * 0.5, b, y + h * 0.5 * a];
-    stages[4 * i + 2] = [t + h * 0.5, b, y + h * 0.5 * b];
-    stages[4 * i + 3] = [t + h, d, y + h * b];
-    grown(h, y, a, b, b, d)
-}
-
-// Ten steps along a straight piece: all its speeds are one, and one root serves.
-fn walk_straight(f: ArclenFunctor, stages: &mut [[f64; 3]; 40]) -> f64
-    requires { ⌜ Straight f × (length (now stages) ≡ 40) ⌝ }
-    ensures { λ r. ⌜ Walked f (now (stages .exit)) r ⌝ }
-{
-    let h = 1.0 / 10.0;
-    let v = quickroot::root(f.square(0.0));
-    let mut t = 0.0;
-    let mut y = 0.0;
-    let mut i = 0usize;
-    while i < 10 {
-        y = write_step(i, t, y, v, v, v, stages);
-        t = t + h;
-        i += 1;
-    }
-    y
-}
-
-// Ten steps along any quad.
-fn walk_bent(f: ArclenFunctor, stages: &mut [[f64; 3]; 40]) -> f64
-    requires { ⌜ length (now stages) ≡ 40 ⌝ }
-    ensures { λ r. ⌜ Walked f (now (stages .exit)) r ⌝ }
-{
-    let h = 1.0 / 10.0;
-    let v = speeds(f, h, 0.0);
-    let mut t = 0.0;
-    let mut y = 0.0;
-    let mut i = 0usize;
-    while i < 10 {
-        y = write_step(i, t, y, v[2 * i], v[2 * i + 1], v[2 * i + 2], stages);
-        t = t + h;
-        i += 1;
-    }
-    y
-}
-
-// Ten steps along a quad: writes the 40 stages, each with its time, the speed there and the length that
-// RK4 takes to be reached there, and gives the length.
-pub fn walk(f: ArclenFunctor, stages: &mut [[f64; 3]; 40]) -> f64
-    requires { ⌜ length (now stages) ≡ 40 ⌝ }
-    ensures { λ r. ⌜ Walked f (now (stages .exit)) r ⌝ }
-{
-    if f.is_straight() {
-        return walk_straight(f, stages);
-    }
-    walk_bent(f, stages)
-}
-
-// The length of a quad.
+// The length of a quad, by ten steps.
 pub fn arclen(q: Quad) -> f64
     ensures { λ r. ⌜ r ≡ arclenOf q ⌝ }
 {
-    let mut stages = [[0.0; 3]; 40];
-    walk(ArclenFunctor::new(q), &mut stages)
+    let f = ArclenFunctor::new(q);
+    let h = 1.0 / 10.0;
+    let mut t = 0.0;
+    let mut y = 0.0;
+    let mut i = 0usize;
+    while i < 10 {
+        y = rk4(f, h, t, y);
+        t = t + h;
+        i += 1;
+    }
+    y
 }

@@ -129,7 +129,7 @@ fn work_run(
         (resultOf (roomsIn samples breaks answers links) settings
         (before xs) (before ys) (before flags) (record { first = first; count = count }))) points p r ⌝ }
 {
-    let s = survey::survey(
+    let s = quicksurvey::survey(
         xs,
         ys,
         flags,

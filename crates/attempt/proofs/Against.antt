@@ -9,10 +9,10 @@ use Rattle.float.specs.Numbers.{nought, one, two}
 use Rattle.geometry.specs.Geometry.{isLine, isSmooth}
 use Rattle.geometry.specs.declared.Quad.{Quad}
 use Rattle.measure.specs.NotNegative.{notNegative}
-use Rattle.measure.specs.Early.{Beyond, Judges}
+use Rattle.quickmeasure.specs.Early.{Beyond, Judges}
 use Rattle.measure.specs.declared.Measured.{Measured}
-use Rattle.measure.specs.declared.Judged.{Judged}
-use Rattle.measure.specs.declared.Judged.the-variants as Judging
+use Rattle.quickmeasure.specs.declared.Judged.{Judged}
+use Rattle.quickmeasure.specs.declared.Judged.the-variants as Judging
 use Rattle.attempt.specs.declared.answer.Answer as A
 use Rattle.attempt.specs.Answers.{isCurve, smoothAfter, oneOrTwo, totalOf}
 use Rattle.attempt.specs.Value.{bestIf, bestOf, orElse, newAnswer, combineOf, baseOf, Makes}

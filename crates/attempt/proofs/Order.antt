@@ -14,8 +14,8 @@ use lib.Ieee.Exact.{HasValue, round-exact}
 use lib.Ieee.Order.{le-of-values}
 use Rattle.float.specs.Numbers.{nought}
 use Rattle.float.proofs.NotNegative.{NotNegative, no-number, endless, number}
-use Rattle.measure.proofs.Signs.{plus-is, plus-by, round-plus}
-use Rattle.measure.proofs.Climb.{above-plus, adding, nan-lost}
+use Rattle.quickmeasure.proofs.Signs.{plus-is, plus-by, round-plus}
+use Rattle.quickmeasure.proofs.Climb.{above-plus, adding, nan-lost}
 use Rattle.attempt.specs.Statements.{SumDoesNotFall}
 
 -- ---- a sum that is above zero: of a negative number and zero there is none

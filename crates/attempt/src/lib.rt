@@ -4,7 +4,7 @@ pub mod answer;
 use answer::Answer;
 use geometry::Quad;
 use measure::Counted;
-use measure::Judged;
+use quickmeasure::Judged;
 ghost use mathlib.Core.Path.{_≡_};
 ghost use mathlib.Core.Bool.{true};
 ghost use Rattle.measure.specs.Measure.{measureOf};
@@ -33,7 +33,7 @@ fn changes_nothing(
     ensures { λ r. ⌜ (r ≡ true → Idle (now (samples .entry)) s0 s1 old previous q penalty) ⌝ }
 {
     if old.stays(previous, q, penalty) {
-        return measure::sees_all(samples, s0, s1, q);
+        return quickmeasure::sees_all(samples, s0, s1, q);
     }
     false
 }
@@ -50,7 +50,7 @@ fn first_attempt(
 ) -> Outcome
     ensures { λ r. ⌜ Attempts (measureOf (now (samples .entry)) s0 s1 q) (fallenOf (now (samples .entry)) s0 s1 q) old previous q penalty r ⌝ }
 {
-    let Counted::At(m, n) = measure::measure_quad(samples, s0, s1, q) else {
+    let Counted::At(m, n) = quickmeasure::measure_quad(samples, s0, s1, q) else {
         return Outcome::Missing;
     };
     Outcome::Made(old.combine(previous, m.error, q, penalty), n)
@@ -69,7 +69,7 @@ fn next_attempt(
     requires { ⌜ (old .link ≡ 0 → ⊥) ⌝ }
     ensures { λ r. ⌜ Attempts (measureOf (now (samples .entry)) s0 s1 q) (fallenOf (now (samples .entry)) s0 s1 q) old previous q penalty r ⌝ }
 {
-    match measure::measure_below(samples, s0, s1, q, previous.base(q, penalty), old.score) {
+    match quickmeasure::measure_below(samples, s0, s1, q, previous.base(q, penalty), old.score) {
         Judged::At(m, n) => Outcome::Made(old.combine(previous, m.error, q, penalty), n),
         Judged::Over => Outcome::Made(old, 0),
         Judged::Missing => Outcome::Missing,

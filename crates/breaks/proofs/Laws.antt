@@ -13,13 +13,9 @@ use Rattle.geometry.specs.Geometry.{isClose}
 use Rattle.geometry.specs.declared.Point.{Point}
 use Rattle.geometry.specs.declared.Break.{Break}
 use Rattle.lookup.specs.Lookup as Lookup
-use Rattle.lookup.specs.Lookup.{Found, found, xyAt, dirAt, spotAt}
-use Rattle.lookup.specs.declared.Spot.{Spot}
-use Rattle.lookup.specs.declared.Looked.the-variants as Looked
+use Rattle.lookup.specs.Lookup.{found, xyAt, dirAt}
 use Rattle.float.specs.Numbers.{nought}
-use Rattle.float.specs.Float.{rootOf}
 use Rattle.breaks.specs.Breaks.{Row, packedOf, breakAt, placesOf, lengthAt, placed, placeAt, placeOf, Finding, so, full, opened, opens, joinOf, stepped, walk, breaks, runBreaksOf, breaksOf}
-use Rattle.breaks.specs.declared.Progress.{Progress}
 use Rattle.breaks.specs.declared.Grid.{Grid}
 use Rattle.breaks.specs.declared.Placed as P
 use Rattle.breaks.specs.declared.Placed.the-variants as Placed
@@ -69,25 +65,15 @@ module _ (samples : List (List Float)) (g : Grid) (s : Float) where
     unfolding placeAt
     place-inside = rw (lt-leb (length samples) (toUnsigned 64 s) h)
 
-both-found : (g : Grid) (s : Float) (a b : Found) (c : Spot) → Lookup.both a b ≡ Looked.At c → placed g s a b ≡ placed g s (found (c .xy)) (found (c .dir))
-both-found g s (found p) (found d) c e =
-    let xy : p ≡ c .xy = cc in
-    let dir : d ≡ c .dir = cc in
-    rw (xy, dir)
-both-found g s (found p) Lookup.refused c e = absurd (let z : _≡_ {A = ℕ} 0 1 = cc in omega arith)
-both-found g s Lookup.refused b c e = absurd (let z : _≡_ {A = ℕ} 0 1 = cc in omega arith)
-
-both-last : (g : Grid) (s : Float) (a b : Found) → Lookup.both a b ≡ Looked.Missing → placed g s a b ≡ Placed.Missing
-both-last g s (found p) (found d) e = absurd (let z : _≡_ {A = ℕ} 0 1 = cc in omega arith)
-both-last g s (found p) Lookup.refused e = refl
-both-last g s Lookup.refused b e = refl
-
 module _ (samples : List (List Float)) (g : Grid) (s : Float) (h : toUnsigned 64 s < length samples) where
-  pub place-found : (c : Spot) → Looked.At c ≡ spotAt samples s → placeAt samples g s ≡ placed g s (found (c .xy)) (found (c .dir))
-  place-found c e = place-inside samples g s h ∙ both-found g s (xyAt samples s) (dirAt samples s) c (sym e)
+  pub no-place : Lookup.refused ≡ xyAt samples s → placeAt samples g s ≡ Placed.Missing
+  no-place p = place-inside samples g s h ∙ rw (← p)
 
-  pub place-last : Looked.Missing ≡ spotAt samples s → placeAt samples g s ≡ Placed.Missing
-  place-last e = place-inside samples g s h ∙ both-last g s (xyAt samples s) (dirAt samples s) (sym e)
+  pub no-direction : {o : Point} → found o ≡ xyAt samples s → Lookup.refused ≡ dirAt samples s → placeAt samples g s ≡ Placed.Missing
+  no-direction p d = place-inside samples g s h ∙ rw (← p, ← d)
+
+  pub both-there : {o dir : Point} → found o ≡ xyAt samples s → found dir ≡ dirAt samples s → placeAt samples g s ≡ placed g s (found o) (found dir)
+  both-there p d = place-inside samples g s h ∙ rw (← p, ← d)
 
 -- ---- the first n breaks of a row
 module _ (row : Row) (n : ℕ) (inside : n ≤ length row) where
@@ -152,27 +138,27 @@ done n room place i f h =
     rw none
 
 -- ---- while places are sought: i of them are done
-pub record Seeking (samples : List (List Float)) (len : Float) (g : Grid) (n : ℕ) (row₀ row : Row) (p : Progress) (i : ℕ) : Type 0 where
+pub record Seeking (samples : List (List Float)) (len : Float) (g : Grid) (n : ℕ) (row₀ row : Row) (count : ℕ) (dist : Float) (i : ℕ) : Type 0 where
   pub last-place : n ≡ placesOf len
   pub long : length row ≡ length row₀
-  pub inside : p .count ≤ length row₀
+  pub inside : count ≤ length row₀
   pub rows : walk (suc n) (length row₀) (placeOf samples g len) 0 (so [] nought)
-      ≡ walk (suc n - i) (length row₀) (placeOf samples g len) i (so (take (p .count) row) (rootOf (p .opened)))
+      ≡ walk (suc n - i) (length row₀) (placeOf samples g len) i (so (take (count) row) dist)
 
-pub seek : (samples : List (List Float)) (len : Float) (g : Grid) (n : ℕ) (row : Row) (p : Progress) → n ≡ placesOf len → p .count ≡ 0 → rootOf (p .opened) ≡ nought → Seeking samples len g n row row p 0
-seek samples len g n row p e none fresh =
+pub seek : (samples : List (List Float)) (len : Float) (g : Grid) (n : ℕ) (row : Row) (count : ℕ) (dist : Float) → n ≡ placesOf len → count ≡ 0 → dist ≡ nought → Seeking samples len g n row row count dist 0
+seek samples len g n row count dist e none fresh =
     let all : suc n - 0 ≡ suc n = omega arith in
     record { last-place = e; long = refl; inside = omega arith; rows = rw (all, none, fresh) refl }
 
-module _ {samples : List (List Float)} {len : Float} {g : Grid} {n : ℕ} {row₀ row : Row} {p : Progress} {i : ℕ} (s : Seeking samples len g n row₀ row p i) where
+module _ {samples : List (List Float)} {len : Float} {g : Grid} {n : ℕ} {row₀ row : Row} {count : ℕ} {dist : Float} {i : ℕ} (s : Seeking samples len g n row₀ row count dist i) where
   next : {pl : P.Placed} → i ≤ n → pl ≡ placeAt samples g (lengthAt len n i) →
       walk (suc n) (length row₀) (placeOf samples g len) 0 (so [] nought)
-      ≡ walk (suc n - (i + 1)) (length row₀) (placeOf samples g len) (i + 1) (stepped (length row) (so (take (p .count) row) (rootOf (p .opened))) pl)
+      ≡ walk (suc n - (i + 1)) (length row₀) (placeOf samples g len) (i + 1) (stepped (length row) (so (take (count) row) dist) pl)
   next h is = s .rows ∙ goes n (length row₀) (placeOf samples g len) i _ h ∙ rw (is, s .long, s .last-place) refl
 
-  pub seeks : {pl : P.Placed} {row' : Row} {q : Progress} → i ≤ n → pl ≡ placeAt samples g (lengthAt len n i) →
-      stepped (length row) (so (take (p .count) row) (rootOf (p .opened))) pl ≡ so (take (q .count) row') (rootOf (q .opened)) →
-      length row' ≡ length row → q .count ≤ length row → Seeking samples len g n row₀ row' q (i + 1)
+  pub seeks : {pl : P.Placed} {row' : Row} {more : ℕ} {next-dist : Float} → i ≤ n → pl ≡ placeAt samples g (lengthAt len n i) →
+      stepped (length row) (so (take (count) row) dist) pl ≡ so (take more row') next-dist →
+      length row' ≡ length row → more ≤ length row → Seeking samples len g n row₀ row' more next-dist (i + 1)
   seeks h is steps same few = record {
     last-place = s .last-place;
     long = same ∙ s .long;
@@ -182,10 +168,10 @@ module _ {samples : List (List Float)} {len : Float} {g : Grid} {n : ℕ} {row�
 
   -- a place that ends the search
   pub seeks-no-more : {pl : P.Placed} (f : Finding) → ((room : ℕ) (pl : P.Placed) → stepped room f pl ≡ f) → i ≤ n → pl ≡ placeAt samples g (lengthAt len n i) →
-      stepped (length row) (so (take (p .count) row) (rootOf (p .opened))) pl ≡ f → breaksOf (length row₀) samples g len ≡ runBreaksOf f
+      stepped (length row) (so (take (count) row) dist) pl ≡ f → breaksOf (length row₀) samples g len ≡ runBreaksOf f
   unfolding breaksOf
   seeks-no-more f stuck h is steps = rw (← s .last-place, next h is, steps, stays (suc n - (i + 1)) (length row₀) (placeOf samples g len) (i + 1) f (stuck (length row₀))) refl
 
-  pub sought : n < i → breaksOf (length row₀) samples g len ≡ breaks (take (p .count) row)
+  pub sought : n < i → breaksOf (length row₀) samples g len ≡ breaks (take (count) row)
   unfolding breaksOf
-  sought h = rw (← s .last-place, s .rows, done n (length row₀) (placeOf samples g len) i (so (take (p .count) row) (rootOf (p .opened))) h) refl
+  sought h = rw (← s .last-place, s .rows, done n (length row₀) (placeOf samples g len) i (so (take (count) row) dist) h) refl

@@ -7,7 +7,7 @@ use lib.IntN.{pos}
 use lib.ListN.{length, take, getD, set}
 use lib.Ieee.{Float, nan, binary64, mul, div, lt, ofInt, toUnsigned}
 use Rattle.float.specs.Numbers.{nought, half, one, two, ten}
-use Rattle.float.specs.Float.{roundOf, rootOf}
+use Rattle.float.specs.Float.{roundOf}
 use Rattle.geometry.specs.Geometry.{isClose, distanceOf}
 use Rattle.geometry.specs.declared.Point.{Point}
 use Rattle.geometry.specs.declared.Break.{Break}
@@ -144,15 +144,10 @@ placeOf samples g len i = placeAt samples g (lengthAt len (placesOf len) i)
 unfoldable pub breaksOf : ℕ → List (List Float) → Grid → Float → RunBreaks
 breaksOf room samples g len = runBreaksOf (walk (suc (placesOf len)) room (placeOf samples g len) 0 (so [] nought))
 
--- ---- what the functions leave in a row: they hold the squares of distances
-
-abbrev pub rooted : P.Placed → P.Placed
-rooted (Placed.At b square) = Placed.At b (rootOf square)
-rooted Placed.Missing = Placed.Missing
-rooted Placed.Past = Placed.Past
+-- ---- what the functions leave in a row
 
 abbrev pub joinedIn : Row → J.Joined → Finding
-joinedIn row (Joined.At p) = so (take (p .count) row) (rootOf (p .opened))
+joinedIn row (Joined.At p) = so (take (p .count) row) (p .opened)
 joinedIn row Joined.Full = full
 joinedIn row Joined.Missing = last
 joinedIn row Joined.Past = past

@@ -2,15 +2,12 @@
 // is left in the row, with a definition of specs/Breaks.antt.
 use geometry::Break;
 use geometry::Point;
-use lookup::Looked;
+use lookup::Found;
 ghost use mathlib.Core.Path.{_≡_};
-ghost use mathlib.Core.Bool.{true};
 ghost use Prim.Native.Nat.{_≤_, _<_};
 ghost use lib.ListN.{length, take};
-ghost use lib.Ieee.{lt};
-ghost use Rattle.float.specs.Float.{rootOf};
 ghost use Rattle.breaks.specs.Breaks.{halfGrid, wholeGrid, onGrid, gridPoint, packedOf, breakAt, placesOf, placeAt, opens, opened};
-ghost use Rattle.breaks.specs.Breaks.{joinOf, so, stepped, breaksOf, rooted, joinedIn, countJoined, breaksIn, countFound};
+ghost use Rattle.breaks.specs.Breaks.{joinOf, so, stepped, breaksOf, joinedIn, countJoined, breaksIn, countFound};
 
 // A coordinate is brought to step * round(per * x).
 pub struct Grid {
@@ -18,7 +15,7 @@ pub struct Grid {
     pub step: f64,
 }
 
-// A place of the run: the break it would be, and the square of its distance to its own unrounded point.
+// A place of the run: the break it would be, and its distance to its own unrounded point.
 pub enum Placed {
     At(Break, f64),
     // a sample at the last stored place: refusal 8
@@ -27,7 +24,7 @@ pub enum Placed {
     Past,
 }
 
-// How many breaks there are, and the square of the distance of the place that first opened the last one.
+// How many breaks there are, and the distance of the place that first opened the last one.
 pub struct Progress {
     pub count: usize,
     pub opened: f64,
@@ -88,7 +85,8 @@ impl Grid {
     }
 }
 
-fn packed(b: Break) -> [f64; 6]
+// A break as a row has it.
+pub fn packed(b: Break) -> [f64; 6]
     ensures { λ r. ⌜ r ≡ packedOf b ⌝ }
 {
     [b.s, b.xy.x, b.xy.y, b.dir.x, b.dir.y, 0.0]
@@ -108,7 +106,7 @@ pub fn read(row: &[[f64; 6]], i: usize) -> Break
 }
 
 // round(10 * length), as the Rust's i32.
-fn places(len: f64) -> usize
+pub fn places(len: f64) -> usize
     ensures { λ r. ⌜ r ≡ placesOf len ⌝ }
 {
     let n = float::to_index(float::round(10.0 * len));
@@ -117,22 +115,23 @@ fn places(len: f64) -> usize
 
 // The place at the length s.
 fn place(samples: &[[f64; 4]], g: Grid, s: f64) -> Placed
-    ensures { λ r. ⌜ rooted r ≡ placeAt (now (samples .entry)) g s ⌝ }
+    ensures { λ r. ⌜ r ≡ placeAt (now (samples .entry)) g s ⌝ }
 {
     if samples.len() <= float::to_index(s) {
         return Placed::Past;
     }
-    let Looked::At(c) = lookup::lookup(samples, s) else {
+    let Found::At(o) = lookup::xy(samples, s) else {
         return Placed::Missing;
     };
-    let o = c.xy;
-    let dir = c.dir;
+    let Found::At(dir) = lookup::dir(samples, s) else {
+        return Placed::Missing;
+    };
     let xy = g.point(o);
-    Placed::At(Break { s, xy, dir }, xy.square_distance(o))
+    Placed::At(Break { s, xy, dir }, xy.distance(o))
 }
 
 // Whether a place opens a break: the first does, and one that is not close to the last of n.
-fn opens(row: &[[f64; 6]], n: usize, p: Point) -> bool
+pub fn opens(row: &[[f64; 6]], n: usize, p: Point) -> bool
     requires { ⌜ n ≤ length (now row) ⌝ }
     ensures { λ r. ⌜ r ≡ opens (take n (now (row .entry))) p ⌝ }
 {
@@ -143,9 +142,10 @@ fn opens(row: &[[f64; 6]], n: usize, p: Point) -> bool
     if p.is_close(b.xy) { false } else { true }
 }
 
-fn push(row: &mut [[f64; 6]], n: usize, b: Break, square: f64) -> Joined
+// A break more, where there is room.
+pub fn push(row: &mut [[f64; 6]], n: usize, b: Break, dist: f64) -> Joined
     requires { ⌜ n ≤ length (now row) ⌝ }
-    ensures row { λ r. ⌜ opened (length (now (row .entry))) (take n (now (row .entry))) b (rootOf square) ≡ joinedIn (now (row .exit)) r ⌝ }
+    ensures row { λ r. ⌜ opened (length (now (row .entry))) (take n (now (row .entry))) b dist ≡ joinedIn (now (row .exit)) r ⌝ }
     ensures count { λ r. ⌜ countJoined r ≤ length (now (row .entry)) ⌝ }
 {
     if row.len() <= n {
@@ -154,47 +154,21 @@ fn push(row: &mut [[f64; 6]], n: usize, b: Break, square: f64) -> Joined
     row[n] = packed(b);
     Joined::At(Progress {
         count: n + 1,
-        opened: square,
+        opened: dist,
     })
 }
 
-// True only if the root of a is the less. A square that is less by a thousandth has the lesser root; a
-// NaN has none, nor has a number below 0.
-fn surely_less(a: f64, b: f64) -> bool
-    ensures { λ r. ⌜ (r ≡ true → lt (rootOf a) (rootOf b) ≡ true) ⌝ }
-{
-    if 0.0 <= a {
-        if a < b {
-            return a * 1.0009765625 < b;
-        }
-    }
-    false
-}
-
-// Whether the root of a is less than that of b. The roots are taken only where the squares are close.
-fn nearer(a: f64, b: f64) -> bool
-    ensures { λ r. ⌜ r ≡ lt (rootOf a) (rootOf b) ⌝ }
-{
-    if surely_less(a, b) {
-        return true;
-    }
-    if surely_less(b, a) {
-        return false;
-    }
-    quickroot::root(a) < quickroot::root(b)
-}
-
 // A break that the next place would be.
-fn join(row: &mut [[f64; 6]], p: Progress, b: Break, square: f64) -> Joined
+fn join(row: &mut [[f64; 6]], p: Progress, b: Break, dist: f64) -> Joined
     requires { ⌜ p .count ≤ length (now row) ⌝ }
-    ensures row { λ r. ⌜ joinOf (length (now (row .entry))) (take (p .count) (now (row .entry))) (rootOf (p .opened)) b (rootOf square) ≡ joinedIn (now (row .exit)) r ⌝ }
+    ensures row { λ r. ⌜ joinOf (length (now (row .entry))) (take (p .count) (now (row .entry))) (p .opened) b dist ≡ joinedIn (now (row .exit)) r ⌝ }
     ensures count { λ r. ⌜ countJoined r ≤ length (now (row .entry)) ⌝ }
 {
     let n = p.count;
     if opens(row, n, b.xy) {
-        return push(row, n, b, square);
+        return push(row, n, b, dist);
     }
-    if nearer(square, p.opened) {
+    if dist < p.opened {
         row[n - 1] = packed(b);
         return Joined::At(p);
     }
@@ -204,16 +178,17 @@ fn join(row: &mut [[f64; 6]], p: Progress, b: Break, square: f64) -> Joined
 // One place more.
 fn advance(row: &mut [[f64; 6]], p: Progress, next: Placed) -> Joined
     requires { ⌜ p .count ≤ length (now row) ⌝ }
-    ensures row { λ r. ⌜ stepped (length (now (row .entry))) (so (take (p .count) (now (row .entry))) (rootOf (p .opened))) (rooted next) ≡ joinedIn (now (row .exit)) r ⌝ }
+    ensures row { λ r. ⌜ stepped (length (now (row .entry))) (so (take (p .count) (now (row .entry))) (p .opened)) next ≡ joinedIn (now (row .exit)) r ⌝ }
     ensures count { λ r. ⌜ countJoined r ≤ length (now (row .entry)) ⌝ }
 {
     match next {
-        Placed::At(b, square) => join(row, p, b, square),
+        Placed::At(b, dist) => join(row, p, b, dist),
         Placed::Missing => Joined::Missing,
         Placed::Past => Joined::Past,
     }
 }
 
+// The breaks of a run of this length.
 pub fn find_breaks(samples: &[[f64; 4]], len: f64, g: Grid, row: &mut [[f64; 6]]) -> Breaks
     ensures row { λ r. ⌜ breaksOf (length (now (row .entry))) (now (samples .entry)) g len ≡ breaksIn (now (row .exit)) r ⌝ }
     ensures count { λ r. ⌜ countFound r ≤ length (now (row .entry)) ⌝ }

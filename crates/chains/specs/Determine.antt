@@ -20,8 +20,15 @@ use Rattle.pieces.specs.Slots.{chain}
 use Rattle.chains.specs.Chains.{Outcome, refused, unchanged, chainOf}
 use Rattle.chains.specs.Chains as Chains
 use Rattle.chains.specs.Spans.{spanOf, breaksAt}
-use Rattle.chains.specs.Entry.{report, answerOf, Rows, rows, roomIn, rowsOf, LentChain, wholeOf, breaksIn, Promise}
+use Rattle.chains.specs.Entry.{report, valuesOf, answerOf, Rows, rows, roomIn, rowsOf, LentChain, wholeOf, breaksIn, Promise}
 use Rattle.chains.specs.declared.Chained as C
+
+-- ---- an answer has document 01's values of what became of the run
+
+pub values-are : (o : Outcome) {r : C.Chained} → r ≡ answerOf o → report r ≡ valuesOf o
+values-are (refused k) e = ap report e
+values-are (unchanged t) e = ap report e
+values-are (Chains.chained ps s t) e = ap report e
 
 -- ---- one order
 

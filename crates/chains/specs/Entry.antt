@@ -33,6 +33,12 @@ report (Chained.Refused k) = record { number = k; pieces = 0; score = nought; pa
 report (Chained.Unchanged t) = record { number = 0; pieces = 0; score = nought; pairs = t .pairs; fallen = t .fallen }
 report (Chained.Pieces n s t) = record { number = 0; pieces = n; score = s; pairs = t .pairs; fallen = t .fallen }
 
+-- the same values, of what becomes of a run
+abbrev pub valuesOf : Outcome → Report
+valuesOf (refused k) = record { number = k; pieces = 0; score = nought; pairs = 0; fallen = 0 }
+valuesOf (unchanged t) = record { number = 0; pieces = 0; score = nought; pairs = t .pairs; fallen = t .fallen }
+valuesOf (Chains.chained ps s t) = record { number = 0; pieces = length ps; score = s; pairs = t .pairs; fallen = t .fallen }
+
 abbrev pub answerOf : Outcome → C.Chained
 answerOf (refused k) = Chained.Refused k
 answerOf (unchanged t) = Chained.Unchanged t
@@ -72,8 +78,10 @@ wholeOf (inputs xs ys fs) settings k c w = chainOf (roomsOf w) (roomIn c) settin
 abbrev pub breaksIn : Inputs → Settings → ℕ → Work → Row
 breaksIn (inputs xs ys fs) settings k w = breaksAt (roomsOf w) settings xs ys fs k
 
--- the entry's contract: what it hands back, what it leaves in the chain's rows, and that the scratch rows are zero throughout, whatever they held
+-- the entry's contract: what it hands back, by its case and by document 01's values, what it leaves in the chain's rows, and that the scratch rows are zero
+-- throughout, whatever they held
 pub record Promise (i : Inputs) (settings : Settings) (k : ℕ) (c : LentChain) (w : Scratch) (r : C.Chained) : Type 0 where
   pub answer : r ≡ answerOf (wholeOf i settings k (c .entry) (w .entry))
+  pub values : report r ≡ valuesOf (wholeOf i settings k (c .entry) (w .entry))
   pub rows : c .exit ≡ rowsOf (wholeOf i settings k (c .entry) (w .entry)) (breaksIn i settings k (w .entry)) (c .entry)
   pub work : w .exit ≡ cleared (w .entry)

@@ -6,3 +6,6 @@ pub mod Entry
 pub mod Steps
 pub mod Good
 pub mod Own
+pub mod Replaced
+pub mod Points
+pub mod Controls

@@ -175,7 +175,7 @@ fn chain_run(
         (chainIn starts ends cxs cys spans) r ⌝ }
 {
     let penalty = settings.per_piece();
-    match survey::survey(
+    match quicksurvey::survey(
         xs,
         ys,
         flags,

@@ -19,7 +19,7 @@ use Rattle.chain.specs.Valid.{checkRows}
 use Rattle.chain.specs.Fallen.{fallenRows}
 use Rattle.chain.specs.declared.Checked.{Checked}
 use Rattle.chain.specs.declared.Checked.the-variants as Checked
-use Rattle.edition.specs.Edition.{Rooms, answerRoom}
+use Rattle.rows.specs.Scratch.{Rooms, answerRoom}
 use Rattle.checks.specs.declared.Verdict as D
 use Rattle.checks.specs.declared.Verdict.the-variants as Verdict
 use Rattle.checks.specs.declared.Ruling.{Ruling}

@@ -4,9 +4,7 @@ use mathlib.Core.Path.{_≡_, sym, ap, _∙_}
 use Rattle.settings.specs.declared.Settings.{Settings}
 use Rattle.rows.specs.Rows.{Work}
 use Rattle.rows.specs.Lent.{Inputs, inputs}
-use Rattle.edition.specs.Edition.{Rooms}
-use Rattle.edition.specs.Scratch.{Scratch, roomsOf}
-use Rattle.edition.specs.Laws.{same-cleared}
+use Rattle.rows.specs.Scratch.{Rooms, Scratch, roomsOf, same-cleared}
 use Rattle.checks.specs.Checks.{GivenChain, checkOf}
 use Rattle.checks.specs.Entry.{wholeOf, Promise}
 use Rattle.checks.specs.declared.Ruling.{Ruling}

@@ -6,7 +6,7 @@ use lib.Ieee.{Float}
 use Rattle.rows.specs.Rows.{Work}
 use Rattle.rows.specs.Lent.{Lent, before, Inputs, inputs}
 use Rattle.settings.specs.declared.Settings.{Settings}
-use Rattle.edition.specs.Scratch.{Scratch, roomsOf, cleared}
+use Rattle.rows.specs.Scratch.{Scratch, roomsOf, cleared}
 use Rattle.checks.specs.Checks.{GivenChain, checkOf}
 use Rattle.checks.specs.declared.Verdict as D
 use Rattle.checks.specs.declared.Verdict.the-variants as Verdict
@@ -34,7 +34,8 @@ chainGiven starts ends cxs cys score = record { starts = before starts; ends = b
 abbrev pub wholeOf : Inputs → Settings → ℕ → GivenChain → Work → Ruling
 wholeOf (inputs xs ys fs) settings k c w = checkOf (roomsOf w) settings xs ys fs c k
 
--- the entry's contract: what it hands back, and what it leaves in the scratch rows w
+-- the entry's contract: what it hands back, with document 01's values, and what it leaves in the scratch rows w
 pub record Promise (i : Inputs) (settings : Settings) (k : ℕ) (c : GivenChain) (w : Scratch) (r : Ruling) : Type 0 where
   pub ruling : r ≡ wholeOf i settings k c (w .entry)
+  pub values : report r ≡ report (wholeOf i settings k c (w .entry))
   pub left : w .exit ≡ cleared (w .entry)

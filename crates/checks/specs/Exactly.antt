@@ -1,5 +1,6 @@
--- What the checker's entry says, exactly when: yes, no, and 8. Definitions and statements; the theorems stand in proofs/Exactly.
-use Prim.Native.Nat.{ℕ, _≤_}
+-- What the checker's entry says, exactly when: yes, no, a refusal by each number, and 8 above all. Definitions and statements; the theorems stand in
+-- proofs/Exactly.
+use Prim.Native.Nat.{ℕ, _≤_, _<_}
 use mathlib.Core.Bool.{true}
 use mathlib.Core.List.{List}
 use mathlib.Core.Logic.{_↔_}
@@ -8,7 +9,7 @@ use lib.Ieee.{Float}
 use lib.IntN.{ℤ}
 use lib.ListN.{length}
 use Rattle.refusals.specs.declared.Judged.the-variants as Judged
-use Rattle.runs.specs.declared.Run.the-variants.{Between}
+use Rattle.runs.specs.declared.Run.the-variants.{Between, Nothing}
 use Rattle.runs.specs.Runs.{numberedRun}
 use Rattle.settings.specs.Settings.{gridOf, penaltyOf, judgedFor}
 use Rattle.settings.specs.declared.Settings.{Settings}
@@ -22,8 +23,7 @@ use Rattle.chain.specs.Rule.{Valid}
 use Rattle.chain.specs.declared.Summed.the-variants as Summed
 use Rattle.rows.specs.Rows.{Work}
 use Rattle.rows.specs.Lent.{inputs}
-use Rattle.edition.specs.Edition.{Rooms, answerRoom}
-use Rattle.edition.specs.Scratch.{roomsOf}
+use Rattle.rows.specs.Scratch.{Rooms, answerRoom, roomsOf}
 use Rattle.checks.specs.Checks.{GivenChain}
 use Rattle.checks.specs.Entry.{wholeOf}
 use Rattle.checks.specs.declared.Verdict.the-variants as Verdict
@@ -61,6 +61,29 @@ module _ (rooms : Rooms) (settings : Settings) (xs ys : List ℤ) (fs : List ℕ
     pub at : Reached rooms settings xs ys fs k
     pub unmeasured : Unmeasured (at .samples) (at .breaks) (penaltyOf settings) c
 
+  -- refused before the chain is looked at, and by which number
+  pub data Turned : ℕ → Type 0 where
+    -- 1 to 5 of the rows, then 16 of the penalty
+    unfit : {n : ℕ} → judgedFor settings xs ys fs ≡ Judged.Refused n → Turned n
+    -- no such run, or the run is one copied line
+    no-run : judgedFor settings xs ys fs ≡ Judged.Fine → numberedRun (settings .closed) xs ys fs k ≡ Nothing → Turned 10
+    -- 6 or 7: its samples, or its breaks, have no room
+    unsurveyed : {first count n : ℕ} → judgedFor settings xs ys fs ≡ Judged.Fine → numberedRun (settings .closed) xs ys fs k ≡ Between first count →
+        surveyOf (rooms .samples) (rooms .breaks) xs ys fs first count (gridOf settings) ≡ Survey.refused n → Turned n
+    -- its breaks are more than half the answer rows
+    short : {first count : ℕ} {samples : List Sample} {breaks : Row} → judgedFor settings xs ys fs ≡ Judged.Fine →
+        numberedRun (settings .closed) xs ys fs k ≡ Between first count →
+        surveyOf (rooms .samples) (rooms .breaks) xs ys fs first count (gridOf settings) ≡ Survey.surveyed samples breaks →
+        answerRoom (rooms .answers) (rooms .links) < length breaks → Turned 7
+    -- a length past the samples, which no contour in 16 bits has (survey/specs/Never)
+    past : {first count : ℕ} → judgedFor settings xs ys fs ≡ Judged.Fine → numberedRun (settings .closed) xs ys fs k ≡ Between first count →
+        surveyOf (rooms .samples) (rooms .breaks) xs ys fs first count (gridOf settings) ≡ Survey.past → Turned 8
+
+  -- refused, and by which number: then, or in measuring a chain of good shape
+  pub data RefusedBy : ℕ → Type 0 where
+    before : {n : ℕ} → Turned n → RefusedBy n
+    measuring : Unsettled → RefusedBy 8
+
 -- yes exactly then
 abbrev pub YesExactly : Type 0
 YesExactly =
@@ -78,3 +101,14 @@ abbrev pub EightExactly : Type 0
 EightExactly =
     (xs ys : List ℤ) (fs : List ℕ) (settings : Settings) (k : ℕ) (c : GivenChain) (w : Work) → Sixteen xs → Sixteen ys →
     (wholeOf (inputs xs ys fs) settings k c w .verdict ≡ Verdict.Refused 8) ↔ Unsettled (roomsOf w) settings xs ys fs k c
+
+-- refused by each number exactly then
+abbrev pub RefusedExactly : Type 0
+RefusedExactly =
+    (xs ys : List ℤ) (fs : List ℕ) (settings : Settings) (k : ℕ) (c : GivenChain) (w : Work) (n : ℕ) →
+    (wholeOf (inputs xs ys fs) settings k c w .verdict ≡ Verdict.Refused n) ↔ RefusedBy (roomsOf w) settings xs ys fs k c n
+
+-- and never by 0, which is the number of a check that is not refused
+abbrev pub NeverByZero : Type 0
+NeverByZero =
+    (rooms : Rooms) (settings : Settings) (xs ys : List ℤ) (fs : List ℕ) (k : ℕ) (c : GivenChain) → RefusedBy rooms settings xs ys fs k c 0 → ⊥

@@ -13,7 +13,7 @@ ghost use Rattle.rows.specs.Lent.{before, room, contour};
 ghost use Rattle.runs.specs.Runs.{numberedRun};
 ghost use Rattle.settings.specs.Settings.{gridOf, penaltyOf, judgedFor};
 ghost use Rattle.survey.specs.Survey.{surveyed, surveyOf};
-ghost use Rattle.edition.specs.Scratch.{scratch};
+ghost use Rattle.rows.specs.Scratch.{scratch};
 ghost use Rattle.checks.specs.Checks.{refusing, verdictOf, ofSurvey, ofRun, afterJudging};
 ghost use Rattle.checks.specs.Entry.{chainGiven, Promise};
 

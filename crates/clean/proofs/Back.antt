@@ -33,7 +33,7 @@ small zero h g = refl
 small (suc zero) h g = absurd (g refl)
 small (suc (suc n)) h g = absurd (omega arith)
 
-no-bit : (f : ℕ) → isOn f ≡ false → f % 2 ≡ 0
+pub no-bit : (f : ℕ) → isOn f ≡ false → f % 2 ≡ 0
 no-bit f h = small (f % 2) (omega arith) (eqb-false (f % 2) 1 h)
 
 module _ (xs ys : List ℤ) (fs : List ℕ) where
@@ -224,7 +224,7 @@ module _ (xs ys : List ℤ) (fs : List ℕ) (even-x : length xs ≡ length fs) (
 
 -- ---- the rows of what is left hold the points kept
 
-map-as : {A : Type 0} (f : ℕ → A) (g : ℕ → A) (n : ℕ → ℕ) → ((i : ℕ) → f i ≡ g (n i)) → (l : List ℕ) → map f l ≡ map g (map n l)
+pub map-as : {A : Type 0} (f : ℕ → A) (g : ℕ → A) (n : ℕ → ℕ) → ((i : ℕ) → f i ≡ g (n i)) → (l : List ℕ) → map f l ≡ map g (map n l)
 map-as f g n h [] = refl
 map-as f g n h (i ∷ l) = rw (h i, map-as f g n h l)
 
@@ -232,7 +232,7 @@ module _ (xs ys : List ℤ) (fs kept : List ℕ) where
   abbrev anew : ℕ → Point
   anew = pointAt (coordinatesLeft xs kept) (coordinatesLeft ys kept) (flagsLeft fs kept)
 
-  as-kept : (i : ℕ) → anew i ≡ pointAt xs ys fs (number xs ys fs kept i)
+  pub as-kept : (i : ℕ) → anew i ≡ pointAt xs ys fs (number xs ys fs kept i)
   as-kept i =
       rw (
         coordinate-as xs ys fs kept xs (omega arith) i,

@@ -1,10 +1,11 @@
--- What the proofs share. `Theorems` and `Back` have the theorems for a reader, whose statements are types of specs/Statements.
-mod Shortcut
+-- What the proofs share; those that are `pub`, with `idle` too. `Theorems` and `Back` have the theorems for a reader, whose statements are types of
+-- specs/Statements.
+pub mod Shortcut
 mod Ended
 mod Inserting
-mod Passing
-mod Sweeping
-mod Restoring
-mod Theorems
-mod Back
-mod Writing
+pub mod Passing
+pub mod Sweeping
+pub mod Restoring
+pub mod Theorems
+pub mod Back
+pub mod Writing

@@ -36,11 +36,11 @@ unfolding upFrom
 next-is i n zero e = rw (le-ltb (i + 1) n (omega arith))
 next-is i n (suc m) e = rw (lt-ltb (i + 1) n (omega arith))
 
-up-more : (i n : ℕ) → i < n → upFrom i (n - i) ≡ i ∷ upFrom (i + 1) (n - (i + 1))
+pub up-more : (i n : ℕ) → i < n → upFrom i (n - i) ≡ i ∷ upFrom (i + 1) (n - (i + 1))
 unfolding upFrom
 up-more i n h = let e : n - i ≡ suc (n - (i + 1)) = omega arith in rw e
 
-up-end : (i n : ℕ) → n ≤ i → upFrom i (n - i) ≡ []
+pub up-end : (i n : ℕ) → n ≤ i → upFrom i (n - i) ≡ []
 unfolding upFrom
 up-end i n h = let e : n - i ≡ 0 = omega arith in rw e
 

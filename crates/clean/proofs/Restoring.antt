@@ -10,13 +10,15 @@ use lib.Dec.{eqb, leb, ltb}
 use lib.IntN.{ℤ}
 use lib.ListN.{length, getD, set, take, drop, length-map, List·getD-map}
 use lib.Seq.{take-all, take-at, drop-cons, drop-length}
-use Rattle.refusals.specs.Refusals.{rowsDiffer, noPoint}
+use Rattle.refusals.specs.Refusals.{rowsDiffer, noPoint, refuse}
+use Rattle.refusals.specs.declared.Judged.{Judged}
+use Rattle.refusals.specs.declared.Judged.the-variants as Judged
 use Rattle.rows.specs.Lent.{inputs}
 use Rattle.rows.proofs.Filled.{Filled, more, filled}
 use Rattle.contour.specs.Output.{Outputs, outputs}
 use Rattle.clean.specs.Clean.{upFrom}
 use Rattle.clean.specs.PutBack.{numberOf, whyOf, insertAt, restored, putBack, markFor, copiedSpot, keptSpot, bitBy, spotsOf}
-use Rattle.clean.specs.Entry.{spotsInto, PutPromise}
+use Rattle.clean.specs.Entry.{spotsInto, judgedBack, Restores}
 use Rattle.clean.specs.declared.Restored.the-variants.{Refused, Points}
 use Rattle.clean.specs.Determine.{length-up}
 use Rattle.clean.proofs.Inserting.{insert-end}
@@ -54,7 +56,7 @@ module _ (kept n place why : ℕ) (row : List (List ℕ)) (size : length row ≡
       insertAt q v row ≡ restored copiedSpot (keptSpot kept) place why row
   other-in h p s q m v = rw (q, v, m, s, p, ne-eqb why 3 h) (least-same _)
 
--- ---- the kept points
+-- ---- numbers in order
 
 getD-up : (k n i z : ℕ) → i < n → getD (upFrom k n) i z ≡ k + i
 unfolding upFrom
@@ -62,18 +64,19 @@ getD-up k zero i z h = absurd (omega arith)
 getD-up k (suc n) zero z h = omega arith
 getD-up k (suc n) (suc i) z h = getD-up (k + 1) n i z (le-of-suc-le-suc h) ∙ omega arith
 
-module _ (kept : ℕ) {l m : List (List ℕ)} {i : ℕ} (r : Filled (map keptSpot (upFrom 0 kept)) l m i) where
-  size-kept : length (map keptSpot (upFrom 0 kept)) ≡ kept
-  size-kept = length-map (upFrom 0 kept) keptSpot ∙ length-up 0 kept
+-- a row that is given something of each number
+module _ {A : Type 0} (f : ℕ → A) (n : ℕ) {l m : List A} {i : ℕ} (r : Filled (map f (upFrom 0 n)) l m i) where
+  size-up : length (map f (upFrom 0 n)) ≡ n
+  size-up = length-map (upFrom 0 n) f ∙ length-up 0 n
 
-  pub kept-more : i < kept → kept ≤ length l → Filled (map keptSpot (upFrom 0 kept)) l (set m i (keptSpot i)) (i + 1)
-  kept-more h k =
-      more (keptSpot 0) (keptSpot i) r (omega (arith, r .same)) (rw size-kept h) (sym (List·getD-map keptSpot (upFrom 0 kept) i 0 ∙ ap keptSpot (getD-up 0 kept i 0 h ∙ omega arith)))
+  pub number-more : {v : A} → i < n → n ≤ length l → v ≡ f i → Filled (map f (upFrom 0 n)) l (set m i v) (i + 1)
+  number-more {v} h k e =
+      more (f 0) v r (omega (arith, r .same)) (rw size-up h) (e ∙ sym (List·getD-map f (upFrom 0 n) i 0 ∙ ap f (getD-up 0 n i 0 h ∙ omega arith)))
 
-  pub kept-all : kept ≤ i → take kept m ≡ map keptSpot (upFrom 0 kept)
-  kept-all h =
-      rw (filled kept r (omega (arith, r .given, size-kept)), take-all kept (map keptSpot (upFrom 0 kept)) (rw size-kept (le-refl kept)))
-      (take-at (map keptSpot (upFrom 0 kept)) (drop kept l) kept size-kept)
+  pub number-all : n ≤ i → take n m ≡ map f (upFrom 0 n)
+  number-all h =
+      rw (filled n r (omega (arith, r .given, size-up)), take-all n (map f (upFrom 0 n)) (rw size-up (le-refl n)))
+      (take-at (map f (upFrom 0 n)) (drop n l) n size-up)
 
 -- ---- all drops
 
@@ -124,42 +127,42 @@ pub spots-are : (n : ℕ) (list : List (List ℕ)) {kept row : List (List ℕ)} 
 unfolding spotsOf
 spots-are n list all first = rw (all, first)
 
-module _ (xs ys : List ℤ) (fs : List ℕ) (list : List (List ℕ)) (ox oy : List ℤ) (of : List ℕ) where
+never-fine : {k : ℕ} → Judged.Refused k ≡ Judged.Fine → ⊥
+never-fine h = let z : _≡_ {A = ℕ} 0 1 = cc in omega arith
+
+-- 3 and 9 are not given
+neither-back : (a b c d : Bool) → refuse 1 a (refuse 2 b (refuse 3 c (refuse 9 d Judged.Fine))) ≡ Judged.Fine → (c ≡ false) × (d ≡ false)
+neither-back true b c d h = absurd (never-fine h)
+neither-back false true c d h = absurd (never-fine h)
+neither-back false false true d h = absurd (never-fine h)
+neither-back false false false true h = absurd (never-fine h)
+neither-back false false false false h = (refl, refl)
+
+-- of any spots, and so many drops
+module _ (xs ys : List ℤ) (fs : List ℕ) (drops : ℕ) (spots : List (List ℕ)) (ox oy : List ℤ) (of : List ℕ) where
   abbrev lent-out : Outputs
   lent-out = outputs ox oy of
 
-  abbrev Refuses : ℕ → Type 0
-  Refuses k = PutPromise (inputs xs ys fs) list (record { entry = lent-out; exit = lent-out }) (Refused k)
+  module _ {m n : ℕ} {j : Judged} (two : m ≡ min (length ox) (length oy)) (three : n ≡ min m (length of))
+      (is : j ≡ judgedBack (length xs) (length ys) (length fs) drops n) where
+    room-is : min (min (length ox) (length oy)) (length of) ≡ n
+    room-is = rw (← two) (sym three)
 
-  module _ {t : Bool} (uneven : t ≡ rowsDiffer (length xs) (length ys) (length fs)) where
-    pub put-1 : t ≡ true → Refuses 1
-    put-1 h = record { answer = rw (← uneven, h); left = refl }
+    pub put-refused : {k : ℕ} → j ≡ Judged.Refused k → Restores (inputs xs ys fs) drops spots (record { entry = lent-out; exit = lent-out }) (Refused k)
+    put-refused h = record { answer = rw (room-is, ← is, h); values = rw (room-is, ← is, h); left = refl }
 
-    module _ (even : t ≡ false) {u : Bool} (empty : u ≡ noPoint (length fs)) where
-      pub put-2 : u ≡ true → Refuses 2
-      put-2 h = record { answer = rw (← uneven, even, ← empty, h); left = refl }
+    pub put-fits : j ≡ Judged.Fine →
+        (length fs + drops ≤ 1024) × (length fs + drops ≤ length ox) × (length fs + drops ≤ length oy) × (length fs + drops ≤ length of)
+    put-fits h =
+        let none =
+        neither-back (rowsDiffer (length xs) (length ys) (length fs)) (noPoint (length fs)) (ltb 1024 (length fs + drops)) (ltb n (length fs + drops)) (sym is ∙ h) in
+        let total = ltb-false 1024 (length fs + drops) (none .0) in
+        let room = ltb-false n (length fs + drops) (none .1) in
+        (total, omega arith, omega arith, omega arith)
 
-      module _ (some : u ≡ false) {v : Bool} (many : v ≡ ltb 1024 (length fs + length list)) where
-        pub put-3 : v ≡ true → Refuses 3
-        put-3 h = record { answer = rw (← uneven, even, ← empty, some, ← many, h); left = refl }
-
-        module _ (few : v ≡ false) {m n : ℕ} (two : m ≡ min (length ox) (length oy)) (three : n ≡ min m (length of)) where
-          pub put-9 : n < length fs + length list → Refuses 9
-          put-9 h =
-              let short : ltb (min (min (length ox) (length oy)) (length of)) (length fs + length list) ≡ true = rw (← two, ← three) (lt-ltb n (length fs + length list) h) in
-              record { answer = rw (← uneven, even, ← empty, some, ← many, few, short); left = refl }
-
-          pub put-fits : length fs + length list ≤ n →
-              (length fs + length list ≤ 1024) × (length fs + length list ≤ length ox) × (length fs + length list ≤ length oy) × (length fs + length list ≤ length of)
-          put-fits h =
-              let total : length fs + length list ≤ 1024 = ltb-false 1024 (length fs + length list) (sym many ∙ few) in
-              (total, omega arith, omega arith, omega arith)
-
-          pub put-done : length fs + length list ≤ n → {ox' oy' : List ℤ} {of' : List ℕ} → outputs ox' oy' of' ≡ spotsInto (inputs xs ys fs) (spotsOf (length fs) list) lent-out →
-              PutPromise (inputs xs ys fs) list (record { entry = lent-out; exit = outputs ox' oy' of' }) (Points (length fs + length list))
-          put-done h e =
-              let fits : ltb (min (min (length ox) (length oy)) (length of)) (length fs + length list) ≡ false = rw (← two, ← three) (le-ltb n (length fs + length list) h) in
-              record { answer = rw (← uneven, even, ← empty, some, ← many, few, fits); left = e }
+    pub put-done : j ≡ Judged.Fine → {ox' oy' : List ℤ} {of' : List ℕ} → outputs ox' oy' of' ≡ spotsInto (inputs xs ys fs) spots lent-out →
+        Restores (inputs xs ys fs) drops spots (record { entry = lent-out; exit = outputs ox' oy' of' }) (Points (length fs + drops))
+    put-done h e = record { answer = rw (room-is, ← is, h); values = rw (room-is, ← is, h); left = e }
 
 over-is : (n m : ℕ) (t : Bool) → n ≤ 1024 → ltb (1024 - n) m ≡ t → t ≡ ltb 1024 (n + m)
 over-is n m true h e = let g = ltb-true (1024 - n) m e in sym (lt-ltb 1024 (n + m) (omega arith))

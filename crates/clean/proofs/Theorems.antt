@@ -100,14 +100,14 @@ up-of past k pre (p ∷ row) e =
 
 -- ---- what is left
 
-not-both : (b p : Bool) → (b ≡ false → p ≡ true) → (not b && not p) ≡ false
+pub not-both : (b p : Bool) → (b ≡ false → p ≡ true) → (not b && not p) ≡ false
 not-both true p h = refl
 not-both false p h = rw (h refl)
 
 pub bit-twice : (f : ℕ) → f % 2 % 2 ≡ f % 2
 bit-twice f = omega arith
 
-mod-twice : (f : ℕ) → isOn (f % 2) ≡ isOn f
+pub mod-twice : (f : ℕ) → isOn (f % 2) ≡ isOn f
 mod-twice f = rw (bit-twice f)
 
 module _ (xs ys : List ℤ) (fs kept : List ℕ) where
@@ -135,10 +135,10 @@ module _ (xs ys : List ℤ) (fs kept : List ℕ) where
       let none : bitIn fs past ≡ 0 = ap (λ (f : ℕ). f % 2) (List·getD-eq-default fs 0 {n = past} (omega arith)) in
       ap (getD fs' i) (sym none) ∙ List·getD-map (bitIn fs) kept i past
 
-  on-as : (i : ℕ) → onPlace fs' i ≡ onPlace fs (number i)
+  pub on-as : (i : ℕ) → onPlace fs' i ≡ onPlace fs (number i)
   on-as i = ap isOn (flag-as i) ∙ mod-twice (getD fs (number i) 0)
 
-  equal-as : (i j : ℕ) → samePlace xs' ys' i j ≡ samePlace xs ys (number i) (number j)
+  pub equal-as : (i j : ℕ) → samePlace xs' ys' i j ≡ samePlace xs ys (number i) (number j)
   equal-as i j =
       rw (coordinate-as xs (omega arith) i, coordinate-as xs (omega arith) j, coordinate-as ys (omega arith) i, coordinate-as ys (omega arith) j)
 

@@ -1,10 +1,12 @@
 -- What is written out. Assumes nothing.
 use Prim.Native.Nat.{ℕ, min, _+_, _≤_, _<_}
+use mathlib.Core.Bool.{Bool, true, false}
 use mathlib.Core.List.{List, [], _++_}
 use mathlib.Core.Path.{_≡_, refl, sym, ap, _∙_}
 use native.Mathlib.Nat.{le-refl}
 use native.Mathlib.Omega.{arith}
 use borrow.Author.Tests.{lt-ltb, le-ltb}
+use lib.Dec.{ltb}
 use lib.IntN.{ℤ}
 use lib.ListN.{length, take, drop, set, getD}
 use lib.Seq.{length-take-le, take-all, getD-take}
@@ -15,8 +17,10 @@ use Rattle.rows.proofs.Filled.{Filled, more, filled}
 use Rattle.rows.specs.Lent.{Inputs}
 use Rattle.contour.specs.Output.{outputs, front}
 use Rattle.clean.specs.Clean.{Cleaning, cleaned}
-use Rattle.clean.specs.Entry.{Rows, rows, pointsInto, cleaningOf, judgedOf, Written, Promise}
+use Rattle.clean.specs.Entry.{Rows, rows, pointRoom, listRoom, pointsInto, judgedOf, Written, Sifts}
+use Rattle.clean.specs.Entry.{Report, report, refusing, keeping, refuseIf, saidIn, answerIn}
 use Rattle.clean.specs.declared.Cleaned as D
+use Rattle.clean.specs.declared.Cleaned.the-variants as Cleaned
 use Rattle.clean.specs.declared.Cleaned.the-variants.{Refused, Points}
 
 -- ---- a row whose first n places are those of another
@@ -63,11 +67,29 @@ module _ (i : Inputs) (kept : List ℕ) (k : ℕ) (gone : List (List ℕ)) (d : 
 
 -- ---- 1 to 5 first
 
-pub refused-first : (i : Inputs) (r : Rows) {j : Judged} {k : ℕ} → j ≡ judgedOf i → j ≡ Judged.Refused k → Promise i (record { entry = r; exit = r }) (Refused k)
-refused-first i r is h = record { answer = rw (← is, h); left = refl }
+abbrev refused : ℕ → Bool → D.Cleaned → D.Cleaned
+refused = refuseIf Cleaned.Refused Cleaned.Points
 
-pub after-judging : (i : Inputs) {w : Both Rows Rows} {j : Judged} {r : D.Cleaned} → j ≡ judgedOf i → j ≡ Judged.Fine → Written i (cleaningOf i) w r → Promise i w r
-after-judging i is h written = record { answer = rw (← is, h) (written .answer); left = written .left }
+abbrev number : ℕ → Bool → Report → Report
+number = refuseIf refusing keeping
+
+report-so : (s t : Bool) (n m : ℕ) → report (refused 18 s (refused 9 t (Points n m))) ≡ number 18 s (number 9 t (keeping n m))
+report-so true t n m = refl
+report-so false true n m = refl
+report-so false false n m = refl
+
+report-in : (list points : ℕ) (c : Cleaning) → report (answerIn list points c) ≡ saidIn refusing keeping list points c
+report-in list points (cleaned kept drops) = report-so (ltb list (length drops)) (ltb points (length kept)) (length kept) (length drops)
+
+pub refused-first : (i : Inputs) (c : Cleaning) (r : Rows) {j : Judged} {k : ℕ} → j ≡ judgedOf i → j ≡ Judged.Refused k → Sifts i c (record { entry = r; exit = r }) (Refused k)
+refused-first i c r is h = record { answer = rw (← is, h); values = rw (← is, h); left = refl }
+
+pub after-judging : (i : Inputs) {c : Cleaning} {w : Both Rows Rows} {j : Judged} {r : D.Cleaned} → j ≡ judgedOf i → j ≡ Judged.Fine → Written i c w r → Sifts i c w r
+after-judging i {c} {w} is h written = record {
+  answer = rw (← is, h) (written .answer);
+  values = rw (← is, h) (ap report (written .answer) ∙ report-in (listRoom (w .entry)) (pointRoom (w .entry)) c);
+  left = written .left;
+}
 
 -- of another cleaning that is the same
 pub written-of : (i : Inputs) {c c' : Cleaning} {w : Both Rows Rows} {r : D.Cleaned} → c ≡ c' → Written i c w r → Written i c' w r

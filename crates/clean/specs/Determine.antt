@@ -1,5 +1,6 @@
--- The statement of `clean_contour` determines the answer and every lent row; and the answer and what is written are those of the contour and of
--- the lengths of the rows alone, whatever the rows held. Assumes nothing.
+-- The statement of an entry that drops points and lists them, as `clean_contour` is, determines the answer and every lent row; and the answer and
+-- what is written are those of the contour and of the lengths of the rows alone, whatever the rows held. So it is of one that puts them back.
+-- Assumes nothing.
 use Prim.Native.Nat.{ℕ, zero, suc, min, _+_, _-_}
 use native.Mathlib.Omega.{arith}
 use mathlib.Core.Bool.{Bool, true, false}
@@ -9,16 +10,15 @@ use lib.Dec.{eqb, ltb}
 use lib.ListN.{length, getD, take, length-map, length-append}
 use Rattle.contour.specs.Laws.{front-first}
 use denote.Triple.Both.{Both}
-use Rattle.refusals.specs.Refusals.{rowsDiffer, noPoint}
 use Rattle.refusals.specs.declared.Judged.{Judged}
 use Rattle.refusals.specs.declared.Judged.the-variants as Judged
 use Rattle.rows.specs.Lent.{Inputs, inputs}
 use Rattle.contour.specs.Output.{Outputs, outputs}
 use Rattle.clean.specs.Clean.{Cleaning, cleaned, upFrom}
 use Rattle.clean.specs.PutBack.{numberOf, whyOf, insertAt, putIn, putBack, copiedSpot, keptSpot, spotsOf}
-use Rattle.clean.specs.Entry.{coordinateIn, bitIn, Rows, rows, pointRoom, listRoom, refuseIf, answerIn, cleaningOf, leftBy}
-use Rattle.clean.specs.Entry.{afterJudging, judgedOf, Promise}
-use Rattle.clean.specs.Entry.{spotX, spotBit, outputRoom, orRefuse, restoredOf, spotsFor, leftBack, PutPromise}
+use Rattle.clean.specs.Entry.{coordinateIn, bitIn, Rows, rows, pointRoom, listRoom, refuseIf, answerIn, leftBy}
+use Rattle.clean.specs.Entry.{afterJudging, judgedOf, Sifts}
+use Rattle.clean.specs.Entry.{spotX, spotBit, outputRoom, judgedBack, unlessRefused, restoredOf, spotsFor, leftBack, Restores}
 use Rattle.clean.specs.declared.Restored as R
 use Rattle.clean.specs.declared.Restored.the-variants as Restored
 use Rattle.clean.specs.declared.Cleaned as D
@@ -30,9 +30,9 @@ pub record Same {R W : Type 0} (r r' : R) (w w' : W) : Type 0 where
   pub answer : r ≡ r'
   pub left : w ≡ w'
 
-pub determined : {i : Inputs} {w w' : Both Rows Rows} {r r' : D.Cleaned} → w .entry ≡ w' .entry →
-    Promise i w r → Promise i w' r' → Same r r' (w .exit) (w' .exit)
-determined {i} {w} {w'} {r} {r'} e p p' =
+pub determined : {i : Inputs} {c : Cleaning} {w w' : Both Rows Rows} {r r' : D.Cleaned} → w .entry ≡ w' .entry →
+    Sifts i c w r → Sifts i c w' r' → Same r r' (w .exit) (w' .exit)
+determined {i} {c} {w} {w'} {r} {r'} e p p' =
     let answer : r ≡ r' = p .answer ∙ rw e (sym (p' .answer)) in
     record { answer = answer; left = p .left ∙ rw (answer, e) (sym (p' .left)) }
 
@@ -67,7 +67,10 @@ abbrev countsOf : D.Cleaned → ℕ → ℕ → Type 0
 countsOf (Cleaned.Refused k) a b = Unit {0}
 countsOf (Cleaned.Points n m) a b = (n ≡ a) × (m ≡ b)
 
-counted : (s t : Bool) (a b : ℕ) → countsOf (refuseIf 18 s (refuseIf 9 t (Cleaned.Points a b))) a b
+abbrev refused : ℕ → Bool → D.Cleaned → D.Cleaned
+refused = refuseIf Cleaned.Refused Cleaned.Points
+
+counted : (s t : Bool) (a b : ℕ) → countsOf (refused 18 s (refused 9 t (Cleaned.Points a b))) a b
 counted true t a b = tt
 counted false true a b = tt
 counted false false a b = (refl, refl)
@@ -88,27 +91,26 @@ first-shown (Cleaned.Points n m) (inputs xs ys fs) kept drops (rows (outputs ox 
       front-first m drops list (sym (h .1)),
     )
 
-promise-shows : {i : Inputs} {w : Both Rows Rows} {r : D.Cleaned} → Promise i w r → (c : Cleaning) → cleaningOf i ≡ c →
-    firstOf r (w .exit) ≡ shown r i (cleaningOf i)
-promise-shows {i} {w} {r} p (cleaned kept drops) e =
+promise-shows : {i : Inputs} {w : Both Rows Rows} {r : D.Cleaned} (c : Cleaning) → Sifts i c w r → firstOf r (w .exit) ≡ shown r i c
+promise-shows {i} {w} {r} (cleaned kept drops) p =
     let counts : countsOf r (length kept) (length drops) =
-    rw (p .answer, e) (counts-whole (judgedOf i) (listRoom (w .entry)) (pointRoom (w .entry)) kept drops) in
-    rw (p .left, e) (first-shown r i kept drops (w .entry) counts)
+    rw (p .answer) (counts-whole (judgedOf i) (listRoom (w .entry)) (pointRoom (w .entry)) kept drops) in
+    rw (p .left) (first-shown r i kept drops (w .entry) counts)
 
 -- two orders of one contour, in rows of equal lengths: the answer and what is written are equal
-pub equal-orders : {i : Inputs} {w w' : Both Rows Rows} {r r' : D.Cleaned} → placesOf (w .entry) ≡ placesOf (w' .entry) →
-    Promise i w r → Promise i w' r' →
+pub equal-orders : {i : Inputs} {c : Cleaning} {w w' : Both Rows Rows} {r r' : D.Cleaned} → placesOf (w .entry) ≡ placesOf (w' .entry) →
+    Sifts i c w r → Sifts i c w' r' →
     Same r r' (firstOf r (w .exit)) (firstOf r' (w' .exit))
-equal-orders {i} {w} {w'} {r} {r'} e p p' =
+equal-orders {i} {c} {w} {w'} {r} {r'} e p p' =
     let rooms = same-rooms (w .entry) (w' .entry) e in
     let answer : r ≡ r' = p .answer ∙ rw (rooms .0, rooms .1) (sym (p' .answer)) in
-    record { answer = answer; left = promise-shows p _ refl ∙ rw answer (sym (promise-shows p' _ refl)) }
+    record { answer = answer; left = promise-shows c p ∙ rw answer (sym (promise-shows c p')) }
 
 -- ---- putting back
 
-pub put-determined : {i : Inputs} {list : List (List ℕ)} {w w' : Both Outputs Outputs} {r r' : R.Restored} → w .entry ≡ w' .entry →
-    PutPromise i list w r → PutPromise i list w' r' → Same r r' (w .exit) (w' .exit)
-put-determined {i} {list} {w} {w'} {r} {r'} e p p' =
+pub put-determined : {i : Inputs} {drops : ℕ} {spots : List (List ℕ)} {w w' : Both Outputs Outputs} {r r' : R.Restored} → w .entry ≡ w' .entry →
+    Restores i drops spots w r → Restores i drops spots w' r' → Same r r' (w .exit) (w' .exit)
+put-determined {i} {drops} {spots} {w} {w'} {r} {r'} e p p' =
     let answer : r ≡ r' = p .answer ∙ rw e (sym (p' .answer)) in
     record { answer = answer; left = p .left ∙ rw (answer, e) (sym (p' .left)) }
 
@@ -162,18 +164,14 @@ abbrev totalOf : R.Restored → ℕ → Type 0
 totalOf (Restored.Refused k) n = Unit {0}
 totalOf (Restored.Points m) n = m ≡ n
 
-totals : (s t u v : Bool) (n : ℕ) → totalOf (orRefuse 1 s (orRefuse 2 t (orRefuse 3 u (orRefuse 9 v (Restored.Points n))))) n
-totals true t u v n = tt
-totals false true u v n = tt
-totals false false true v n = tt
-totals false false false true n = tt
-totals false false false false n = refl
+totals : (j : Judged) (n : ℕ) → totalOf (unlessRefused j n) n
+totals (Judged.Refused k) n = tt
+totals Judged.Fine n = refl
 
-first-points : (r : R.Restored) (i : Inputs) (list : List (List ℕ)) (o o' : Outputs) → totalOf r (length (spotsFor i list)) →
-    firstPoints r (leftBack r i list o) ≡ firstPoints r (leftBack r i list o')
-first-points (Restored.Refused k) i list o o' h = refl
-first-points (Restored.Points n) (inputs xs ys fs) list (outputs ox oy of) (outputs ox' oy' of') h =
-    let spots = spotsOf (length fs) list in
+first-points : (r : R.Restored) (i : Inputs) (spots : List (List ℕ)) (o o' : Outputs) → totalOf r (length spots) →
+    firstPoints r (leftBack r i spots o) ≡ firstPoints r (leftBack r i spots o')
+first-points (Restored.Refused k) i spots o o' h = refl
+first-points (Restored.Points n) (inputs xs ys fs) spots (outputs ox oy of) (outputs ox' oy' of') h =
     let x = length-map spots (spotX xs) ∙ sym h in
     let y = length-map spots (spotX ys) ∙ sym h in
     let f = length-map spots (spotBit fs) ∙ sym h in
@@ -186,17 +184,21 @@ first-points (Restored.Points n) (inputs xs ys fs) list (outputs ox oy of) (outp
       front-first n (map (spotBit fs) spots) of' f,
     )
 
-total-of : (i : Inputs) (list : List (List ℕ)) (room : ℕ) → totalOf (restoredOf i (length list) room) (length (spotsFor i list))
-total-of (inputs xs ys fs) list room =
-    rw (length-spots (length fs) list)
-    (totals (rowsDiffer (length xs) (length ys) (length fs)) (noPoint (length fs))
-    (ltb 1024 (length fs + length list)) (ltb room (length fs + length list)) (length fs + length list))
+-- as many spots as points are kept and put back
+abbrev pub Counted : Inputs → ℕ → List (List ℕ) → Type 0
+Counted (inputs xs ys fs) drops spots = length spots ≡ length fs + drops
 
--- two orders of the same points and list, in rows of equal lengths
-pub put-equal-orders : {i : Inputs} {list : List (List ℕ)} {w w' : Both Outputs Outputs} {r r' : R.Restored} →
+total-of : (i : Inputs) (drops : ℕ) (spots : List (List ℕ)) (room : ℕ) → Counted i drops spots → totalOf (restoredOf i drops room) (length spots)
+total-of (inputs xs ys fs) drops spots room e = rw e (totals (judgedBack (length xs) (length ys) (length fs) drops room) (length fs + drops))
+
+pub counted-back : (i : Inputs) (list : List (List ℕ)) → Counted i (length list) (spotsFor i list)
+counted-back (inputs xs ys fs) list = length-spots (length fs) list
+
+-- two orders of the same points and spots, in rows of equal lengths
+pub put-equal-orders : {i : Inputs} {drops : ℕ} {spots : List (List ℕ)} {w w' : Both Outputs Outputs} {r r' : R.Restored} → Counted i drops spots →
     pointPlaces (w .entry) ≡ pointPlaces (w' .entry) →
-    PutPromise i list w r → PutPromise i list w' r' → Same r r' (firstPoints r (w .exit)) (firstPoints r' (w' .exit))
-put-equal-orders {i} {list} {w} {w'} {r} {r'} e p p' =
+    Restores i drops spots w r → Restores i drops spots w' r' → Same r r' (firstPoints r (w .exit)) (firstPoints r' (w' .exit))
+put-equal-orders {i} {drops} {spots} {w} {w'} {r} {r'} count e p p' =
     let answer : r ≡ r' = p .answer ∙ rw (same-room (w .entry) (w' .entry) e) (sym (p' .answer)) in
-    let total : totalOf r (length (spotsFor i list)) = rw (p .answer) (total-of i list (outputRoom (w .entry))) in
-    record { answer = answer; left = rw (p .left, p' .left, ← answer) (first-points r i list (w .entry) (w' .entry) total) }
+    let total : totalOf r (length spots) = rw (p .answer) (total-of i drops spots (outputRoom (w .entry)) count) in
+    record { answer = answer; left = rw (p .left, p' .left, ← answer) (first-points r i spots (w .entry) (w' .entry) total) }

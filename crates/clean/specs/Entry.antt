@@ -7,7 +7,7 @@ use lib.Dec.{ltb}
 use lib.IntN.{ℤ, pos}
 use lib.ListN.{length, getD}
 use denote.Triple.Both.{Both}
-use Rattle.refusals.specs.Refusals.{rowsDiffer, noPoint, judged}
+use Rattle.refusals.specs.Refusals.{rowsDiffer, noPoint, judged, refuse}
 use Rattle.refusals.specs.declared.Judged.{Judged}
 use Rattle.refusals.specs.declared.Judged.the-variants as Judged
 use Rattle.contour.specs.Output.{Outputs, outputs, front}
@@ -51,17 +51,58 @@ listRoom (rows o list) = length list
 
 -- ---- the answer
 
-abbrev pub refuseIf : ℕ → Bool → D.Cleaned → D.Cleaned
-refuseIf k true later = Cleaned.Refused k
-refuseIf k false later = later
+-- the documents' values for each answer: its number, which is 0 where nothing is refused, the points kept and the points dropped
+pub record Report : Type 0 where
+  pub number : ℕ
+  pub kept : ℕ
+  pub dropped : ℕ
 
--- 18: the list row is too short for the drops; last 9: an output row is too short for the points kept
-abbrev pub answerIn : ℕ → ℕ → Cleaning → D.Cleaned
-answerIn list points (cleaned kept drops) =
-    refuseIf 18 (ltb list (length drops)) (refuseIf 9 (ltb points (length kept)) (Cleaned.Points (length kept) (length drops)))
+abbrev pub refusing : ℕ → Report
+refusing k = record { number = k; kept = 0; dropped = 0 }
+
+abbrev pub keeping : ℕ → ℕ → Report
+keeping n m = record { number = 0; kept = n; dropped = m }
+
+abbrev pub report : D.Cleaned → Report
+report (Cleaned.Refused k) = refusing k
+report (Cleaned.Points n m) = keeping n m
+
+abbrev pub judgedOf : Inputs → Judged
+judgedOf (inputs xs ys fs) = judged xs ys fs
 
 abbrev pub cleaningOf : Inputs → Cleaning
 cleaningOf (inputs xs ys fs) = cleanOf xs ys fs (length fs - 1)
+
+-- what becomes of a contour: said by an answer, or by the documents' values
+module _ {A : Type 0} (refused : ℕ → A) (points-said : ℕ → ℕ → A) where
+  abbrev pub refuseIf : ℕ → Bool → A → A
+  refuseIf k true later = refused k
+  refuseIf k false later = later
+
+  -- 18: the list row is too short for the drops; last 9: an output row is too short for the points kept
+  abbrev pub saidIn : ℕ → ℕ → Cleaning → A
+  saidIn list points (cleaned kept drops) =
+      refuseIf 18 (ltb list (length drops)) (refuseIf 9 (ltb points (length kept)) (points-said (length kept) (length drops)))
+
+  -- 1 to 5 first
+  abbrev pub saidAfter : Judged → A → A
+  saidAfter (Judged.Refused k) later = refused k
+  saidAfter Judged.Fine later = later
+
+  abbrev pub saidOf : Inputs → Cleaning → ℕ → ℕ → A
+  saidOf i c list points = saidAfter (judgedOf i) (saidIn list points c)
+
+abbrev pub answerIn : ℕ → ℕ → Cleaning → D.Cleaned
+answerIn = saidIn Cleaned.Refused Cleaned.Points
+
+abbrev pub afterJudging : Judged → D.Cleaned → D.Cleaned
+afterJudging = saidAfter Cleaned.Refused Cleaned.Points
+
+abbrev pub wholeOf : Inputs → Cleaning → ℕ → ℕ → D.Cleaned
+wholeOf = saidOf Cleaned.Refused Cleaned.Points
+
+abbrev pub valuesOf : Inputs → Cleaning → ℕ → ℕ → Report
+valuesOf = saidOf refusing keeping
 
 abbrev pub writtenIn : Inputs → Cleaning → Rows → Rows
 writtenIn i (cleaned kept drops) (rows o list) = rows (pointsInto i kept o) (front drops list)
@@ -76,21 +117,15 @@ pub record Written (i : Inputs) (c : Cleaning) (w : Both Rows Rows) (r : D.Clean
   pub answer : r ≡ answerIn (listRoom (w .entry)) (pointRoom (w .entry)) c
   pub left : w .exit ≡ leftBy r i c (w .entry)
 
--- 1 to 5 first
-abbrev pub afterJudging : Judged → D.Cleaned → D.Cleaned
-afterJudging (Judged.Refused k) later = Cleaned.Refused k
-afterJudging Judged.Fine later = later
+-- the contract of an entry that keeps and lists what c says: what it hands back, by its case and by the documents' values, and what it leaves in the rows w
+pub record Sifts (i : Inputs) (c : Cleaning) (w : Both Rows Rows) (r : D.Cleaned) : Type 0 where
+  pub answer : r ≡ wholeOf i c (listRoom (w .entry)) (pointRoom (w .entry))
+  pub values : report r ≡ valuesOf i c (listRoom (w .entry)) (pointRoom (w .entry))
+  pub left : w .exit ≡ leftBy r i c (w .entry)
 
-abbrev pub judgedOf : Inputs → Judged
-judgedOf (inputs xs ys fs) = judged xs ys fs
-
-abbrev pub wholeOf : Inputs → ℕ → ℕ → D.Cleaned
-wholeOf i list points = afterJudging (judgedOf i) (answerIn list points (cleaningOf i))
-
--- the entry's contract: what it hands back, and what it leaves in the rows w
-pub record Promise (i : Inputs) (w : Both Rows Rows) (r : D.Cleaned) : Type 0 where
-  pub answer : r ≡ wholeOf i (listRoom (w .entry)) (pointRoom (w .entry))
-  pub left : w .exit ≡ leftBy r i (cleaningOf i) (w .entry)
+-- the cleaning entry's
+abbrev pub Promise : Inputs → Both Rows Rows → D.Cleaned → Type 0
+Promise i w r = Sifts i (cleaningOf i) w r
 
 -- ---- putting back: kept points and a list
 
@@ -110,25 +145,58 @@ lentOutputs ox oy of = record { entry = outputs (before ox) (before oy) (before 
 abbrev pub outputRoom : Outputs → ℕ
 outputRoom (outputs ox oy of) = min (min (length ox) (length oy)) (length of)
 
-abbrev pub orRefuse : ℕ → Bool → R.Restored → R.Restored
-orRefuse k true later = Restored.Refused k
-orRefuse k false later = later
+-- the documents' values: the number, and the points written
+pub record PutReport : Type 0 where
+  pub number : ℕ
+  pub points : ℕ
+
+abbrev pub putRefusing : ℕ → PutReport
+putRefusing k = record { number = k; points = 0 }
+
+abbrev pub putting : ℕ → PutReport
+putting n = record { number = 0; points = n }
+
+abbrev pub putReport : R.Restored → PutReport
+putReport (Restored.Refused k) = putRefusing k
+putReport (Restored.Points n) = putting n
 
 -- 1: the kept rows differ in length; 2: no point is kept; 3: more than 1,024 points with the drops; last 9: an output row is too short for them
+abbrev pub judgedBack : ℕ → ℕ → ℕ → ℕ → ℕ → Judged
+judgedBack x y n drops room =
+    refuse 1 (rowsDiffer x y n)
+    (refuse 2 (noPoint n) (refuse 3 (ltb 1024 (n + drops)) (refuse 9 (ltb room (n + drops)) Judged.Fine)))
+
+-- said by an answer, or by these values
+module _ {A : Type 0} (refused back : ℕ → A) where
+  abbrev pub saidBack : Judged → ℕ → A
+  saidBack (Judged.Refused k) n = refused k
+  saidBack Judged.Fine n = back n
+
+  abbrev pub backOf : Inputs → ℕ → ℕ → A
+  backOf (inputs xs ys fs) drops room = saidBack (judgedBack (length xs) (length ys) (length fs) drops room) (length fs + drops)
+
+abbrev pub unlessRefused : Judged → ℕ → R.Restored
+unlessRefused = saidBack Restored.Refused Restored.Points
+
 abbrev pub restoredOf : Inputs → ℕ → ℕ → R.Restored
-restoredOf (inputs xs ys fs) drops room =
-    let n = length fs in
-    orRefuse 1 (rowsDiffer (length xs) (length ys) n)
-    (orRefuse 2 (noPoint n)
-    (orRefuse 3 (ltb 1024 (n + drops)) (orRefuse 9 (ltb room (n + drops)) (Restored.Points (n + drops)))))
+restoredOf = backOf Restored.Refused Restored.Points
+
+abbrev pub putValuesOf : Inputs → ℕ → ℕ → PutReport
+putValuesOf = backOf putRefusing putting
 
 abbrev pub spotsFor : Inputs → List (List ℕ) → List (List ℕ)
 spotsFor (inputs xs ys fs) list = spotsOf (length fs) list
 
+-- by where each point comes from
 abbrev pub leftBack : R.Restored → Inputs → List (List ℕ) → Outputs → Outputs
-leftBack (Restored.Refused k) i list o = o
-leftBack (Restored.Points n) i list o = spotsInto i (spotsFor i list) o
+leftBack (Restored.Refused k) i spots o = o
+leftBack (Restored.Points n) i spots o = spotsInto i spots o
 
-pub record PutPromise (i : Inputs) (list : List (List ℕ)) (w : Both Outputs Outputs) (r : R.Restored) : Type 0 where
-  pub answer : r ≡ restoredOf i (length list) (outputRoom (w .entry))
-  pub left : w .exit ≡ leftBack r i list (w .entry)
+-- the contract of an entry that puts so many drops back by these spots
+pub record Restores (i : Inputs) (drops : ℕ) (spots : List (List ℕ)) (w : Both Outputs Outputs) (r : R.Restored) : Type 0 where
+  pub answer : r ≡ restoredOf i drops (outputRoom (w .entry))
+  pub values : putReport r ≡ putValuesOf i drops (outputRoom (w .entry))
+  pub left : w .exit ≡ leftBack r i spots (w .entry)
+
+abbrev pub PutPromise : Inputs → List (List ℕ) → Both Outputs Outputs → R.Restored → Type 0
+PutPromise i list w r = Restores i (length list) (spotsFor i list) w r

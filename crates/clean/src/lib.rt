@@ -16,7 +16,7 @@ ghost use Rattle.clean.specs.Clean.{samePlace, onPlace, isBefore, isBoth
 ghost use Rattle.clean.specs.Pass.{repeats, afterOf, numberedAs, startOf, passing, endsFirst, Closed, Stands, Holds, Roomy};
 ghost use Rattle.clean.specs.PutBack.{markFor, copiedSpot, keptSpot, insertAt, restored, putBack, bitBy, spotsOf};
 ghost use Rattle.clean.specs.Entry.{coordinateIn, bitIn, pointsInto, cleaningOf, lent, Written, Promise};
-ghost use Rattle.clean.specs.Entry.{spotX, spotBit, spotsInto, lentOutputs, PutPromise};
+ghost use Rattle.clean.specs.Entry.{spotX, spotBit, spotsInto, judgedBack, lentOutputs, PutPromise};
 
 // What cleaning answers.
 pub enum Cleaned {
@@ -62,7 +62,7 @@ fn same_in(row: &[i16], a: usize, b: usize) -> bool
 }
 
 // Whether points a and b are equal in x and y.
-fn same_place(xs: &[i16], ys: &[i16], a: usize, b: usize) -> bool
+pub fn same_place(xs: &[i16], ys: &[i16], a: usize, b: usize) -> bool
     ensures { λ r. ⌜ r ≡ samePlace (before xs) (before ys) a b ⌝ }
 {
     if same_in(xs, a, b) {
@@ -71,14 +71,14 @@ fn same_place(xs: &[i16], ys: &[i16], a: usize, b: usize) -> bool
     false
 }
 
-fn on_place(flags: &[u8], i: usize) -> bool
+pub fn on_place(flags: &[u8], i: usize) -> bool
     ensures { λ r. ⌜ r ≡ onPlace (before flags) i ⌝ }
 {
     refusals::is_on(flag(flags, i))
 }
 
 // The number after i, of n, going round.
-fn following(i: usize, n: usize) -> usize
+pub fn following(i: usize, n: usize) -> usize
     requires { ⌜ i < n ⌝ }
     ensures { λ r. ⌜ r ≡ afterOf i n ⌝ }
 {
@@ -264,7 +264,7 @@ fn write_points(
 }
 
 // The first k numbers and the first d drops, written out if the rows have room.
-fn write_cleaned(
+pub fn write_cleaned(
     xs: &[i16],
     ys: &[i16],
     flags: &[u8],
@@ -388,14 +388,14 @@ fn put_in(spots: &mut [[u32; 2]], n: usize, place: usize, why: u32, kept: usize)
     insert(spots, n, rows::least(place, n), [from[0], mark(why)]);
 }
 
-fn wide(x: u32) -> usize
+pub fn wide(x: u32) -> usize
     ensures { λ r. ⌜ r ≡ x ⌝ }
 {
     x as usize
 }
 
 // The difference, or 0.
-fn less(a: usize, b: usize) -> usize
+pub fn less(a: usize, b: usize) -> usize
     ensures { λ r. ⌜ r ≡ a - b ⌝ }
 {
     if a < b { 0 } else { a - b }
@@ -455,7 +455,7 @@ fn copy_bits(row: &[u8], spots: &[[u32; 2]], n: usize, out: &mut [u8])
 }
 
 // The first n points put back, to the first n places of the output rows.
-fn write_spots(
+pub fn write_spots(
     xs: &[i16],
     ys: &[i16],
     flags: &[u8],
@@ -505,6 +505,25 @@ fn over(n: usize, m: usize) -> bool
     1024 - n < m
 }
 
+// Refusals 1, 2, 3 and 9, in their order: of kept rows of these lengths, so many drops, and the shortest output row.
+pub fn judge_back(x: usize, y: usize, flag: usize, drops: usize, room: usize) -> Judged
+    ensures { λ r. ⌜ r ≡ judgedBack x y flag drops room ⌝ }
+{
+    if refusals::rows_differ(x, y, flag) {
+        return Judged::Refused(1);
+    }
+    if refusals::no_point(flag) {
+        return Judged::Refused(2);
+    }
+    if over(flag, drops) {
+        return Judged::Refused(3);
+    }
+    if room < flag + drops {
+        return Judged::Refused(9);
+    }
+    Judged::Fine
+}
+
 // The entry: the upload's points, of those kept and the list.
 pub fn put_back(
     xs: &[i16],
@@ -517,19 +536,12 @@ pub fn put_back(
 ) -> Restored
     ensures { λ r. ⌜ PutPromise (contour xs ys flags) (before list) (lentOutputs ox oy of) r ⌝ }
 {
-    if refusals::rows_differ(xs.len(), ys.len(), flags.len()) {
-        return Restored::Refused(1);
-    }
-    if refusals::no_point(flags.len()) {
-        return Restored::Refused(2);
-    }
-    if over(flags.len(), list.len()) {
-        return Restored::Refused(3);
-    }
     let room = rows::least(rows::least(ox.len(), oy.len()), of.len());
-    if room < flags.len() + list.len() {
-        return Restored::Refused(9);
+    match judge_back(xs.len(), ys.len(), flags.len(), list.len(), room) {
+        Judged::Refused(k) => Restored::Refused(k),
+        Judged::Fine => {
+            put_fine(xs, ys, flags, list, ox, oy, of);
+            Restored::Points(flags.len() + list.len())
+        }
     }
-    put_fine(xs, ys, flags, list, ox, oy, of);
-    Restored::Points(flags.len() + list.len())
 }

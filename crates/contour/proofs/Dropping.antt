@@ -38,34 +38,32 @@ module _ (implied : List ℤ → List ℤ → List ℤ → Bool) (ps : Points) (
         let left : length ps - i ≡ suc (length ps - (i + 1)) = omega arith in
         rw (e, left)
 
--- ---- in the first places of a row l, of which n were to be looked at: left are left, and i of these are done
+-- ---- in the first places of a row l, of which n were to be looked at from one on: left are left, and those before place i are done
 
-pub record Dropping (implied : List ℤ → List ℤ → List ℤ → Bool) (l m : Points) (n left i : ℕ) : Type 0 where
-  pub within : i ≤ left
+pub record Dropping (implied : List ℤ → List ℤ → List ℤ → Bool) (l m : Points) (n from left i : ℕ) : Type 0 where
   pub fits : left ≤ length l
   pub same : length m ≡ length l
-  pub is : dropFrom implied (take n l) 0 ≡ dropFrom implied (take left m) i
+  pub is : dropFrom implied (take n l) from ≡ dropFrom implied (take left m) i
 
-pub drop-start : (implied : List ℤ → List ℤ → List ℤ → Bool) (l : Points) (n : ℕ) → n ≤ length l → Dropping implied l l n n 0
-drop-start implied l n h = record { within = omega arith; fits = h; same = refl; is = refl }
+pub drop-start : (implied : List ℤ → List ℤ → List ℤ → Bool) (l : Points) (n from i : ℕ) → n ≤ length l → i ≡ from → Dropping implied l l n from n i
+drop-start implied l n from i h e = record { fits = h; same = refl; is = ap (dropFrom implied (take n l)) (sym e) }
 
-module _ {implied : List ℤ → List ℤ → List ℤ → Bool} {l m : Points} {n left i : ℕ} (d : Dropping implied l m n left i) where
+module _ {implied : List ℤ → List ℤ → List ℤ → Bool} {l m : Points} {n from left i : ℕ} (d : Dropping implied l m n from left i) where
   count : length (take left m) ≡ left
   count = length-take-le left m (omega (arith, d .fits, d .same))
 
   pub drop-one : {m′ : Points} → i < left → impliedAt implied (take left m) i ≡ true → length m′ ≡ length m →
-      Holds m′ (left - 1) (removed (take left m) i) → Dropping implied l m′ n (left - 1) i
+      Holds m′ (left - 1) (removed (take left m) i) → Dropping implied l m′ n from (left - 1) i
   drop-one h e same out = record {
-    within = omega arith;
     fits = omega (arith, d .fits);
     same = same ∙ d .same;
     is = d .is ∙ drops implied (take left m) i (rw count h) e ∙ ap (λ (ps : Points). dropFrom implied ps i) (sym (out .are));
   }
 
-  pub keep-one : i < left → impliedAt implied (take left m) i ≡ false → Dropping implied l m n left (i + 1)
-  keep-one h e = record { within = omega arith; fits = d .fits; same = d .same; is = d .is ∙ keeps implied (take left m) i (rw count h) e }
+  pub keep-one : i < left → impliedAt implied (take left m) i ≡ false → Dropping implied l m n from left (i + 1)
+  keep-one h e = record { fits = d .fits; same = d .same; is = d .is ∙ keeps implied (take left m) i (rw count h) e }
 
-  pub dropped : left ≤ i → Holds m left (dropFrom implied (take n l) 0)
+  pub dropped : left ≤ i → Holds m left (dropFrom implied (take n l) from)
   dropped h = record { within = omega (arith, d .fits, d .same); are = sym (d .is ∙ stops implied (take left m) i (rw count h)) }
 
 -- ---- neighbours

@@ -8,4 +8,6 @@ pub mod Copying
 mod Values
 mod Modulo
 pub mod Standard
-mod Came
+pub mod Came
+mod Walk
+pub mod Kept

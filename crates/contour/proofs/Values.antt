@@ -1,5 +1,5 @@
 -- Worked values of the definitions, by computation. Assumes nothing.
-use mathlib.Core.Bool.{false}
+use mathlib.Core.Bool.{true, false}
 use mathlib.Core.List.{List, [], _∷_, map}
 use mathlib.Core.Path.{_≡_, refl}
 use lib.IntN.{ℤ, pos, negsuc}
@@ -31,11 +31,26 @@ unfolding pointsTo countOf placeAfter endOf segFrom dropFrom look impliedAt isIm
 doubled = refl
 
 -- neighbours going round: at place 0 and at the last place
-first-place : dropImplied (isImplied false) (on (pos 1) (pos 0) ∷ off (pos 2) (pos 0) ∷ off (pos 0) (pos 0) ∷ []) ≡ off (pos 2) (pos 0) ∷ off (pos 0) (pos 0) ∷ []
+first-place : dropImplied false (on (pos 1) (pos 0) ∷ off (pos 2) (pos 0) ∷ off (pos 0) (pos 0) ∷ []) ≡ off (pos 2) (pos 0) ∷ off (pos 0) (pos 0) ∷ []
 unfolding dropFrom look impliedAt isImplied cutOf
 first-place = refl
 
-last-place : dropImplied (isImplied false) (off (pos 0) (pos 0) ∷ on (pos 9) (pos 9) ∷ off (pos 2) (pos 0) ∷ on (pos 1) (pos 0) ∷ [])
+last-place : dropImplied false (off (pos 0) (pos 0) ∷ on (pos 9) (pos 9) ∷ off (pos 2) (pos 0) ∷ on (pos 1) (pos 0) ∷ [])
     ≡ off (pos 0) (pos 0) ∷ on (pos 9) (pos 9) ∷ off (pos 2) (pos 0) ∷ []
 unfolding dropFrom look impliedAt isImplied cutOf
 last-place = refl
+
+-- in closed mode the point at place 0 stays, though it is the midpoint of its neighbours; others go
+stays : finished true (on (pos 10) (negsuc 7) ∷ off (pos 34) (negsuc 1) ∷ on (pos 44) (pos 32) ∷ on (negsuc 9) (pos 37) ∷ off (negsuc 13) (negsuc 13) ∷ [])
+    ≡ on (pos 10) (negsuc 7) ∷ off (pos 34) (negsuc 1) ∷ on (pos 44) (pos 32) ∷ on (negsuc 9) (pos 37) ∷ off (negsuc 13) (negsuc 13) ∷ []
+unfolding dropFrom look impliedAt isImplied
+stays = refl
+
+other-goes : finished true (on (pos 0) (pos 0) ∷ off (pos 10) (pos 10) ∷ on (pos 0) (pos 0) ∷ off (negsuc 9) (negsuc 9) ∷ [])
+    ≡ on (pos 0) (pos 0) ∷ off (pos 10) (pos 10) ∷ off (negsuc 9) (negsuc 9) ∷ []
+unfolding dropFrom look impliedAt isImplied
+other-goes = refl
+
+both-stay : finished true (on (pos 5) (pos 5) ∷ off (pos 5) (pos 5) ∷ []) ≡ on (pos 5) (pos 5) ∷ off (pos 5) (pos 5) ∷ []
+unfolding dropFrom look impliedAt isImplied
+both-stay = refl

@@ -84,11 +84,17 @@ module _ (implied : List ℤ → List ℤ → List ℤ → Bool) where
   unfoldable pub dropFrom : Points → ℕ → Points
   dropFrom ps i = look (length ps - i) (impliedAt ps i) ps i
 
-  -- from place 0
-  abbrev pub dropImplied : Points → Points
-  dropImplied ps = dropFrom ps 0
+-- ---- by the mode: its test, and where looking begins
 
--- ---- the end: in the crate's mode the row is reversed; then implied points are dropped, by the mode's test
+-- in closed mode the point at place 0 stays, so implied points are looked for from place 1 on
+abbrev pub firstPlace : Bool → ℕ
+firstPlace true = 1
+firstPlace false = 0
+
+abbrev pub dropImplied : Bool → Points → Points
+dropImplied closed ps = dropFrom (isImplied closed) ps (firstPlace closed)
+
+-- ---- the end: in the crate's mode the row is reversed; then implied points are dropped, by the mode
 
 -- in closed mode the order of the input points is kept
 abbrev pub orderedIn : Bool → Points → Points
@@ -96,4 +102,4 @@ orderedIn true ps = ps
 orderedIn false ps = reverse ps
 
 abbrev pub finished : Bool → Points → Points
-finished closed ps = dropImplied (isImplied closed) (orderedIn closed ps)
+finished closed ps = dropImplied closed (orderedIn closed ps)

@@ -12,7 +12,7 @@ use lib.IntN.{ℤ}
 use lib.ListN.{length, take, drop, length-append, length-take, length-drop, length-reverse}
 use lib.Seq.{length-take-le, take-at}
 use Rattle.contour.specs.Points.{Points}
-use Rattle.contour.specs.Implied.{removed, impliedAt, look, dropFrom, dropImplied, isImplied, finished}
+use Rattle.contour.specs.Implied.{removed, impliedAt, look, dropFrom, firstPlace, dropImplied, isImplied, finished}
 use Rattle.contour.specs.Output.{front}
 use Rattle.contour.specs.declared.Written.{Written}
 use Rattle.contour.specs.Writing.{Writing, so, over, unlessOver, written, extended, writingIn, Wrote, Holds}
@@ -81,13 +81,16 @@ module _ (implied : List ℤ → List ℤ → List ℤ → Bool) where
   look-shorter (suc k) true ps i = le-trans (look-shorter k (impliedAt implied (removed ps i) i) (removed ps i) i) (removed-shorter ps i)
   look-shorter (suc k) false ps i = look-shorter k (impliedAt implied ps (i + 1)) ps (i + 1)
 
-  pub dropped-shorter : (ps : Points) → length (dropImplied implied ps) ≤ length ps
+  from-shorter : (ps : Points) (i : ℕ) → length (dropFrom implied ps i) ≤ length ps
   unfolding dropFrom
-  dropped-shorter ps = look-shorter (length ps - 0) (impliedAt implied ps 0) ps 0
+  from-shorter ps i = look-shorter (length ps - i) (impliedAt implied ps i) ps i
+
+pub dropped-shorter : (closed : Bool) (ps : Points) → length (dropImplied closed ps) ≤ length ps
+dropped-shorter closed ps = from-shorter (isImplied closed) ps (firstPlace closed)
 
 pub finished-shorter : (closed : Bool) (ps : Points) → length (finished closed ps) ≤ length ps
-finished-shorter true ps = dropped-shorter (isImplied true) ps
-finished-shorter false ps = rw (length-reverse ps) at (dropped-shorter (isImplied false) (reverse ps))
+finished-shorter true ps = dropped-shorter true ps
+finished-shorter false ps = rw (length-reverse ps) at (dropped-shorter false (reverse ps))
 
 -- ---- a row with s in its first places
 

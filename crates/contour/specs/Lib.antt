@@ -5,4 +5,5 @@ pub mod Output
 pub mod Standard
 pub mod Modulo
 pub mod Unchanged
+pub mod Kept
 pub mod Laws

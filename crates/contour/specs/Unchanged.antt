@@ -10,7 +10,7 @@ use Rattle.refusals.specs.Refusals.{isOn, judged}
 use Rattle.refusals.specs.declared.Judged.the-variants.{Fine}
 use Rattle.rows.specs.Sixteen.{SixteenBits}
 use Rattle.contour.specs.Points.{Points, flagIf, startPoint, unchangedIn}
-use Rattle.contour.specs.Implied.{isImplied, dropImplied, finished}
+use Rattle.contour.specs.Implied.{dropImplied, finished}
 use Rattle.contour.specs.Output.{column, flags}
 
 -- the points of the upload in their order, from place 0: x, y, and 1 on-curve or 0 off
@@ -21,7 +21,7 @@ asUploaded (x ∷ xs) (y ∷ ys) [] = []
 asUploaded (x ∷ xs) (y ∷ ys) (f ∷ fs) = (x ∷ y ∷ flagIf (isOn f) ∷ []) ∷ asUploaded xs ys fs
 
 abbrev pub withoutImplied : Bool → Points → Points
-withoutImplied closed ps = dropImplied (isImplied closed) ps
+withoutImplied closed ps = dropImplied closed ps
 
 -- The crate's mode writes the points in their order and the start again, since the closing segment is one of its own. They go out reversed, so from the
 -- start to the start, without those that are implied.

@@ -12,7 +12,7 @@ ghost use lib.ListN.{length, take, drop, getD, set};
 ghost use Rattle.outline.specs.Segments.{previous};
 ghost use Rattle.contour.specs.Points.{onPoint, offPoint, pointAs, startPoint, pointsOf, piecePoints, unchangedPoints, cameTo, unchangedIn};
 ghost use Rattle.contour.specs.Writing.{written, Wrote, Appended, Closed, Holds};
-ghost use Rattle.contour.specs.Implied.{cutOf, middleOf, offCurve, halfway, midwayBy, isImplied, impliedAt, removed, dropImplied, finished};
+ghost use Rattle.contour.specs.Implied.{cutOf, middleOf, offCurve, halfway, midwayBy, isImplied, impliedAt, removed, firstPlace, dropImplied, finished};
 ghost use Rattle.contour.specs.Output.{column, flagOf, flags, front, outputs, withPoints};
 
 // So many points are written; over: there were more than the row takes. Once over, it stays over.
@@ -313,13 +313,20 @@ fn remove(points: &mut [[i16; 3]], at: usize, n: usize)
     }
 }
 
-// Drops the implied points of the first n, by the mode's test, and says how many are left.
+// Where implied points are looked for first: in closed mode the point at place 0 stays.
+fn first_place(closed: bool) -> usize
+    ensures { λ r. ⌜ r ≡ firstPlace closed ⌝ }
+{
+    if closed { 1 } else { 0 }
+}
+
+// Drops the implied points of the first n, by the mode, and says how many are left.
 pub fn drop_implied(points: &mut [[i16; 3]], n: usize, closed: bool) -> usize
     requires { ⌜ n ≤ length (now points) ⌝ }
-    ensures { λ r. ⌜ Holds (now (points .exit)) r (dropImplied (isImplied closed) (take n (now (points .entry)))) ⌝ }
+    ensures { λ r. ⌜ Holds (now (points .exit)) r (dropImplied closed (take n (now (points .entry)))) ⌝ }
 {
     let mut left = n;
-    let mut i = 0;
+    let mut i = first_place(closed);
     while i < left {
         if implied_at(points, i, left, closed) {
             remove(points, i, left);

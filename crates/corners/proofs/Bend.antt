@@ -12,7 +12,7 @@ use lib.IntN.{ℤ, pos, negsuc}
 use lib.Ieee.{Float, nan, inf, fin, binary64, up, down, unlike, fits, round, mul, div, lt, le, ofBits}
 use lib.Ieee.Fits.{down-pos, add-fits, sub-fits}
 use lib.Ieee.Order.{round-mono}
-use Rattle.float.specs.Numbers.{half}
+use Rattle.float.specs.Numbers.{half, fiftieth}
 use Rattle.float.specs.Float.{absOf, rootOf}
 use Rattle.float.proofs.Own.{itself}
 use Rattle.float.proofs.Less.{not-less, less-nan}
@@ -21,7 +21,7 @@ use Rattle.float.proofs.Nearly.{grain, grain-pos, grain-some, top, room, Ratio,
 use Rattle.float.proofs.Roots.{root-of}
 use Rattle.geometry.specs.declared.Point.{Point}
 use Rattle.geometry.specs.Geometry.{squareNormOf}
-use Rattle.corners.specs.Corners.{fiftieth, bend, angleCorner}
+use Rattle.corners.specs.Corners.{bend, angleCorner}
 use Rattle.corners.proofs.TwoLengths.{TwoLengths, multiplied, product-pos, product-under, wide, narrow}
 
 -- ---- the product of the squared lengths is told to be above 0.5 and below 1e20

@@ -1,21 +1,12 @@
 -- Worked values of the definitions, by computation. Assumes nothing.
 use mathlib.Core.Path.{_≡_, refl}
-use mathlib.Core.List.{List, [], _∷_, map}
+use mathlib.Core.List.{List, [], _∷_}
 use mathlib.Core.Bool.{Bool, true, false}
 use lib.IntN.{pos}
 use lib.Ieee as Ieee
 use Rattle.float.specs.Float.{absOf, tiny, closeTo, rootDown, rootNear, rootUnits, rootOf}
-use Rattle.float.specs.Decimals.{Decimal, decimal, value, nearest}
 use Rattle.outline.specs.Segments.{countOf, endOf, placeAfter, segFrom}
-use Rattle.corners.specs.Corners.{fiftieth, marked, stateAt, cornersOf}
-
--- 0.02 is the f64 nearest to its decimal
-abbrev constants : List Decimal
-constants = decimal fiftieth 2 100 ∷ []
-
-constants-are-nearest : map value constants ≡ map nearest constants
-unfolding Ieee.ofBits Ieee.round Ieee.size
-constants-are-nearest = refl
+use Rattle.corners.specs.Corners.{marked, stateAt, cornersOf}
 
 -- (0, 0), (100, 0), (0, 100), all on: three corners
 triangle : cornersOf (pos 0 ∷ pos 100 ∷ pos 0 ∷ []) (pos 0 ∷ pos 0 ∷ pos 100 ∷ []) (1 ∷ 1 ∷ 1 ∷ []) 3 ≡ true ∷ true ∷ true ∷ []

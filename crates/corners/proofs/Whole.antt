@@ -24,7 +24,7 @@ use Rattle.float.proofs.Dyadic.{round-unit, left, right, size-signed, size-of, 
 use Rattle.geometry.specs.declared.Point.{Point}
 use Rattle.geometry.specs.Geometry.{squares, normOf}
 use Rattle.outline.specs.Segments.{onAt, nextOf, endIf, endOf, startOf, coordinate, step, segIf, segFrom, leavingOf, arrivingOf, previous}
-use Rattle.corners.specs.Statements.{exactHypot, leavingHypot, arrivingHypot, BendTestIsExact}
+use Rattle.corners.specs.Statements.{wholeSum, exactHypot, leavingHypot, arrivingHypot, BendTestIsExact}
 
 -- x is the whole number ±size
 pub record Whole (x : Float) (size : ℕ) : Type 0 where
@@ -67,8 +67,11 @@ module _ (u v : ℤ) (hu : natAbs u ≤ 2 ^ 15) (hv : natAbs v ≤ 2 ^ 15) where
   pub step-whole : Whole (sub binary64 (ofInt binary64 u) (ofInt binary64 v)) (natAbs (u -ℤ v))
   step-whole = rw (← size-of exact) (record { sign = exact .sign; value = exact .value })
 
+  step-most : natAbs (u -ℤ v) ≤ 2 ^ 16
+  step-most = rw (← size-of exact) (exact .small)
+
   pub step-small : natAbs (u -ℤ v) < 2 ^ 17
-  step-small = rw (← size-of exact) (omega (arith, exact .small))
+  step-small = omega (arith, step-most)
 
 -- less 0 a whole number has its own size
 pub minus-nil : (x : Float) (a : ℕ) → Whole x a → a < 2 ^ 53 → Whole (sub binary64 x nought) a
@@ -111,6 +114,18 @@ hypot-exact x0 y0 x1 y1 hx0 hy0 hx1 hy1 =
     rw (square-is (x1 -ℤ x0), square-is (y1 -ℤ y0))
     (length-exact _ _ _ (step-whole x1 x0 hx1 hx0) (step-whole y1 y0 hy1 hy0) (step-small x1 x0 hx1 hx0) (step-small y1 y0 hy1 hy0))
 
+-- the sum is at most 2 ^ 33, so that `ofInt` rounds nothing
+sum-exact : (x0 y0 x1 y1 : ℤ) → natAbs x0 ≤ 2 ^ 15 → natAbs y0 ≤ 2 ^ 15 → natAbs x1 ≤ 2 ^ 15 → natAbs y1 ≤ 2 ^ 15 →
+    let sum = (x1 -ℤ x0) *ℤ (x1 -ℤ x0) +ℤ (y1 -ℤ y0) *ℤ (y1 -ℤ y0) in
+    Exact (ofInt binary64 sum) sum 0 (2 ^ 33)
+sum-exact x0 y0 x1 y1 hx0 hy0 hx1 hy1 =
+    let a = natAbs (x1 -ℤ x0) in
+    let b = natAbs (y1 -ℤ y0) in
+    let ha : a * a ≤ 2 ^ 16 * 2 ^ 16 = mul-le-mul (step-most x1 x0 hx1 hx0) (step-most x1 x0 hx1 hx0) in
+    let hb : b * b ≤ 2 ^ 16 * 2 ^ 16 = mul-le-mul (step-most y1 y0 hy1 hy0) (step-most y1 y0 hy1 hy0) in
+    let most : a * a + b * b ≤ 2 ^ 33 = omega arith in
+    rw (square-is (x1 -ℤ x0), square-is (y1 -ℤ y0)) (whole-exact (pos (a * a + b * b)) (2 ^ 33) most (lit≤ tt))
+
 -- ---- the tangents of a contour
 
 size-most : (z : ℤ) → mag z < 2 ^ 15 → natAbs z ≤ 2 ^ 15
@@ -151,6 +166,11 @@ module _ (xs ys : List ℤ) (fs : List ℕ) (sx : SixteenBits xs) (sy : SixteenB
   places : (i j : ℕ) → normOf (between xs ys i j) ≡ exactHypot xs ys i j
   places i j = hypot-exact _ _ _ _ (size-at xs sx i) (size-at ys sy i) (size-at xs sx j) (size-at ys sy j)
 
+  sums-at : (i j : ℕ) → Exact (ofInt binary64 (wholeSum xs ys i j)) (wholeSum xs ys i j) 0 (2 ^ 33)
+  sums-at i j =
+      sum-exact (getD xs i (pos 0)) (getD ys i (pos 0)) (getD xs j (pos 0)) (getD ys j (pos 0))
+      (size-at xs sx i) (size-at ys sy i) (size-at xs sx j) (size-at ys sy j)
+
   leaves-at : (a : ℕ) → normOf (leavingOf (segFrom xs ys fs a)) ≡ leavingHypot xs ys fs a
   leaves-at a = ap normOf (leaving-is xs ys fs a) ∙ places _ _
 
@@ -159,6 +179,7 @@ module _ (xs ys : List ℤ) (fs : List ℕ) (sx : SixteenBits xs) (sy : SixteenB
 
 pub bend-test-exact : BendTestIsExact
 bend-test-exact xs ys fs sx sy = record {
+  whole = λ i j. sums-at xs ys fs sx sy i j;
   leaving = λ k. leaves-at xs ys fs sx sy (startOf fs k);
   arriving = λ k. arrives-at xs ys fs sx sy (startOf fs k);
   test = λ m k. rw (arrives-at xs ys fs sx sy (startOf fs (previous m k)), leaves-at xs ys fs sx sy (startOf fs k));

@@ -4,10 +4,10 @@ use mathlib.Core.Bool.{Bool, true, false, _&&_, _||_}
 use mathlib.Core.List.{List}
 use lib.IntN.{ℤ}
 use lib.ListN.{set, replicate}
-use lib.Ieee.{Float, binary64, sub, mul, div, lt, ofBits}
+use lib.Ieee.{Float, binary64, sub, mul, div, lt}
 use Rattle.float.specs.Float.{absOf, closeTo}
 use Rattle.geometry.specs.declared.Point.{Point}
-use Rattle.float.specs.Numbers.{nought}
+use Rattle.float.specs.Numbers.{nought, fiftieth}
 use Rattle.geometry.specs.Geometry.{normOf}
 use Rattle.outline.specs.Segments.{previous, point, origin, segAt, countOf, chordOf, leavingOf, arrivingOf}
 
@@ -47,10 +47,6 @@ zeroBefore d0 d1 = zeroTangent d0
 
 abbrev pub zeroAfter : Point → Point → Bool
 zeroAfter d0 d1 = zeroTangent d1
-
--- 0.02, rounded
-abbrev pub fiftieth : Float
-fiftieth = ofBits binary64 0x3f94_7ae1_47ae_147b
 
 abbrev pub bend : Point → Point → Float
 bend d0 d1 = sub binary64 (mul binary64 (d1 .x) (d0 .y)) (mul binary64 (d0 .x) (d1 .y))

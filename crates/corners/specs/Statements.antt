@@ -1,18 +1,20 @@
 -- What a reader should know of corners, as types; a theorem of proofs/ is of each: `corner-when` and `no-corner-past` of Reasons, `bend-test-exact`
 -- of Whole. Statements only.
-use Prim.Native.Nat.{ℕ, _+_, _≤_, _<_}
+use Prim.Native.Nat.{ℕ, _+_, _^_, _≤_, _<_}
 use mathlib.Core.Bool.{Bool, false, _||_}
 use mathlib.Core.List.{List}
 use mathlib.Core.Path.{_≡_}
 use lib.IntN.{ℤ, pos, _+ℤ_, _-ℤ_, _*ℤ_}
 use lib.ListN.{length, getD}
 use lib.Ieee.{Float, binary64, mul, div, lt, ofInt}
+use Rattle.float.specs.Numbers.{fiftieth}
 use Rattle.float.specs.Float.{absOf, rootOf}
+use Rattle.float.specs.Dyadic.{Exact}
 use Rattle.geometry.specs.declared.Point.{Point}
 use Rattle.geometry.specs.Geometry.{normOf}
 use Rattle.rows.specs.Sixteen.{SixteenBits}
 use Rattle.outline.specs.Segments.{onAt, countOf, nextOf, endIf, endOf, startOf, segAt, leavingOf, arrivingOf, origin, previous}
-use Rattle.corners.specs.Corners.{bend, fiftieth, zeroBefore, zeroAfter, turnAt, tangentAt, afterFirst, cornersOf}
+use Rattle.corners.specs.Corners.{bend, zeroBefore, zeroAfter, turnAt, tangentAt, afterFirst, cornersOf}
 
 -- In a row of n places an index is marked exactly when one of its tests holds: a sign turn in x or in y, in the first or in the second round; a zero
 -- tangent before or after, or an angle. An index past the segments is none.
@@ -27,12 +29,16 @@ NoCornerPastSegments = (xs ys : List ℤ) (fs : List ℕ) (n k : ℕ) → countO
 -- ---- the root of the bend test
 
 module _ (xs ys : List ℤ) where
-  -- the root, rounded once, of the exact whole sum of squares, for the step from the point at place i to that at place j
-  abbrev pub exactHypot : ℕ → ℕ → Float
-  exactHypot i j =
+  -- the whole sum of squares, for the step from the point at place i to that at place j
+  abbrev pub wholeSum : ℕ → ℕ → ℤ
+  wholeSum i j =
       let dx = getD xs j (pos 0) -ℤ getD xs i (pos 0) in
       let dy = getD ys j (pos 0) -ℤ getD ys i (pos 0) in
-      rootOf (ofInt binary64 (dx *ℤ dx +ℤ dy *ℤ dy))
+      dx *ℤ dx +ℤ dy *ℤ dy
+
+  -- its root, rounded once
+  abbrev pub exactHypot : ℕ → ℕ → Float
+  exactHypot i j = rootOf (ofInt binary64 (wholeSum i j))
 
   -- A segment from place a leaves by the step to the next place. It arrives by the step to its end, from its control where it has one.
   abbrev pub leavingHypot : List ℕ → ℕ → Float
@@ -45,8 +51,10 @@ module _ (xs ys : List ℤ) where
 abbrev pub angleBy : Float → Float → Point → Point → Bool
 angleBy h0 h1 d0 d1 = lt fiftieth (absOf (div binary64 (bend d0 d1) (mul binary64 h0 h1)))
 
--- the lengths of the tangents of every segment, counted on going round, are exact; so the tests of the tangents are those with exact lengths
+-- The whole sum is exact as a float: it is at most 2 ^ 33, and `ofInt` rounds nothing. The lengths of the tangents of every segment, counted on going
+-- round, are its roots; so the tests of the tangents are those with exact lengths.
 pub record ByExactHypot (xs ys : List ℤ) (fs : List ℕ) : Type 0 where
+  pub whole : (i j : ℕ) → Exact (ofInt binary64 (wholeSum xs ys i j)) (wholeSum xs ys i j) 0 (2 ^ 33)
   pub leaving : (k : ℕ) → normOf (leavingOf (segAt xs ys fs k)) ≡ leavingHypot xs ys fs (startOf fs k)
   pub arriving : (k : ℕ) → normOf (arrivingOf (segAt xs ys fs k)) ≡ arrivingHypot xs ys fs (startOf fs k)
   pub test :

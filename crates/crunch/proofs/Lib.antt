@@ -3,3 +3,5 @@ pub mod End
 pub mod Whole
 pub mod Cause
 pub mod Uncounted
+pub mod Along
+pub mod Written

@@ -7,3 +7,4 @@ pub mod Determine
 pub mod Laws
 pub mod Cause
 pub mod Uncounted
+pub mod Written

@@ -127,7 +127,7 @@ judged-starts xs ys fs h =
     let four = open-refusal 4 (firstOff fs) _ (two .1) in
     started fs (two .0) (four .0)
 
-refused-or : (k : ℕ) (t : Bool) (later : D.Replaced) (n : ℕ) → refuseIf k t later ≡ Replaced.Quads n → (t ≡ false) × (later ≡ Replaced.Quads n)
+refused-or : (k : ℕ) (t : Bool) (later : D.Replaced) (n : ℕ) → refuseIf Replaced.Refused Replaced.Quads k t later ≡ Replaced.Quads n → (t ≡ false) × (later ≡ Replaced.Quads n)
 refused-or k true later n h = let z : _≡_ {A = ℕ} 0 1 = cc in absurd (omega arith)
 refused-or k false later n h = (refl, h)
 

@@ -1,11 +1,13 @@
 -- What comes of the points that are made: refused, or written out. Assumes nothing.
 use Prim.Native.Nat.{ℕ, _≤_, _<_}
-use mathlib.Core.Bool.{true, false}
+use mathlib.Core.Bool.{Bool, true, false}
 use mathlib.Core.List.{map}
 use mathlib.Core.Path.{_≡_, refl, sym, ap, _∙_}
 use borrow.Author.Tests.{lt-ltb, le-ltb}
+use lib.Dec.{ltb}
 use lib.ListN.{length, take, length-map}
 use denote.Triple.Both.{Both}
+use Rattle.refusals.specs.Refusals.{tooMany}
 use Rattle.refusals.specs.declared.Judged.{Judged}
 use Rattle.refusals.specs.declared.Judged.the-variants as Judged
 use Rattle.rows.specs.Lent.{Inputs}
@@ -13,9 +15,12 @@ use Rattle.contour.specs.Points.{Points}
 use Rattle.contour.specs.Output.{Outputs, withPoints}
 use Rattle.contour.specs.Laws.{wrote-over, wrote-all, holds-count}
 use Rattle.cubics.specs.Making.{stored, MadeOf}
-use Rattle.cubics.specs.Entry.{roomOf, judgedOf, pointsOf, WrittenOut, Promise}
+use Rattle.cubics.specs.Replacing.{anyOutside}
+use Rattle.cubics.specs.Entry.{roomOf, judgedOf, pointsOf, leftBy, WrittenOut, Report, report, refusing, making, refuseIf, saidIn, saidAfter}
+use Rattle.cubics.specs.Entry.{answerIn, afterJudging, wholeOf, valuesOf, Promise}
 use Rattle.cubics.specs.declared.Made.{Made}
 use Rattle.cubics.specs.declared.Replaced as D
+use Rattle.cubics.specs.declared.Replaced.the-variants as Replaced
 use Rattle.cubics.specs.declared.Replaced.the-variants.{Refused, Quads}
 use Rattle.cubics.proofs.Making.{all-kept}
 
@@ -53,10 +58,38 @@ module _ (ps : Points) {row : Points} {m : Made} (made : MadeOf 1024 row m ps) w
           left = written ∙ ap (λ (q : Points). withPoints q o) (held h f);
         }
 
+-- ---- the documents' values
+
+abbrev refused : ℕ → Bool → D.Replaced → D.Replaced
+refused = refuseIf Replaced.Refused Replaced.Quads
+
+abbrev number : ℕ → Bool → Report → Report
+number = refuseIf refusing making
+
+report-in : (s t u : Bool) (n : ℕ) → report (refused 3 s (refused 17 t (refused 9 u (Quads n)))) ≡ number 3 s (number 17 t (number 9 u (making n)))
+report-in true t u n = refl
+report-in false true u n = refl
+report-in false false true n = refl
+report-in false false false n = refl
+
+report-after : (j : Judged) (a : D.Replaced) (v : Report) → report a ≡ v → report (afterJudging j a) ≡ saidAfter refusing making j v
+report-after (Judged.Refused k) a v e = refl
+report-after Judged.Fine a v e = e
+
+report-whole : (i : Inputs) (room : ℕ) → report (wholeOf i room) ≡ valuesOf i room
+report-whole i room =
+    let ps = pointsOf i in
+    report-after (judgedOf i) (answerIn room ps) (saidIn refusing making room ps)
+    (report-in (tooMany (length ps)) (anyOutside ps) (ltb room (length ps)) (length ps))
+
+promised : {i : Inputs} {w : Both Outputs Outputs} {r : D.Replaced} → r ≡ wholeOf i (roomOf (w .entry)) → w .exit ≡ leftBy r (pointsOf i) (w .entry) →
+    Promise i w r
+promised {i} {w} e left = record { answer = e; values = ap report e ∙ report-whole i (roomOf (w .entry)); left = left }
+
 -- ---- 1, 2, 4 and 5 first
 
 pub refused-first : (i : Inputs) (o : Outputs) {j : Judged} {k : ℕ} → j ≡ judgedOf i → j ≡ Judged.Refused k → Promise i (record { entry = o; exit = o }) (Refused k)
-refused-first i o is h = record { answer = rw (← is, h); left = refl }
+refused-first i o is h = promised (rw (← is, h)) refl
 
 pub after-judging : (i : Inputs) {w : Both Outputs Outputs} {j : Judged} {r : D.Replaced} → j ≡ judgedOf i → j ≡ Judged.Fine → WrittenOut (pointsOf i) w r → Promise i w r
-after-judging i is h written = record { answer = rw (← is, h) (written .answer); left = written .left }
+after-judging i is h written = promised (rw (← is, h) (written .answer)) (written .left)

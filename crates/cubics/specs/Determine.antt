@@ -61,7 +61,10 @@ abbrev countOf : D.Replaced → ℕ → Type 0
 countOf (Replaced.Refused k) a = Unit {0}
 countOf (Replaced.Quads n) a = n ≡ a
 
-counted : (s t u : Bool) (a : ℕ) → countOf (refuseIf 3 s (refuseIf 17 t (refuseIf 9 u (Replaced.Quads a)))) a
+abbrev refused : ℕ → Bool → D.Replaced → D.Replaced
+refused = refuseIf Replaced.Refused Replaced.Quads
+
+counted : (s t u : Bool) (a : ℕ) → countOf (refused 3 s (refused 17 t (refused 9 u (Replaced.Quads a)))) a
 counted true t u a = tt
 counted false true u a = tt
 counted false false true a = tt

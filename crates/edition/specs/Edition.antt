@@ -1,13 +1,14 @@
 -- The work on one run: the survey, then the edition, which tests half the answer rows and optimises. Definitions only.
-use Prim.Native.Nat.{ℕ, min, _/_, _<_, _≤_}
+use Prim.Native.Nat.{ℕ, _≤_}
 use mathlib.Core.Bool.{Bool, true, false}
 use mathlib.Core.List.{List}
 use mathlib.Core.Path.{_≡_}
-use lib.Dec.{T, ltb}
-use lib.Ieee.{Float, binary64, fits}
+use lib.Dec.{ltb}
+use lib.Ieee.{Float}
 use lib.IntN.{ℤ}
 use lib.ListN.{length, take}
-use Rattle.breaks.specs.Breaks.{Row, breakAt}
+pub use Rattle.rows.specs.Scratch.{Rooms, answerRoom}
+use Rattle.breaks.specs.Breaks.{Row}
 use Rattle.breaks.specs.declared.Grid.{Grid}
 use Rattle.samples.specs.Samples.{Sample}
 use Rattle.attempt.specs.Answers.{Statelet}
@@ -19,6 +20,7 @@ use Rattle.optimize.specs.Tally.{tally, untried}
 use Rattle.optimize.specs.declared.Tally.{Tally}
 use Rattle.survey.specs.Survey.{Survey, surveyOf}
 use Rattle.survey.specs.Survey as Survey
+pub use Rattle.survey.specs.Laws.{FoundBreaks}
 use Rattle.edition.specs.declared.Worked as W
 use Rattle.edition.specs.declared.Worked.the-variants as Worked
 
@@ -27,10 +29,6 @@ pub data Result : Type 0 where
   refused : ℕ → Result
   unchanged : Tally → Result
   solved : Statelet → Tally → Result
-
--- half the shortest answer row: answers and links
-abbrev pub answerRoom : ℕ → ℕ → ℕ
-answerRoom answers links = min answers links / 2
 
 abbrev pub resultOf : ℕ → Optimised → Result
 resultOf fell O.refused8 = refused 8
@@ -56,26 +54,12 @@ afterSurvey answers links penalty (Survey.refused k) = refused k
 afterSurvey answers links penalty Survey.past = unchanged untried
 afterSurvey answers links penalty (Survey.surveyed samples breaks) = editionOf answers links samples breaks penalty
 
--- how many places the scratch rows have
-pub record Rooms : Type 0 where
-  pub samples : ℕ
-  pub breaks : ℕ
-  pub answers : ℕ
-  pub links : ℕ
-
 -- the run of `count` segments from segment `first` on
 unfoldable pub workOf : Rooms → Grid → Float → List ℤ → List ℤ → List ℕ → ℕ → ℕ → Result
 workOf rooms g penalty xs ys fs first count =
     afterSurvey (rooms .answers) (rooms .links) penalty (surveyOf (rooms .samples) (rooms .breaks) xs ys fs first count g)
 
 -- ---- what the functions leave in the rows
-
--- breaks that a survey found: there are some, at most 2,048, and the first stands on doubles
-pub record FoundBreaks (breaks : Row) : Type 0 where
-  pub some : 0 < length breaks
-  pub few : length breaks ≤ 2048
-  pub fit-x : T (fits binary64 (breakAt breaks 0 .xy .x))
-  pub fit-y : T (fits binary64 (breakAt breaks 0 .xy .y))
 
 -- the breaks are the first n of their row, and the answer is the optimiser's for them
 pub data Works (penalty : Float) (breaks : Row) (answers : List (List Float)) (links : List ℕ) : Result → W.Worked → Type 0 where

@@ -9,10 +9,10 @@ use borrow.Author.Tests.{ltb-false, le-ltb}
 use lib.Dec.{ltb}
 use lib.Ieee.{Float}
 use lib.IntN.{ℤ}
-use lib.ListN.{length, take}
+use lib.ListN.{length}
 use Rattle.breaks.specs.Breaks.{Row}
 use Rattle.breaks.specs.declared.Grid.{Grid}
-use Rattle.rows.specs.Rows.{Work, work, zeroWork}
+pub use Rattle.rows.specs.Scratch.{same-cleared, cleared-work}
 use Rattle.samples.specs.Samples.{Sample}
 use Rattle.attempt.specs.Answers.{Statelet}
 use Rattle.optimize.specs.Laws.{pairs-few, pairs-few-unchanged}
@@ -20,36 +20,16 @@ use Rattle.optimize.specs.Fallen.{mostFallen, Upto, nothing-upto}
 use Rattle.optimize.proofs.FewFall.{few-fall}
 use Rattle.optimize.specs.Optimize.{Optimised, measureBy, optimizeOf}
 use Rattle.optimize.specs.Optimize as O
-use Rattle.survey.specs.Laws.{surveyed-some, surveyed-few, surveyed-fit, survey-same}
-use Rattle.survey.specs.Survey.{Survey, surveyOf, surveyIn}
+use Rattle.survey.specs.Laws.{survey-same}
+pub use Rattle.survey.specs.Laws.{surveyed-found, found-rows, in-row}
+use Rattle.survey.specs.Survey.{Survey, surveyOf}
 use Rattle.survey.specs.Survey as Survey
-use Rattle.survey.specs.declared.Surveyed as Y
-use Rattle.survey.specs.declared.Surveyed.the-variants as Surveyed
 use Rattle.optimize.specs.Tally.{untried}
 use Rattle.optimize.specs.declared.Tally.{Tally}
 use Rattle.edition.specs.Edition.{Result, refused, unchanged, solved, answerRoom, resultOf, fellIn, unlessShort, editionOf}
 use Rattle.edition.specs.Edition.{afterSurvey, Rooms, workOf, FoundBreaks, Works, no, stays, holds}
-use Rattle.edition.specs.Scratch.{roomsOf, cleared}
 use Rattle.edition.specs.declared.Worked as W
 use Rattle.edition.specs.declared.Worked.the-variants as Worked
-
-pub surveyed-found : (sampleRow breakRow : ℕ) (xs ys : List ℤ) (fs : List ℕ) (first count : ℕ) (g : Grid) (samples : List Sample) (breaks : Row) →
-    surveyOf sampleRow breakRow xs ys fs first count g ≡ Survey.surveyed samples breaks → FoundBreaks breaks
-surveyed-found sampleRow breakRow xs ys fs first count g samples breaks e =
-    let some = surveyed-some sampleRow breakRow xs ys fs first count g samples breaks e in
-    let fit = surveyed-fit sampleRow breakRow xs ys fs first count g samples breaks e 0 some in
-    record { some = some; few = surveyed-few sampleRow breakRow xs ys fs first count g samples breaks e; fit-x = fit .0; fit-y = fit .1 }
-
--- what the edition asks of the breaks that it is lent
-pub found-rows : (sampleRow breakRow : ℕ) (xs ys : List ℤ) (fs : List ℕ) (first count : ℕ) (g : Grid) (samples : List Sample) (breaks : Row)
-    {n m : ℕ} {r : Y.Surveyed} →
-    surveyOf sampleRow breakRow xs ys fs first count g ≡ surveyIn samples breaks r → r ≡ Surveyed.Rows n m → FoundBreaks (take m breaks)
-found-rows sampleRow breakRow xs ys fs first count g samples breaks {n} {m} e h =
-    surveyed-found sampleRow breakRow xs ys fs first count g (take n samples) (take m breaks) (e ∙ ap (surveyIn samples breaks) h)
-
--- so many samples, or breaks, are in a row that is as long as it was lent
-pub in-row : (used : Y.Surveyed → ℕ) {r s : Y.Surveyed} {k l : ℕ} → r ≡ s → used r ≤ k → l ≡ k → used s ≤ l
-in-row used e h kept = omega (arith, h, ap used e, kept)
 
 -- ---- a solved run
 
@@ -196,13 +176,3 @@ module _ (rooms rooms' : Rooms) (h : Within rooms rooms') (g : Grid) (penalty : 
       (survey-same (rooms .samples) (rooms .breaks) (rooms' .samples) (rooms' .breaks) (h .samples) (h .breaks) xs ys fs first count g
       (λ e. six (ap after e)) (λ e. seven (ap after e)))
       ∙ after-same (surveyOf (rooms .samples) (rooms .breaks) xs ys fs first count g) seven
-
--- ---- rows of equal lengths are cleared to the same
-
-pub same-cleared : (w w' : Work) → roomsOf w ≡ roomsOf w' → cleared w ≡ cleared w'
-same-cleared (work s b a l) (work s' b' a' l') e = ap (λ (k : Rooms). zeroWork (k .samples) (k .breaks) (k .answers) (k .links)) e
-
--- cleared at the lengths that they were lent with
-pub cleared-work : (s b a : List (List Float)) (l : List ℕ) {w : Work} {ks kb ka kl : ℕ} → w ≡ zeroWork ks kb ka kl →
-    ks ≡ length s → kb ≡ length b → ka ≡ length a → kl ≡ length l → w ≡ cleared (work s b a l)
-cleared-work s b a l e samples breaks answers links = rw (e, samples, breaks, answers, links) refl

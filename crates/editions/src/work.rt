@@ -153,7 +153,7 @@ fn step_both(
         (resultOf (roomsIn samples breaks «answers_b» «links_b») (settingsB order) (before xs) (before ys) (before flags)
         (record { first = first; count = count })))) (before «points_b») (after «points_b») (c .b) (r .b) ⌝ }
 {
-    let s = survey::survey(
+    let s = quicksurvey::survey(
         xs,
         ys,
         flags,

@@ -38,7 +38,7 @@ open-refusal : (k : ℕ) (t : Bool) (later : Judged) → refuse k t later ≡ Ju
 open-refusal k true later h = let z : _≡_ {A = ℕ} 0 1 = cc in absurd (omega arith)
 open-refusal k false later h = (refl, h)
 
-refused-or : (k : ℕ) (t : Bool) (later : D.Explicit) (n : ℕ) → refuseIf k t later ≡ Explicit.Points n → (t ≡ false) × (later ≡ Explicit.Points n)
+refused-or : (k : ℕ) (t : Bool) (later : D.Explicit) (n : ℕ) → refuseIf Explicit.Refused Explicit.Points k t later ≡ Explicit.Points n → (t ≡ false) × (later ≡ Explicit.Points n)
 refused-or k true later n h = let z : _≡_ {A = ℕ} 0 1 = cc in absurd (omega arith)
 refused-or k false later n h = (refl, h)
 

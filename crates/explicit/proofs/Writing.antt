@@ -1,10 +1,12 @@
 -- What comes of the points that are put in: refused, or written out. Assumes nothing.
 use Prim.Native.Nat.{ℕ, _≤_, _<_}
-use mathlib.Core.Bool.{true, false}
+use mathlib.Core.Bool.{Bool, true, false}
 use mathlib.Core.Path.{_≡_, refl, ap, _∙_}
 use borrow.Author.Tests.{lt-ltb, le-ltb}
+use lib.Dec.{ltb}
 use lib.ListN.{length, take}
 use denote.Triple.Both.{Both}
+use Rattle.refusals.specs.Refusals.{tooMany}
 use Rattle.refusals.specs.declared.Judged.{Judged}
 use Rattle.refusals.specs.declared.Judged.the-variants as Judged
 use Rattle.rows.specs.Lent.{Inputs}
@@ -14,7 +16,8 @@ use Rattle.contour.specs.Writing.{written, Wrote}
 use Rattle.contour.specs.Laws.{wrote-over, wrote-all, holds-count}
 use Rattle.contour.specs.declared.Written.{Written}
 use Rattle.explicit.specs.Explicit.{explicitOf}
-use Rattle.explicit.specs.Entry.{roomOf, judgedOf, WrittenOut, Promise}
+use Rattle.explicit.specs.Entry.{roomOf, judgedOf, leftBy, WrittenOut, Report, report, refusing, writing, refuseIf, saidIn, saidAfter}
+use Rattle.explicit.specs.Entry.{answerIn, afterJudging, wholeOf, valuesOf, Promise}
 use Rattle.explicit.specs.declared.Explicit as D
 use Rattle.explicit.specs.declared.Explicit.the-variants as Explicit
 use Rattle.explicit.specs.declared.Explicit.the-variants.{Refused}
@@ -44,10 +47,36 @@ module _ (ps : Points) {row : Points} {w : Written} (wrote : Wrote row w (writte
           left = out ∙ ap (λ (q : Points). withPoints q o) (wrote-all 1024 ps wrote fits .0 .are);
         }
 
+-- ---- the documents' values
+
+abbrev refused : ℕ → Bool → D.Explicit → D.Explicit
+refused = refuseIf Explicit.Refused Explicit.Points
+
+abbrev number : ℕ → Bool → Report → Report
+number = refuseIf refusing writing
+
+report-in : (s t : Bool) (n : ℕ) → report (refused 3 s (refused 9 t (Explicit.Points n))) ≡ number 3 s (number 9 t (writing n))
+report-in true t n = refl
+report-in false true n = refl
+report-in false false n = refl
+
+report-after : (j : Judged) (a : D.Explicit) (v : Report) → report a ≡ v → report (afterJudging j a) ≡ saidAfter refusing writing j v
+report-after (Judged.Refused k) a v e = refl
+report-after Judged.Fine a v e = e
+
+report-whole : (i : Inputs) (room : ℕ) → report (wholeOf i room) ≡ valuesOf i room
+report-whole i room =
+    let ps = explicitOf i in
+    report-after (judgedOf i) (answerIn room ps) (saidIn refusing writing room ps) (report-in (tooMany (length ps)) (ltb room (length ps)) (length ps))
+
+promised : {i : Inputs} {w : Both Outputs Outputs} {r : D.Explicit} → r ≡ wholeOf i (roomOf (w .entry)) → w .exit ≡ leftBy r (explicitOf i) (w .entry) →
+    Promise i w r
+promised {i} {w} e left = record { answer = e; values = ap report e ∙ report-whole i (roomOf (w .entry)); left = left }
+
 -- ---- 1, 2 and 21 first
 
 pub refused-first : (i : Inputs) (o : Outputs) {j : Judged} {k : ℕ} → j ≡ judgedOf i → j ≡ Judged.Refused k → Promise i (record { entry = o; exit = o }) (Refused k)
-refused-first i o is h = record { answer = rw (← is, h); left = refl }
+refused-first i o is h = promised (rw (← is, h)) refl
 
 pub after-judging : (i : Inputs) {w : Both Outputs Outputs} {j : Judged} {r : D.Explicit} → j ≡ judgedOf i → j ≡ Judged.Fine → WrittenOut (explicitOf i) w r → Promise i w r
-after-judging i is h out = record { answer = rw (← is, h) (out .answer); left = out .left }
+after-judging i is h out = promised (rw (← is, h) (out .answer)) (out .left)

@@ -69,7 +69,10 @@ abbrev countOf : D.Explicit → ℕ → Type 0
 countOf (Explicit.Refused k) a = Unit {0}
 countOf (Explicit.Points n) a = n ≡ a
 
-counted : (s t : Bool) (a : ℕ) → countOf (refuseIf 3 s (refuseIf 9 t (Explicit.Points a))) a
+abbrev refused : ℕ → Bool → D.Explicit → D.Explicit
+refused = refuseIf Explicit.Refused Explicit.Points
+
+counted : (s t : Bool) (a : ℕ) → countOf (refused 3 s (refused 9 t (Explicit.Points a))) a
 counted true t a = tt
 counted false true a = tt
 counted false false a = refl

@@ -40,20 +40,49 @@ judgedRows xs ys fs =
 abbrev pub judgedOf : Inputs → Judged
 judgedOf (inputs xs ys fs) = judgedRows xs ys fs
 
-abbrev pub refuseIf : ℕ → Bool → D.Explicit → D.Explicit
-refuseIf k true later = Explicit.Refused k
-refuseIf k false later = later
+-- the documents' values for each answer: its number, which is 0 where nothing is refused, and the points written
+pub record Report : Type 0 where
+  pub number : ℕ
+  pub points : ℕ
 
--- 3: more than 1,024 points; last 9: an output row too short
+abbrev pub refusing : ℕ → Report
+refusing k = record { number = k; points = 0 }
+
+abbrev pub writing : ℕ → Report
+writing n = record { number = 0; points = n }
+
+abbrev pub report : D.Explicit → Report
+report (Explicit.Refused k) = refusing k
+report (Explicit.Points n) = writing n
+
+-- what becomes of a contour: said by an answer, or by the documents' values
+module _ {A : Type 0} (refused wrote : ℕ → A) where
+  abbrev pub refuseIf : ℕ → Bool → A → A
+  refuseIf k true later = refused k
+  refuseIf k false later = later
+
+  -- 3: more than 1,024 points; last 9: an output row too short
+  abbrev pub saidIn : ℕ → Points → A
+  saidIn room ps = refuseIf 3 (tooMany (length ps)) (refuseIf 9 (ltb room (length ps)) (wrote (length ps)))
+
+  abbrev pub saidAfter : Judged → A → A
+  saidAfter (Judged.Refused k) later = refused k
+  saidAfter Judged.Fine later = later
+
+  abbrev pub saidOf : Inputs → ℕ → A
+  saidOf i room = saidAfter (judgedOf i) (saidIn room (explicitOf i))
+
 abbrev pub answerIn : ℕ → Points → D.Explicit
-answerIn room ps = refuseIf 3 (tooMany (length ps)) (refuseIf 9 (ltb room (length ps)) (Explicit.Points (length ps)))
+answerIn = saidIn Explicit.Refused Explicit.Points
 
 abbrev pub afterJudging : Judged → D.Explicit → D.Explicit
-afterJudging (Judged.Refused k) later = Explicit.Refused k
-afterJudging Judged.Fine later = later
+afterJudging = saidAfter Explicit.Refused Explicit.Points
 
 abbrev pub wholeOf : Inputs → ℕ → D.Explicit
-wholeOf i room = afterJudging (judgedOf i) (answerIn room (explicitOf i))
+wholeOf = saidOf Explicit.Refused Explicit.Points
+
+abbrev pub valuesOf : Inputs → ℕ → Report
+valuesOf = saidOf refusing writing
 
 -- ---- the contract
 
@@ -67,7 +96,8 @@ pub record WrittenOut (ps : Points) (w : Both Outputs Outputs) (r : D.Explicit) 
   pub answer : r ≡ answerIn (roomOf (w .entry)) ps
   pub left : w .exit ≡ leftBy r ps (w .entry)
 
--- the entry's contract: what it hands back, and what it leaves in the rows w
+-- the entry's contract: what it hands back, by its case and by the documents' values, and what it leaves in the rows w
 pub record Promise (i : Inputs) (w : Both Outputs Outputs) (r : D.Explicit) : Type 0 where
   pub answer : r ≡ wholeOf i (roomOf (w .entry))
+  pub values : report r ≡ valuesOf i (roomOf (w .entry))
   pub left : w .exit ≡ leftBy r (explicitOf i) (w .entry)

@@ -4,5 +4,6 @@ pub mod Cleaning
 pub mod FromCubics
 pub mod Glif
 pub mod Glyph
+pub mod IdleControls
 pub mod Reasons
 pub mod WrittenOut

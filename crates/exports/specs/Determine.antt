@@ -9,6 +9,7 @@ use Rattle.settings.specs.declared.Settings.{Settings}
 use Rattle.contour.specs.Output.{Outputs}
 use Rattle.glyf.specs.Layout.{Glyph}
 use Rattle.glyf.specs.Layout as Layout
+use Rattle.clean.specs.Clean.{Cleaning}
 use Rattle.clean.specs.Entry as Clean
 use Rattle.clean.specs.Determine as CleanOnce
 use Rattle.why.specs.Entry as Why
@@ -27,7 +28,8 @@ use Rattle.editions.specs.Entry as Editions
 use Rattle.editions.specs.Determine as EditionsOnce
 use Rattle.editions.specs.declared.entry.Editions as Answers
 use Rattle.editions.specs.declared.work.Order.{Order}
-use Rattle.exports.specs.Cleaning as Cleaning
+use Rattle.clean.specs.declared.Cleaned as Cleaned
+use Rattle.clean.specs.declared.Restored as Restored
 use Rattle.exports.specs.Reasons as Reasons
 use Rattle.exports.specs.FromCubics as FromCubics
 use Rattle.exports.specs.WrittenOut as WrittenOut
@@ -46,32 +48,33 @@ use Rattle.exports.specs.declared.both_editions.EditionsReport.{Editions
 shown-same : {A R : Type 0} {show : A → R} {P Q : A → Type 0} {r r' : R} (p : Shown show P r) (q : Shown show Q r') → p .answer ≡ q .answer → r ≡ r'
 shown-same {show = show} p q e = p .is ∙ ap show e ∙ sym (q .is)
 
--- ---- cleaning
+-- ---- cleaning, and whatever keeps and lists, and puts back, as it does
 
-pub clean-equal-orders : {i : Inputs} {w w' : Both Clean.Rows Clean.Rows} {r r' : CleanReport} →
+pub clean-equal-orders : {show : Cleaned.Cleaned → CleanReport} {i : Inputs} {c : Cleaning} {w w' : Both Clean.Rows Clean.Rows} {r r' : CleanReport} →
     CleanOnce.placesOf (w .entry) ≡ CleanOnce.placesOf (w' .entry) →
-    (s : Shown Cleaning.report (Clean.Promise i w) r) → (s' : Shown Cleaning.report (Clean.Promise i w') r') →
+    (s : Shown show (Clean.Sifts i c w) r) → (s' : Shown show (Clean.Sifts i c w') r') →
     CleanOnce.Same r r' (CleanOnce.firstOf (s .answer) (w .exit)) (CleanOnce.firstOf (s' .answer) (w' .exit))
 clean-equal-orders e s s' =
     let same = CleanOnce.equal-orders e (s .promise) (s' .promise) in
     record { answer = shown-same s s' (same .answer); left = same .left }
 
-pub clean-determined : {i : Inputs} {w w' : Both Clean.Rows Clean.Rows} {r r' : CleanReport} → w .entry ≡ w' .entry →
-    Shown Cleaning.report (Clean.Promise i w) r → Shown Cleaning.report (Clean.Promise i w') r' → CleanOnce.Same r r' (w .exit) (w' .exit)
+pub clean-determined : {show : Cleaned.Cleaned → CleanReport} {i : Inputs} {c : Cleaning} {w w' : Both Clean.Rows Clean.Rows} {r r' : CleanReport} →
+    w .entry ≡ w' .entry → Shown show (Clean.Sifts i c w) r → Shown show (Clean.Sifts i c w') r' → CleanOnce.Same r r' (w .exit) (w' .exit)
 clean-determined e s s' =
     let same = CleanOnce.determined e (s .promise) (s' .promise) in
     record { answer = shown-same s s' (same .answer); left = same .left }
 
-pub put-equal-orders : {i : Inputs} {list : List (List ℕ)} {w w' : Both Outputs Outputs} {r r' : PutReport} →
+pub put-equal-orders : {show : Restored.Restored → PutReport} {i : Inputs} {n : ℕ} {spots : List (List ℕ)} {w w' : Both Outputs Outputs} {r r' : PutReport} →
+    CleanOnce.Counted i n spots →
     CleanOnce.pointPlaces (w .entry) ≡ CleanOnce.pointPlaces (w' .entry) →
-    (s : Shown Cleaning.putReport (Clean.PutPromise i list w) r) → (s' : Shown Cleaning.putReport (Clean.PutPromise i list w') r') →
+    (s : Shown show (Clean.Restores i n spots w) r) → (s' : Shown show (Clean.Restores i n spots w') r') →
     CleanOnce.Same r r' (CleanOnce.firstPoints (s .answer) (w .exit)) (CleanOnce.firstPoints (s' .answer) (w' .exit))
-put-equal-orders e s s' =
-    let same = CleanOnce.put-equal-orders e (s .promise) (s' .promise) in
+put-equal-orders count e s s' =
+    let same = CleanOnce.put-equal-orders count e (s .promise) (s' .promise) in
     record { answer = shown-same s s' (same .answer); left = same .left }
 
-pub put-determined : {i : Inputs} {list : List (List ℕ)} {w w' : Both Outputs Outputs} {r r' : PutReport} → w .entry ≡ w' .entry →
-    Shown Cleaning.putReport (Clean.PutPromise i list w) r → Shown Cleaning.putReport (Clean.PutPromise i list w') r' →
+pub put-determined : {show : Restored.Restored → PutReport} {i : Inputs} {n : ℕ} {spots : List (List ℕ)} {w w' : Both Outputs Outputs} {r r' : PutReport} →
+    w .entry ≡ w' .entry → Shown show (Clean.Restores i n spots w) r → Shown show (Clean.Restores i n spots w') r' →
     CleanOnce.Same r r' (w .exit) (w' .exit)
 put-determined e s s' =
     let same = CleanOnce.put-determined e (s .promise) (s' .promise) in

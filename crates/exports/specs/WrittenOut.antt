@@ -1,8 +1,7 @@
--- What the export of implied points reports of an answer: the number is 0 where nothing is refused. Definitions only.
+-- What the export of implied points reports of an answer: its entry's values for it. Definitions only.
+use Rattle.explicit.specs.Entry as Explicit
 use Rattle.explicit.specs.declared.Explicit as D
-use Rattle.explicit.specs.declared.Explicit.the-variants as Explicit
 use Rattle.exports.specs.declared.written_out.ExplicitReport.{ExplicitReport}
 
 abbrev pub report : D.Explicit → ExplicitReport
-report (Explicit.Refused k) = record { number = k; points = 0 }
-report (Explicit.Points n) = record { number = 0; points = n }
+report c = record { number = Explicit.report c .number; points = Explicit.report c .points }

@@ -14,7 +14,7 @@ pub struct CleanReport {
     pub dropped: usize,
 }
 
-fn clean_report(c: Cleaned) -> CleanReport
+pub fn clean_report(c: Cleaned) -> CleanReport
     ensures { λ r. ⌜ r ≡ report c ⌝ }
 {
     match c {
@@ -53,7 +53,7 @@ pub struct PutReport {
     pub points: usize,
 }
 
-fn put_report(c: Restored) -> PutReport
+pub fn put_report(c: Restored) -> PutReport
     ensures { λ r. ⌜ r ≡ putReport c ⌝ }
 {
     match c {

@@ -5,5 +5,6 @@ pub mod cleaning;
 pub mod from_cubics;
 pub mod glif;
 pub mod glyph;
+pub mod idle_controls;
 pub mod reasons;
 pub mod written_out;

@@ -1,5 +1,5 @@
 -- The mathematics of the proofs, on plain values. Each function's own proof stands in its folder.
--- `Own`, `Exact`, `Nearest`, `Values` and `Decimals` have the theorems for a reader, whose statements are types of specs/: Unrounded, Rounding, Worked, Decimals.
+-- `Own`, `Exact`, `Nearest`, `Values` and `Constants` have the theorems for a reader, whose statements are types of specs/: Unrounded, Rounding, Worked, Constants.
 pub mod Number
 mod Sign
 mod Saturate
@@ -18,7 +18,7 @@ pub mod Roots
 pub mod Pattern
 pub mod Read
 pub mod Table
-pub mod Decimals
+pub mod Constants
 pub mod Exact
 pub mod Downward
 mod Nearest

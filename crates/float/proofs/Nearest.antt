@@ -31,17 +31,17 @@ use native.Mathlib.Omega.{arith}
 use mathlib.Core.Bool.{Bool, true, false, cond}
 use borrow.Author.Tests.{ltb-true, ltb-false, leb-true, leb-false}
 use lib.Dec.{T, ltb, leb}
-use lib.Pow.{pow-add, pow-mono, pow-pos}
+use lib.Pow.{pow-add, pow-mono, pow-pos, shl-lt}
 use lib.IntN.{ℤ}
 use lib.Ieee.{Float, fin, binary64, up, down, fits}
 use lib.Ieee.Exact.{HasValue, odd-sign}
-use lib.Ieee.Fits.{down-pos}
+use lib.Ieee.Fits.{down-pos, odd-fits}
 use Rattle.float.specs.Float.{rootDown, rootNear, rootUnits, rootOf}
 use Rattle.float.specs.Rounding.{RootIsNearest}
 use Rattle.float.specs.Steps.{scaled}
 use Rattle.float.proofs.Squares.{Root, root-down, sq-next, sq-twice}
-use Rattle.float.proofs.Fitting.{below-prec, down-in, place}
-use Rattle.float.proofs.Scaled.{word, half, exact, normal, below, root-in, units, four-pow, four-pos, shifted}
+use Rattle.float.proofs.Fitting.{below-prec, down-in, place, in-units}
+use Rattle.float.proofs.Scaled.{pow-lt-back, word, half, exact, normal, below, root-in, units, four-pow, four-pos, shifted}
 use Rattle.float.proofs.Read.{rootOf-is}
 
 -- ---- of a whole number n above 0: 4 * n lies strictly between the squares of 2 * p - 1 and 2 * p + 1
@@ -89,36 +89,53 @@ record Between-steps (x r : Float) : Type 0 where
   normal : 2 ^ 104 * 4 ^ k ≤ n * 2 ^ 1074
   above : (2 * p - 1) * (2 * p - 1) * 4 ^ k < 4 * (n * 2 ^ 1074)
   below : 4 * (n * 2 ^ 1074) < (2 * p + 1) * (2 * p + 1) * 4 ^ k
+  an-f64 : T (fits binary64 r)
+
+-- x is below 2 ^ 2098 units, so that its root, of at least 2 ^ 52 * 2 ^ k units, is far below that
+scale-few : (n k : ℕ) → n < 2 ^ 2098 → 2 ^ 104 * 4 ^ k ≤ n * 2 ^ 1074 → k < 1534
+scale-few n k few least =
+    let is : 2 ^ 104 * 4 ^ k ≡ 2 ^ (104 + (k + k)) = ap (λ (a : ℕ). 2 ^ 104 * a) (four-pow k) ∙ sym (pow-add 2 104 (k + k)) in
+    let top : n * 2 ^ 1074 < 2 ^ 3172 = mul-lt-mul-of-pos-right few (pow-pos 1074) in
+    halved k (pow-lt-back (104 + (k + k)) 3172 (lt-of-le-of-lt (subst (λ (a : ℕ). a ≤ n * 2 ^ 1074) is least) top))
+  where
+    halved : (k : ℕ) → 104 + (k + k) < 3172 → k < 1534
+    halved k h = omega arith
+
+scaled-fits : (p k : ℕ) → p < 2 ^ 53 → k < 1534 → T (fits binary64 (scaled p k))
+scaled-fits p k small few =
+    let places : 53 + k ≤ 2098 = omega arith in
+    odd-fits binary64 53 false p k small (le-of-lt small) (lt-of-lt-of-le (shl-lt 53 k small) (pow-mono places))
 
 between-steps : (m : ℕ) (e : ℤ) → T (fits binary64 (fin false (suc m) e)) → Between-steps (fin false (suc m) e) (rootOf (fin false (suc m) e))
 between-steps m e f =
-    let pl = place e (down-in false (suc m) e f) in
-    let i = pl .0 in
+    let u = in-units false m e f in
+    let i = u .j in
     let M = suc m in
     let n = M * 2 ^ i in
     let N = word M i * 2 ^ 42 in
     let p = rootNear 53 N in
     let k = half M i + 484 in
     let small : M < 2 ^ 53 = below-prec false (suc m) e f in
-    let value : M * up e * 2 ^ 1074 ≡ n * down e = mul-assoc M (up e) (2 ^ 1074) ∙ ap (λ (a : ℕ). M * a) (pl .1) ∙ sym (mul-assoc M (2 ^ i) (down e)) in
     let is : rootOf (fin false M e) ≡ scaled p k =
-    rootOf-is m e ∙ ap rootUnits (ap (λ (a : ℕ). a / down e) value ∙ mul-div-cancel n (down-pos e)) ∙ sym (units M i (zero-lt-suc m) small) in
+    rootOf-is m e ∙ ap rootUnits (ap (λ (a : ℕ). a / down e) (u .is) ∙ mul-div-cancel n (down-pos e)) ∙ sym (units M i (zero-lt-suc m) small) in
     let whole : N * 4 ^ k ≡ n * 2 ^ 1074 =
     ap (λ (a : ℕ). N * a) (pow-add 4 (half M i) 484) ∙ sym (mul-assoc N (4 ^ half M i) (4 ^ 484)) ∙ ap (λ (a : ℕ). a * 4 ^ 484) (exact M i (zero-lt-suc m) small) ∙ mul-assoc n (2 ^ 106) (4 ^ 484) in
     let w = normal M i (zero-lt-suc m) small in
     let at-least : 2 ^ 104 ≤ N = omega (arith, w .least) in
     let b = near-between 53 N (omega arith) (below w) in
     let four : 4 * N * 4 ^ k ≡ 4 * (n * 2 ^ 1074) = mul-assoc 4 N (4 ^ k) ∙ ap (λ (a : ℕ). 4 * a) whole in
+    let least : 2 ^ 104 * 4 ^ k ≤ n * 2 ^ 1074 = subst (λ (a : ℕ). 2 ^ 104 * 4 ^ k ≤ a) whole (mul-le-mul-right (4 ^ k) at-least) in
     record {
       n = n;
       p = p;
       k = k;
-      x-is = (refl, value);
+      x-is = (refl, u .is);
       r-is = subst (λ (r : Float). HasValue r false (p * 2 ^ k) (2 ^ 1074)) (sym is) (odd-sign 53 false p k 1074);
       digits = root-in w;
-      normal = subst (λ (a : ℕ). 2 ^ 104 * 4 ^ k ≤ a) whole (mul-le-mul-right (4 ^ k) at-least);
+      normal = least;
       above = subst (λ (a : ℕ). (2 * p - 1) * (2 * p - 1) * 4 ^ k < a) four (mul-lt-mul-of-pos-right (b .0) (four-pos k));
       below = subst (λ (a : ℕ). a < (2 * p + 1) * (2 * p + 1) * 4 ^ k) four (mul-lt-mul-of-pos-right (b .1) (four-pos k));
+      an-f64 = subst (λ (r : Float). T (fits binary64 r)) (sym is) (scaled-fits p k (root-in w .1) (scale-few n k (u .few) least));
     }
 
 -- ---- of every other float
@@ -242,6 +259,7 @@ root-nearest m e f =
       p = b .p * 2 ^ b .k;
       x-is = b .x-is;
       r-is = b .r-is;
+      an-f64 = b .an-f64;
       above = nearer-above b;
       below = nearer-below b;
       negative = λ y q g v. nearer-negative b q;

@@ -2,11 +2,10 @@
 -- Assumes nothing.
 use mathlib.Core.Path.{_≡_, refl, sym, ap, _∙_, subst}
 use Prim.Native.Nat.{ℕ, zero, suc, _+_, _-_, _*_, _/_, _^_, _<_}
-use native.Mathlib.Nat.{one-mul, mul-assoc, mul-right-comm, mul-lt-mul-of-pos-right, lt-of-mul-lt-mul-right}
+use native.Mathlib.Nat.{one-mul, mul-right-comm}
 use native.Mathlib.Omega.{arith}
 use mathlib.Core.Bool.{Bool, true, false, cond}
 use lib.Dec.{T, lit<}
-use lib.Pow.{pow-pos}
 use lib.IntN.{ℤ, pos}
 use lib.Ieee.{Float, nan, inf, fin, Format, binary64, prec, low, top, hid, size, up, down, fits, round, mul, ofBits, toBits}
 use lib.Ieee.Bits.{ofBits-toBits}
@@ -15,7 +14,7 @@ use lib.Ieee.Exact.{HasValue, round-exact}
 use lib.Ieee.Nearest.{div-same}
 use lib.Ieee.Scale.{round-same}
 use Rattle.float.specs.Unrounded.{RoundsToItself, OneTimesIsItself}
-use Rattle.float.proofs.Fitting.{fits-says, down-in, place}
+use Rattle.float.proofs.Fitting.{fits-says, in-units}
 
 -- ---- the value of an f64, rounded
 
@@ -25,15 +24,8 @@ nothing a b c d = omega arith
 pub own-value : (s : Bool) (m : ℕ) (e : ℤ) → T (fits binary64 (fin s m e)) → HasValue (round binary64 s (m * up e) (down e)) s (m * up e) (down e)
 own-value s zero e f = round-exact binary64 s (0 * up e) (down e) 0 0 (down-pos e) (lit< tt) (lit< tt) (nothing (up e) (2 ^ 1074) (2 ^ 0) (down e))
 own-value s (suc m) e f =
-    let p = place e (down-in s (suc m) e f) in
-    let j = p .0 in
-    let same : suc m * up e * 2 ^ 1074 ≡ suc m * 2 ^ j * down e =
-    mul-assoc (suc m) (up e) (2 ^ 1074) ∙ ap (λ (n : ℕ). suc m * n) (p .1) ∙ sym (mul-assoc (suc m) (2 ^ j) (down e)) in
-    let less : suc m * 2 ^ j * down e < 2 ^ 2098 * down e =
-    subst (λ (n : ℕ). n < 2 ^ 2098 * down e) same
-    (subst (λ (n : ℕ). suc m * up e * 2 ^ 1074 < n) (mul-right-comm (2 ^ 1024) (down e) (2 ^ 1074))
-    (mul-lt-mul-of-pos-right (fits-says s m e f .2) (pow-pos 1074))) in
-    round-exact binary64 s (suc m * up e) (down e) (suc m) j (down-pos e) (fits-says s m e f .0) (lt-of-mul-lt-mul-right (down e) less) same
+    let u = in-units s m e f in
+    round-exact binary64 s (suc m * up e) (down e) (suc m) (u .j) (down-pos e) (fits-says s m e f .0) (u .few) (u .is)
 
 -- ---- two values that fit, of one sign and one size, have the same bits, so they are one
 

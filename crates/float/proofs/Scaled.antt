@@ -16,7 +16,7 @@ use Rattle.float.specs.declared.Radicand.the-variants.{Scaled}
 use Rattle.float.proofs.Squares.{Root, root-down}
 
 -- ---- powers of two
-pow-lt-back : (a b : ℕ) → 2 ^ a < 2 ^ b → a < b
+pub pow-lt-back : (a b : ℕ) → 2 ^ a < 2 ^ b → a < b
 pow-lt-back a b h = lt-of-not-le (λ (g : b ≤ a). not-le-of-lt h (pow-mono g))
 
 pub four-pow : (h : ℕ) → 4 ^ h ≡ 2 ^ (h + h)

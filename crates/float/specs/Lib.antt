@@ -5,5 +5,5 @@ pub mod Steps
 pub mod Rounding
 pub mod Unrounded
 pub mod Worked
-pub mod Decimals
+pub mod Constants
 pub mod Dyadic

@@ -53,14 +53,15 @@ RoundsToNearest = (s : Bool) (m : ℕ) (e : ℤ) → T (fits binary64 (fin s m e
 
 -- ---- the root r of an x above zero
 
--- No f64 is as near. x is n smallest f64s, so its root is the root of n * 2 ^ 1074 of them; r is p of them, and y another f64, of the size q. The
--- root is nearer to r than to y where it lies on r's side of the middle between them, so where four times its square, 4 * (n * 2 ^ 1074), lies on
--- that side of (p + q) ^ 2; for a y below zero, of (p - q) ^ 2, where p - q counts as 0 if q is more.
+-- It is an f64, and no f64 is as near. x is n smallest f64s, so its root is the root of n * 2 ^ 1074 of them; r is p of them, and y another f64, of the
+-- size q. The root is nearer to r than to y where it lies on r's side of the middle between them, so where four times its square, 4 * (n * 2 ^ 1074),
+-- lies on that side of (p + q) ^ 2; for a y below zero, of (p - q) ^ 2, where p - q counts as 0 if q is more.
 pub record NearestRoot (x r : Float) : Type 0 where
   pub n : ℕ
   pub p : ℕ
   pub x-is : HasValue x false n (2 ^ 1074)
   pub r-is : HasValue r false p (2 ^ 1074)
+  pub an-f64 : T (fits binary64 r)
   pub above : (y : Float) (q : ℕ) → T (fits binary64 y) → HasValue y false q (2 ^ 1074) → p < q → 4 * (n * 2 ^ 1074) < (p + q) * (p + q)
   pub below : (y : Float) (q : ℕ) → T (fits binary64 y) → HasValue y false q (2 ^ 1074) → q < p → (p + q) * (p + q) < 4 * (n * 2 ^ 1074)
   pub negative : (y : Float) (q : ℕ) → T (fits binary64 y) → HasValue y true q (2 ^ 1074) → (p - q) * (p - q) < 4 * (n * 2 ^ 1074)

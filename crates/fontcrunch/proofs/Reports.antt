@@ -25,7 +25,7 @@ unchanged-double e = rw e nought-fits
 pub pieces-double : {c : C.Chained} {n : ℕ} {t : Tally} {s : Float} → c ≡ Chained.Pieces n s t → T (fits binary64 s) → T (fits binary64 (Chains.report c .score))
 pieces-double e h = rw e h
 
-nought-bits : toBits binary64 nought ≡ 0
+pub nought-bits : toBits binary64 nought ≡ 0
 unfolding Ieee.toBits Ieee.ofBits
 nought-bits = refl
 

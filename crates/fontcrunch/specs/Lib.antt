@@ -3,4 +3,6 @@ pub mod Determine
 pub mod Accepted
 pub mod Table
 pub mod Handed
+pub mod Calls
+pub mod Solved
 pub mod Wrong

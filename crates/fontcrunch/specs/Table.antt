@@ -1,8 +1,9 @@
 -- Document 01's values on both sides, its rows marked P, and what document 02's W3, W5, W6 and W9 add to them: cases and results as data, one way
--- to evaluate them, one list, and one computed test of them all. Assumes nothing.
+-- to evaluate them, one list. Most rows are one computation together, here; those that work a run take several steps, in proofs/, and proofs/Table says of
+-- all of them that they hold. docs/TABLE.md has them for readers. Assumes nothing.
 use Prim.Native.Nat.{ℕ, zero, suc, _+_, _^_}
 use mathlib.Core.Bool.{Bool, true, false}
-use mathlib.Core.List.{List, [], _∷_, map, List·Memᴰ}
+use mathlib.Core.List.{List, [], _∷_, _++_, map, List·Memᴰ}
 use mathlib.Core.Path.{_≡_, refl}
 use lib.IntN.{ℤ, pos, negsuc}
 use lib.Ieee as Ieee
@@ -82,7 +83,7 @@ pairsOf (solved a p) = tried p
 abbrev pub evaluate : Case → Comes
 evaluate (contour penalty closed xs ys fs) = outcome (crunchOf fullRooms 16384 (settingsOf penalty 0 closed) xs ys fs)
 evaluate (tangents d0 d1) = byAngle (angleCorner d0 d1)
-evaluate (points closed ps) = left (dropImplied (isImplied (yesOf closed)) ps)
+evaluate (points closed ps) = left (dropImplied (yesOf closed) ps)
 evaluate (coordinate g x) = breakAt (onGrid g x)
 evaluate (run penalty n e) = pairsOf (optimizeOf (atError e) (inLine (n + 1) 0) (penaltyOf (settingsOf penalty 0 0)))
 
@@ -101,8 +102,9 @@ number k = ofInt binary64 (pos k)
 abbrev pub whole : ℤ → ℤ → Point
 whole x y = record { x = ofInt binary64 x; y = ofInt binary64 y }
 
-abbrev pub rows : List Row
-rows =
+-- rows that no run is worked in: one computation shows them all
+abbrev pub atOnce : List Row
+atOnce =
     -- one on-curve point (7, 9)
     record { case = contour 16 0 (pos 7 ∷ []) (pos 9 ∷ []) (1 ∷ []); result = gives (on (pos 7) (pos 9) ∷ []) 0 }
     -- (0, 0), (100, 0), (0, 100), all on
@@ -143,10 +145,14 @@ rows =
       case = points 1 (off (pos 0) (pos 0) ∷ on (pos 0) (pos 0) ∷ off (pos 1) (pos 0) ∷ []);
       result = left (off (pos 0) (pos 0) ∷ on (pos 0) (pos 0) ∷ off (pos 1) (pos 0) ∷ []);
     }
-    -- on (0, 0) between off (2, 2) and off (-2, -2), their midpoint: dropped in closed mode too, where it is the first of the row
+    -- on (0, 0) between off (2, 2) and off (-2, -2), their midpoint: dropped in closed mode too, and kept there where it is the first of the row
+    ∷ record {
+      case = points 1 (off (pos 2) (pos 2) ∷ on (pos 0) (pos 0) ∷ off (negsuc 1) (negsuc 1) ∷ []);
+      result = left (off (pos 2) (pos 2) ∷ off (negsuc 1) (negsuc 1) ∷ []);
+    }
     ∷ record {
       case = points 1 (on (pos 0) (pos 0) ∷ off (pos 2) (pos 2) ∷ off (negsuc 1) (negsuc 1) ∷ []);
-      result = left (off (pos 2) (pos 2) ∷ off (negsuc 1) (negsuc 1) ∷ []);
+      result = left (on (pos 0) (pos 0) ∷ off (pos 2) (pos 2) ∷ off (negsuc 1) (negsuc 1) ∷ []);
     }
     -- break coordinates for 0.25, 0.24, -0.25
     ∷ record { case = coordinate halfGrid (Ieee.round binary64 false 25 100); result = breakAt (Ieee.round binary64 false 1 2) }
@@ -180,13 +186,52 @@ rows =
     ∷ record { case = contour 0 0 (pos 7 ∷ []) (pos 9 ∷ []) (0 ∷ []); result = refused 4 }
     ∷ []
 
-pub rows-hold : map (λ (r : Row). evaluate (r .case)) rows ≡ map (λ (r : Row). r .result) rows
+-- rows that work a run, each with one pair
+abbrev pub inSteps : List Row
+inSteps =
+    -- (5, 5) on, off, on: unchanged, with the start twice, since the closing line is a segment of its own; closed, it is its own answer
+    record {
+      case = contour 16 0 (pos 5 ∷ pos 5 ∷ pos 5 ∷ []) (pos 5 ∷ pos 5 ∷ pos 5 ∷ []) (1 ∷ 0 ∷ 1 ∷ []);
+      result = gives (on (pos 5) (pos 5) ∷ on (pos 5) (pos 5) ∷ off (pos 5) (pos 5) ∷ on (pos 5) (pos 5) ∷ []) 1;
+    }
+    ∷ record {
+      case = contour 16 1 (pos 5 ∷ pos 5 ∷ pos 5 ∷ []) (pos 5 ∷ pos 5 ∷ pos 5 ∷ []) (1 ∷ 0 ∷ 1 ∷ []);
+      result = gives (on (pos 5) (pos 5) ∷ off (pos 5) (pos 5) ∷ on (pos 5) (pos 5) ∷ []) 1;
+    }
+    -- (0, 0) on, (1, 0) off, (1, 1) on, (0, 1) on: the curve becomes one bent piece, itself; closed, so does the whole contour
+    ∷ record {
+      case = contour 16 0 (pos 0 ∷ pos 1 ∷ pos 1 ∷ pos 0 ∷ []) (pos 0 ∷ pos 0 ∷ pos 1 ∷ pos 1 ∷ []) (1 ∷ 0 ∷ 1 ∷ 1 ∷ []);
+      result = gives (on (pos 0) (pos 1) ∷ on (pos 1) (pos 1) ∷ off (pos 1) (pos 0) ∷ on (pos 0) (pos 0) ∷ []) 1;
+    }
+    ∷ record {
+      case = contour 16 1 (pos 0 ∷ pos 1 ∷ pos 1 ∷ pos 0 ∷ []) (pos 0 ∷ pos 0 ∷ pos 1 ∷ pos 1 ∷ []) (1 ∷ 0 ∷ 1 ∷ 1 ∷ []);
+      result = gives (on (pos 0) (pos 0) ∷ off (pos 1) (pos 0) ∷ on (pos 1) (pos 1) ∷ on (pos 0) (pos 1) ∷ []) 1;
+    }
+    -- closed, the lost curve comes back
+    ∷ record {
+      case = contour 16 1 (pos 0 ∷ pos 100 ∷ pos 50 ∷ []) (pos 0 ∷ pos 0 ∷ pos 100 ∷ []) (1 ∷ 1 ∷ 0 ∷ []);
+      result = gives (on (pos 0) (pos 0) ∷ on (pos 100) (pos 0) ∷ off (pos 50) (pos 100) ∷ []) 1;
+    }
+    ∷ []
+
+abbrev pub rows : List Row
+rows = atOnce ++ inSteps
+
+-- a list of rows holds where what they give, evaluated, is what they say comes of it
+abbrev pub Hold : List Row → Type 0
+Hold rs = map (λ (r : Row). evaluate (r .case)) rs ≡ map (λ (r : Row). r .result) rs
+
+-- the whole table does (proofs/Table)
+abbrev pub TableHolds : Type 0
+TableHolds = Hold rows
+
+pub at-once-hold : Hold atOnce
 unfolding Corners.marked Corners.stateAt Corners.cornersOf crunchOf judgedFor judged offNeighbours crunchRuns crunchAll afterRun stopsOf cornerList between
     marksFrom countOf endOf placeAfter segFrom piecesPoints dropFrom look impliedAt isImplied cutOf optimizeOf tryAll tryLineQuad bent tryQuad
     penaltyOf combined splitsFrom falling searchFrom absOf tiny closeTo wholeBy rootOf rootUnits rootNear rootDown Ieee.toSigned Ieee.ofInt Ieee.ofBits
     Ieee.round Ieee.size Ieee.add Ieee.sub Ieee.mul Ieee.div Ieee.lt
-rows-hold = refl
+at-once-hold = refl
 
 -- each row by itself
-pub worked : (r : Row) → List·Memᴰ r rows → evaluate (r .case) ≡ r .result
-worked = each (λ (r : Row). evaluate (r .case)) (λ (r : Row). r .result) rows rows-hold
+pub shown-at-once : (r : Row) → List·Memᴰ r atOnce → evaluate (r .case) ≡ r .result
+shown-at-once = each (λ (r : Row). evaluate (r .case)) (λ (r : Row). r .result) atOnce at-once-hold

@@ -38,7 +38,7 @@ use Rattle.checks.specs.declared.Ruling.{Ruling}
 use Rattle.checks.specs.declared.Verdict.{Verdict}
 use Rattle.checks.specs.declared.Verdict.the-variants as Verdict
 use Rattle.fontcrunch.specs.Accepted.{chainFrom, accepted-chain}
-use Rattle.fontcrunch.specs.Table.{outcome, gives, worked, on}
+use Rattle.fontcrunch.specs.Table.{outcome, gives, shown-at-once, on}
 
 -- ---- crunching, in rows with document 01's full rooms
 
@@ -61,14 +61,14 @@ abbrev point : Inputs
 point = inputs (pos 7 ∷ []) (pos 9 ∷ []) (1 ∷ [])
 
 point-out : outcome (crunchWhole point) ≡ gives (on (pos 7) (pos 9) ∷ []) 0
-point-out = worked _ (List·Memᴰ·head refl)
+point-out = shown-at-once _ (List·Memᴰ·head refl)
 
 -- three points, of which the closing curve is lost: two come out
 abbrev lost : Inputs
 lost = inputs (pos 0 ∷ pos 100 ∷ pos 50 ∷ []) (pos 0 ∷ pos 0 ∷ pos 100 ∷ []) (1 ∷ 1 ∷ 0 ∷ [])
 
 lost-out : outcome (crunchWhole lost) ≡ gives (on (pos 100) (pos 0) ∷ on (pos 0) (pos 0) ∷ []) 0
-lost-out = worked _ (List·Memᴰ·tail (List·Memᴰ·tail (List·Memᴰ·head refl)))
+lost-out = shown-at-once _ (List·Memᴰ·tail (List·Memᴰ·tail (List·Memᴰ·head refl)))
 
 point-fine : judged (pos 7 ∷ []) (pos 9 ∷ []) (1 ∷ []) ≡ Judged.Fine
 unfolding judged offNeighbours
@@ -173,3 +173,9 @@ says-always-no f right xs ys fs k room ps score tally e denied =
     let both : Verdict.Yes ≡ Verdict.No = sym accepted ∙ ap (λ (v : Ruling). v .verdict) (sym (right (inputs xs ys fs) k (chainFrom ps score))) ∙ denied in
     let z : _≡_ {A = ℕ} 0 1 = cc in
     absurd (omega arith)
+
+-- one run has such a chain (proofs/Solved), so that no checker which is right says always no
+abbrev pub NeverAlwaysNo : Type 0
+NeverAlwaysNo =
+    (f : Inputs → ℕ → GivenChain → Ruling) → ((i : Inputs) (k : ℕ) (c : GivenChain) → f i k c ≡ checkWhole i k c) →
+    ((i : Inputs) (k : ℕ) (c : GivenChain) → f i k c .verdict ≡ Verdict.No) → ⊥

@@ -53,11 +53,11 @@ fn crunch_report(c: Crunched) -> CrunchReport
             pairs: 0,
             fallen: 0,
         },
-        Crunched::Points(points, t) => CrunchReport {
+        Crunched::Points(points, tally) => CrunchReport {
             number: 0,
             points,
-            pairs: t.pairs,
-            fallen: t.fallen,
+            pairs: tally.pairs,
+            fallen: tally.fallen,
         },
     }
 }

@@ -1,14 +1,13 @@
 -- Worked values of the definitions, by computation. Assumes nothing.
 use mathlib.Core.Path.{_≡_, refl}
-use mathlib.Core.List.{List, [], _∷_, map}
+use mathlib.Core.List.{[], _∷_, map}
 use mathlib.Core.Bool.{true, false}
 use Prim.Native.Nat.{ℕ, _^_}
 use lib.Ieee as Ieee
 use lib.Ieee.{Float, nan, binary64, round, ofBits}
 use Rattle.float.specs.Float.{absOf, tiny, closeTo, wholeBy, rootDown, rootNear, rootUnits, rootOf}
-use Rattle.geometry.specs.Geometry.{isInt, isClose, distanceOf, unitizeOf, lineQuad, isLine, isSmooth, intersectOf, epsilon}
-use Rattle.float.specs.Numbers.{nought, half}
-use Rattle.float.specs.Decimals.{Decimal, decimal, value, nearest}
+use Rattle.geometry.specs.Geometry.{isInt, isClose, distanceOf, unitizeOf, lineQuad, isLine, isSmooth, intersectOf}
+use Rattle.float.specs.Numbers.{nought, half, epsilon}
 use Rattle.geometry.specs.declared.Point.{Point}
 use Rattle.geometry.specs.declared.Quad.{Quad}
 use Rattle.geometry.specs.declared.Crossing.the-variants.{At, Nowhere}
@@ -28,14 +27,6 @@ whole a b = point (num a 1) (num b 1)
 
 abbrev bent : Point → Point → Point → Quad
 bent a b c = record { p0 = a; p1 = b; p2 = c }
-
--- the named constant is the f64 nearest to 2 ^ -52
-abbrev constants : List Decimal
-constants = decimal epsilon 1 (2 ^ 52) ∷ []
-
-constants-are-nearest : map value constants ≡ map nearest constants
-unfolding Ieee.ofBits Ieee.round
-constants-are-nearest = refl
 
 -- 0.9999999999 is not whole, 1.0000000001 is
 wholes : map isInt (num 9999999999 (10 ^ 10) ∷ num 10000000001 (10 ^ 10) ∷ num 3 1 ∷ num 1 2 ∷ nan ∷ []) ≡ false ∷ true ∷ true ∷ false ∷ false ∷ []

@@ -1,18 +1,14 @@
 -- Points and quads: each float operation is rounded as IEEE 754 says, in the order of the Rust. Definitions only.
 use mathlib.Core.Bool.{Bool, true, false, _&&_}
 use lib.Dec.{T}
-use lib.Ieee.{Float, binary64, add, sub, mul, div, lt, ofBits}
+use lib.Ieee.{Float, binary64, add, sub, mul, div, lt}
 use lib.Ieee.Scale.{finite}
-use Rattle.float.specs.Numbers.{nought, half, one}
+use Rattle.float.specs.Numbers.{nought, half, one, epsilon}
 use Rattle.float.specs.Float.{absOf, closeTo, floorOf, roundOf, rootOf}
 use Rattle.geometry.specs.declared.Point.{Point}
 use Rattle.geometry.specs.declared.Quad.{Quad}
 use Rattle.geometry.specs.declared.Crossing.{Crossing}
 use Rattle.geometry.specs.declared.Crossing.the-variants.{At, Nowhere}
-
--- 2 ^ -52, the Rust's f64::EPSILON
-abbrev pub epsilon : Float
-epsilon = ofBits binary64 0x3cb0_0000_0000_0000
 
 -- ---- points
 

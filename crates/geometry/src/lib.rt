@@ -76,7 +76,7 @@ impl Point {
     pub fn distance(self, other: Point) -> f64
         ensures { λ r. ⌜ r ≡ distanceOf self other ⌝ }
     {
-        quickroot::root(self.square_distance(other))
+        float::root(self.square_distance(other))
     }
 
     // The square of the Euclidean length.
@@ -90,7 +90,7 @@ impl Point {
     pub fn norm(self) -> f64
         ensures { λ r. ⌜ r ≡ normOf self ⌝ }
     {
-        quickroot::root(self.square_norm())
+        float::root(self.square_norm())
     }
 
     pub fn unitize(self) -> Point

@@ -6,14 +6,17 @@ use mathlib.Core.List.{List, [], _∷_, _++_}
 use mathlib.Core.Path.{_≡_, refl, sym, ap, subst, _∙_}
 use borrow.Author.Tests.{lt-ltb, le-ltb, le-leb, ne-eqb, ltb-true, ltb-false}
 use lib.Dec.{ltb}
-use lib.IntN.{pos, negsuc}
+use lib.IntN.{ℤ, pos, negsuc}
+use lib.Signed.{mag}
 use Rattle.lines.specs.Text.{lastAfter, decimalIn, decimalOf}
 use Rattle.lines.specs.Text as Text
 use Rattle.gliftext.specs.Pick.{pick, sum}
 use Rattle.gliftext.specs.Words.{pushed, digitOf, grown, noNumber, fedNumber}
 use Rattle.gliftext.specs.declared.word.Number.{Number}
 use Rattle.glif.specs.Outline.{isNumber, isFar, offsetOf}
+use Rattle.gliftext.proofs.Picks.{plain-sum}
 use Rattle.glifread.specs.Enter.{signedOf}
+use Rattle.glifread.specs.Middles.{counted}
 use Rattle.glifs.specs.Back.{numberIn, wordIn, Enters, CoordinateReadsBack, TypesReadBack}
 
 -- ---- digits
@@ -99,3 +102,9 @@ coordinate-reads-back (negsuc n) h = subst (Enters (negsuc n)) (sym (signed-text
 pub types-read-back : TypesReadBack
 unfolding wordIn pushed pick
 types-read-back = (refl, refl)
+
+-- in the scratch row it is counted from -32768
+pub coordinate-counted : (v : ℤ) → mag v < 32768 → offsetOf (numberIn (Text.signedOf v) noNumber) ≡ counted v
+unfolding Text.signedOf offsetOf pick
+coordinate-counted (pos n) h = rw (text n h) (plain-sum 32768 n (omega arith))
+coordinate-counted (negsuc n) h = rw (signed-text n h) (omega arith)

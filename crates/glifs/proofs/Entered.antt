@@ -23,7 +23,7 @@ use Rattle.gliftext.proofs.Picks.{plain-more, plain-sum, not-not}
 use Rattle.glifs.specs.Back.{numberIn}
 use Rattle.glifs.proofs.Back.{coordinate-reads-back}
 use Rattle.glifwrite.specs.Texts.{Small}
-use Rattle.glifs.proofs.Contour.{place, placed, Sound}
+use Rattle.glifs.proofs.Contour.{place, placed, Plain}
 use Rattle.glifs.proofs.Whole.{rowTo, start-next, start-first}
 
 -- ---- the scratch row
@@ -61,7 +61,7 @@ ordered ends some (suc k) c h l = by (eqb c k) refl (λ g. ordered ends some k c
         let other = eqb-false c k e in
         omega (arith, start-next ends k, before (omega arith), some k l)
 
-module _ (bs ends : List ℕ) (xs ys : List ℤ) (fs : List ℕ) (row : List (List ℕ)) (sound : (k : ℕ) → k < length ends → Sound fs (startOf ends k) (endAt ends k)) where
+module _ (bs ends : List ℕ) (xs ys : List ℤ) (fs : List ℕ) (row : List (List ℕ)) (some : (k : ℕ) → k < length ends → startOf ends k < endAt ends k) where
   row-long : (k : ℕ) → length (rowTo bs ends xs ys fs row k) ≡ length row
   unfolding rowTo
   row-long zero = refl
@@ -72,7 +72,7 @@ module _ (bs ends : List ℕ) (xs ys : List ℤ) (fs : List ℕ) (row : List (Li
   unfolding rowTo
   row-in d zero c j l r h i = absurd (omega arith)
   row-in d (suc k) c j l r h i =
-      let more = sound k l .some in
+      let more = some k l in
       by (eqb c k) refl (λ g. row-in d k c j (omega arith) (omega (arith, start-next ends k)) g i)
     where
       by : (t : Bool) → eqb c k ≡ t → (c < k → getD (rowTo bs ends xs ys fs row k) (startOf ends c + j) d ≡ place xs ys fs (startOf ends c + j) (eqb j 0)) →
@@ -81,10 +81,10 @@ module _ (bs ends : List ℕ) (xs ys : List ℤ) (fs : List ℕ) (row : List (Li
           let is = eqb-true c k e in
           let room : startOf ends k + j < endAt ends k = subst (λ (v : ℕ). startOf ends v + j < endAt ends v) is i in
           subst (λ (v : ℕ). getD (placed xs ys fs (startOf ends k) (endAt ends k - startOf ends k) (rowTo bs ends xs ys fs row k)) (startOf ends v + j) d ≡ place xs ys fs (startOf ends v + j) (eqb j 0)) (sym is)
-          (placed-in xs ys fs (startOf ends k) (rowTo bs ends xs ys fs row k) d (endAt ends k - startOf ends k) j (omega arith) (omega (arith, row-long k, start-next ends k, sound k l .some)))
+          (placed-in xs ys fs (startOf ends k) (rowTo bs ends xs ys fs row k) d (endAt ends k - startOf ends k) j (omega arith) (omega (arith, row-long k, start-next ends k, some k l)))
       by false e before =
           let other = eqb-false c k e in
-          let below : endAt ends c ≤ startOf ends k = ordered ends (λ v g. sound v g .some) k c (omega arith) (omega arith) in
+          let below : endAt ends c ≤ startOf ends k = ordered ends some k c (omega arith) (omega arith) in
           placed-out xs ys fs (startOf ends k) (rowTo bs ends xs ys fs row k) d (endAt ends k - startOf ends k) (startOf ends c + j) (omega arith) ∙ before (omega arith)
 
 -- ---- marks
@@ -103,11 +103,11 @@ mark-first true false = refl
 mark-first false true = refl
 mark-first false false = refl
 
-sought-first : (xs ys : List ℤ) (fs : List ℕ) (i : ℕ) (first : Bool) → sought true (place xs ys fs i first) ≡ first
+pub sought-first : (xs ys : List ℤ) (fs : List ℕ) (i : ℕ) (first : Bool) → sought true (place xs ys fs i first) ≡ first
 unfolding pick
 sought-first xs ys fs i first = mark-first first (not (isOn fs i))
 
-sought-on : (xs ys : List ℤ) (fs : List ℕ) (i : ℕ) (first : Bool) → sought false (place xs ys fs i first) ≡ isOn fs i
+pub sought-on : (xs ys : List ℤ) (fs : List ℕ) (i : ℕ) (first : Bool) → sought false (place xs ys fs i first) ≡ isOn fs i
 unfolding pick
 sought-on xs ys fs i first = ap not (mark-off first (not (isOn fs i))) ∙ not-not (isOn fs i)
 
@@ -128,6 +128,47 @@ seek-to first ps (suc d) r i before at =
     (seek-to first ps d r (i + 1) (λ j h. let on : i + suc j ≡ i + 1 + j = omega arith in subst (λ (v : ℕ). sought first (getD ps v noPlace) ≡ false) on (before (suc j) (omega arith)))
     (λ h. subst (λ (v : ℕ). sought first (getD ps v noPlace) ≡ true) last (at h))))
 
+-- ---- where contours begin and end in it
+
+module _ (bs ends : List ℕ) (xs ys : List ℤ) (fs : List ℕ) (row : List (List ℕ)) (some : (k : ℕ) → k < length ends → startOf ends k < endAt ends k)
+    (all : startOf ends (length ends) ≡ length fs) (room : length fs ≤ length row) where
+  abbrev pub laidRow : List (List ℕ)
+  laidRow = rowTo bs ends xs ys fs row (length ends)
+
+  pub within : (c : ℕ) → c < length ends → endAt ends c ≤ length fs
+  within c h = omega (arith, all, ordered ends some (length ends) c h (omega arith))
+
+  pub at : (c : ℕ) → c < length ends → (j : ℕ) → startOf ends c + j < endAt ends c → getD laidRow (startOf ends c + j) noPlace ≡ place xs ys fs (startOf ends c + j) (eqb j 0)
+  at c h j i = row-in bs ends xs ys fs row some noPlace (length ends) c j (omega arith) (omega (arith, all)) h i
+
+  -- a contour's places after the first are not the first of any, and the one after them is, if there is one
+  pub seeks : (c : ℕ) → c < length ends → seekFrom true laidRow (length fs - suc (startOf ends c)) (suc (startOf ends c)) ≡ endAt ends c
+  seeks c h =
+      let from = startOf ends c in
+      let points = some c h in
+      let inside = within c h in
+      let d : ℕ = endAt ends c - suc (startOf ends c) in
+      let many : endAt ends c - suc (startOf ends c) + (length fs - endAt ends c) ≡ length fs - suc (startOf ends c) = omega arith in
+      let last : suc (startOf ends c) + (endAt ends c - suc (startOf ends c)) ≡ endAt ends c = omega arith in
+      subst (λ (v : ℕ). seekFrom true laidRow v (suc (startOf ends c)) ≡ endAt ends c) many
+      (seek-to true laidRow (endAt ends c - suc (startOf ends c)) (length fs - endAt ends c) (suc (startOf ends c))
+      (λ j g.
+      let here : startOf ends c + suc j ≡ suc (startOf ends c) + j = omega arith in
+      subst (λ (v : ℕ). sought true (getD laidRow v noPlace) ≡ false) here
+      (ap (sought true) (at c h (suc j) (omega arith)) ∙ sought-first xs ys fs (startOf ends c + suc j) (eqb (suc j) 0) ∙ ne-eqb (suc j) 0 (λ e. omega arith)))
+      (λ g. subst (λ (v : ℕ). sought true (getD laidRow v noPlace) ≡ true) (sym last) (next g (ltb (suc c) (length ends)) refl)) ∙ last)
+    where
+      next : 0 < length fs - endAt ends c → (t : Bool) → ltb (suc c) (length ends) ≡ t → sought true (getD laidRow (endAt ends c) noPlace) ≡ true
+      next g true e =
+          let more = ltb-true (suc c) (length ends) e in
+          let here : startOf ends (suc c) + 0 ≡ endAt ends c = omega (arith, start-next ends c) in
+          subst (λ (v : ℕ). sought true (getD laidRow v noPlace) ≡ true) here
+          (ap (sought true) (at (suc c) more 0 (omega (arith, some (suc c) more))) ∙ sought-first xs ys fs (startOf ends (suc c) + 0) (eqb 0 0))
+      next g false e =
+          let none = ltb-false (suc c) (length ends) e in
+          let is : suc c ≡ length ends = omega arith in
+          absurd (omega (arith, all, start-next ends c, ap (startOf ends) is))
+
 -- ---- ends
 
 pub end-at : (ends : List ℕ) (c : ℕ) → c < length ends → getD ends c 0 < 65536 → endAt ends c ≡ suc (getD ends c 0)
@@ -146,7 +187,7 @@ flag-of zero h = refl
 flag-of (suc zero) h = refl
 flag-of (suc (suc v)) h = absurd (omega arith)
 
-put-nowhere : (x y : ℕ) (off : Bool) (X Y : List ℤ) (F : List ℕ) → length X ≤ nowhere → length Y ≤ nowhere → length F ≤ nowhere → putAt nowhere x y off (rows X Y F) ≡ rows X Y F
+pub put-nowhere : (x y : ℕ) (off : Bool) (X Y : List ℤ) (F : List ℕ) → length X ≤ nowhere → length Y ≤ nowhere → length F ≤ nowhere → putAt nowhere x y off (rows X Y F) ≡ rows X Y F
 unfolding putAt
 put-nowhere x y off X Y F a b c = λ i. rows (set-out X nowhere (signedOf x) a i) (set-out Y nowhere (signedOf y) b i) (set-out F nowhere (flagOf off) c i)
 
@@ -206,7 +247,7 @@ module _ (xs ys : List ℤ) (fs : List ℕ) (sx : Small xs) (sy : Small ys) (bit
     long-f : (m : ℕ) → m ≤ length fs → length (paste F 0 fs m) ≤ nowhere
     long-f m h = omega (arith, length-paste F 0 fs m (omega arith) (omega arith))
 
-    module _ (ps : List (List ℕ)) (from end : ℕ) (sound : Sound fs from end) (inside : end ≤ length fs)
+    module _ (ps : List (List ℕ)) (from end : ℕ) (sound : Plain fs from end) (inside : end ≤ length fs)
         (at : (j : ℕ) → from + j < end → getD ps (from + j) noPlace ≡ place xs ys fs (from + j) (eqb j 0)) where
       unfoldable penAt : ℕ → Pen
       penAt zero = record { at = from; off = false; x = 0; y = 0 }
@@ -270,44 +311,13 @@ module _ (xs ys : List ℤ) (fs : List ℕ) (sx : Small xs) (sy : Small ys) (bit
 
     -- ---- all contours
 
-    module _ (bs ends E : List ℕ) (row : List (List ℕ)) (sound : (k : ℕ) → k < length ends → Sound fs (startOf ends k) (endAt ends k))
+    module _ (bs ends E : List ℕ) (row : List (List ℕ)) (sound : (k : ℕ) → k < length ends → Plain fs (startOf ends k) (endAt ends k))
         (wide : (k : ℕ) → getD ends k 0 < 65536) (all : startOf ends (length ends) ≡ length fs) (room : length fs ≤ length row) (room-e : length ends ≤ length E) where
       abbrev ps : List (List ℕ)
       ps = rowTo bs ends xs ys fs row (length ends)
 
-      within : (c : ℕ) → c < length ends → endAt ends c ≤ length fs
-      within c h = omega (arith, all, ordered ends (λ v g. sound v g .some) (length ends) c h (omega arith))
-
-      at : (c : ℕ) → c < length ends → (j : ℕ) → startOf ends c + j < endAt ends c → getD ps (startOf ends c + j) noPlace ≡ place xs ys fs (startOf ends c + j) (eqb j 0)
-      at c h j i = row-in bs ends xs ys fs row sound noPlace (length ends) c j (omega arith) (omega (arith, all)) h i
-
-      -- a contour's places after the first are not the first of any, and the one after them is, if there is one
-      seeks : (c : ℕ) → c < length ends → seekFrom true ps (length fs - suc (startOf ends c)) (suc (startOf ends c)) ≡ endAt ends c
-      seeks c h =
-          let from = startOf ends c in
-          let some = sound c h .some in
-          let inside = within c h in
-          let d : ℕ = endAt ends c - suc (startOf ends c) in
-          let many : endAt ends c - suc (startOf ends c) + (length fs - endAt ends c) ≡ length fs - suc (startOf ends c) = omega arith in
-          let last : suc (startOf ends c) + (endAt ends c - suc (startOf ends c)) ≡ endAt ends c = omega arith in
-          subst (λ (v : ℕ). seekFrom true ps v (suc (startOf ends c)) ≡ endAt ends c) many
-          (seek-to true ps (endAt ends c - suc (startOf ends c)) (length fs - endAt ends c) (suc (startOf ends c))
-          (λ j g.
-          let here : startOf ends c + suc j ≡ suc (startOf ends c) + j = omega arith in
-          subst (λ (v : ℕ). sought true (getD ps v noPlace) ≡ false) here
-          (ap (sought true) (at c h (suc j) (omega arith)) ∙ sought-first xs ys fs (startOf ends c + suc j) (eqb (suc j) 0) ∙ ne-eqb (suc j) 0 (λ e. omega arith)))
-          (λ g. subst (λ (v : ℕ). sought true (getD ps v noPlace) ≡ true) (sym last) (next g (ltb (suc c) (length ends)) refl)) ∙ last)
-        where
-          next : 0 < length fs - endAt ends c → (t : Bool) → ltb (suc c) (length ends) ≡ t → sought true (getD ps (endAt ends c) noPlace) ≡ true
-          next g true e =
-              let more = ltb-true (suc c) (length ends) e in
-              let here : startOf ends (suc c) + 0 ≡ endAt ends c = omega (arith, start-next ends c) in
-              subst (λ (v : ℕ). sought true (getD ps v noPlace) ≡ true) here
-              (ap (sought true) (at (suc c) more 0 (omega (arith, sound (suc c) more .some))) ∙ sought-first xs ys fs (startOf ends (suc c) + 0) (eqb 0 0))
-          next g false e =
-              let none = ltb-false (suc c) (length ends) e in
-              let is : suc c ≡ length ends = omega arith in
-              absurd (omega (arith, all, start-next ends c, ap (startOf ends) is))
+      some-in : (k : ℕ) → k < length ends → startOf ends k < endAt ends k
+      some-in k h = sound k h .some
 
       end-is : (c : ℕ) → c < length ends → endOf (endAt ends c) ≡ getD ends c 0
       end-is c h = end-back ends c h (wide c)
@@ -323,18 +333,18 @@ module _ (xs ys : List ℤ) (fs : List ℕ) (sx : Small xs) (sy : Small ys) (bit
           λ i. entering (record { from = first i; at = first i }) (paste-zero E 0 ends i) (filledTo (first i))
       contours (suc k) h =
           let some = sound k h .some in
-          let inside = within k h in
+          let inside = within bs ends xs ys fs row some-in all room k h in
           let one : more (startOf ends k) ≡ suc (startOf ends k) = plain-more (startOf ends k) (omega arith) in
           let next = sym (start-next ends k) in
           let at0 : 0 + k ≡ k = omega arith in
           let to-is : seekFrom true ps (length fs - more (startOf ends k)) (more (startOf ends k)) ≡ endAt ends k =
-          subst (λ (v : ℕ). seekFrom true ps (length fs - v) v ≡ endAt ends k) (sym one) (seeks k h) in
+          subst (λ (v : ℕ). seekFrom true ps (length fs - v) v ≡ endAt ends k) (sym one) (seeks bs ends xs ys fs row some-in all room k h) in
           let ends-are : set (paste E 0 ends k) k (endOf (endAt ends k)) ≡ paste E 0 ends (suc k) =
           ap (set (paste E 0 ends k) k) (end-is k h)
           ∙ subst (λ (v : ℕ). set (paste E 0 ends k) v (getD ends k 0) ≡ paste E 0 ends (suc k)) at0 (paste-suc E 0 ends k 0 (omega arith) (omega arith)) in
           ap (enterNext ps (length fs) k) (contours k (omega arith))
           ∙ (λ i. ending k (to-is i) (paste E 0 ends k) (enterContour ps (startOf ends k) (to-is i) (walked (startOf ends k) (filledTo (startOf ends k)))))
-          ∙ ap (ending k (endAt ends k) (paste E 0 ends k)) (contour-enters ps (startOf ends k) (endAt ends k) (sound k h) inside (at k h))
+          ∙ ap (ending k (endAt ends k) (paste E 0 ends k)) (contour-enters ps (startOf ends k) (endAt ends k) (sound k h) inside (at bs ends xs ys fs row some-in all room k h))
           ∙ (λ i. entering (record { from = next i; at = next i }) (ends-are i) (filledTo (next i)))
 
       pub enters-all : enterAll ps (length fs) (length ends) (filled E (rows X Y F)) ≡ filled (paste E 0 ends (length ends)) (filledTo (length fs))

@@ -10,7 +10,11 @@ mod Flags
 mod Whole
 mod Written
 mod Entered
+mod Explicit
+mod Again
 mod Laid
 mod Lying
 pub mod Rising
 pub mod RoundTrip
+pub mod ReadExplicit
+pub mod CrunchedAgain

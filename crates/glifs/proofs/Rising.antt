@@ -108,11 +108,11 @@ module _ (bytes : List ℕ) (e x y f m : ℕ) where
     room : Room found e x y f m
     room = room-of found e x y f m none
 
-    through : Accepted s (isUtf8 bytes)
+    through : Accepted false s (isUtf8 bytes)
     through = accepted s (isUtf8 bytes) (sym (found-number s (isUtf8 bytes)) ∙ room .number)
 
     unrefused : Unrefused bytes row n
-    unrefused = record { tree = through .tree; bare = through .bare; far = through .far }
+    unrefused = record { tree = through .tree; bare = through .bare; far = through .late }
 
     sums : (found .contours ≡ s .sum .contours) × (found .points ≡ s .sum .points) × (found .full ≡ s .sum .full)
     sums = found-sums s (isUtf8 bytes)

@@ -37,8 +37,8 @@ use Rattle.gliftext.proofs.Picks.{both-true, both-is, or-left, or-false}
 use Rattle.glifwrite.specs.Texts.{putText, written, Small}
 use Rattle.glifs.specs.Glifs.{foundBy, readOf}
 use Rattle.glifs.specs.Back.{LetThrough, leftAtFront, RowsReadBack}
-use Rattle.glifs.proofs.Contour.{Sound}
-use Rattle.glifs.proofs.Whole.{start-next, start-first, rowTo}
+use Rattle.glifs.proofs.Contour.{Plain, plain-sound, plain-round}
+use Rattle.glifs.proofs.Whole.{start-next, start-first, fullAt, tooFar, rowTo}
 use Rattle.glifs.proofs.Written.{below, file-small, judged-by, found-number, reads-written, puts-written}
 use Rattle.glifs.proofs.Entered.{end-at, ordered, enters-all}
 
@@ -162,9 +162,9 @@ stretch-at from end j fs h = getD-take (end - from) (drop from fs) j 0 h ∙ get
 stretch-long : (from end : ℕ) (fs : List ℕ) → end ≤ length fs → length (stretch from end fs) ≡ end - from
 stretch-long from end fs h = length-take-le (end - from) (drop from fs) (omega (arith, length-drop from fs))
 
-sound-of : (xs ys : List ℤ) (fs : List ℕ) (from end : ℕ) → from < end → end ≤ length fs → judged (stretch from end xs) (stretch from end ys) (stretch from end fs) ≡ Fine → Sound fs from end
+plain-of : (xs ys : List ℤ) (fs : List ℕ) (from end : ℕ) → from < end → end ≤ length fs → judged (stretch from end xs) (stretch from end ys) (stretch from end fs) ≡ Fine → Plain fs from end
 unfolding isOn
-sound-of xs ys fs from end some inside fine =
+plain-of xs ys fs from end some inside fine =
     let a = Refusals.accepted (stretch from end xs) (stretch from end ys) (stretch from end fs) fine in
     let zero-at : from + 0 ≡ from = omega arith in
     record {
@@ -185,7 +185,7 @@ module _ (bs ends : List ℕ) (xs ys : List ℤ) (fs out : List ℕ) (few : leng
   abbrev g : GivenRows
   g = given ends xs ys fs
 
-  module _ (answered : numberIn bs g (length out) ≡ 0) (through : LetThrough ends xs ys fs) where
+  module _ (answered : numberIn bs g (length out) ≡ 0) where
     refused-none : refusedBy (fileIn bs) g ≡ 0
     unfolding numberOf
     refused-none = first-zero (refusedBy (fileIn bs) g) _ answered .0
@@ -193,97 +193,124 @@ module _ (bs ends : List ℕ) (xs ys : List ℤ) (fs out : List ℕ) (few : leng
     pub belongs : Belong (fileIn bs) ends (length xs) (length ys) (length fs)
     belongs = belong (fileIn bs) ends (length xs) (length ys) (length fs) refused-none
 
-    short : (k : ℕ) → endAt ends k ≤ 65536
-    short k = by (ltb k (length ends)) refl
-      where
-        by : (t : Bool) → ltb k (length ends) ≡ t → endAt ends k ≤ 65536
-        by true e = omega (arith, end-at ends k (ltb-true k (length ends) e) (through .wide k), through .wide k)
-        by false e = omega (arith, past-end ends k (ltb-false k (length ends) e))
-
     inside : (k : ℕ) → k < length ends → endAt ends k ≤ length fs
     inside k h = omega (arith, belongs .all, ordered ends (belongs .some) (length ends) k h (omega arith))
 
-    sound : (k : ℕ) → k < length ends → Sound fs (startOf ends k) (endAt ends k)
-    sound k h = sound-of xs ys fs (startOf ends k) (endAt ends k) (belongs .some k h) (inside k h) (through .fine k h)
+    -- rows of 16 bits, whatever contours they hold
+    module _ (sx : Small xs) (sy : Small ys) (wide : (k : ℕ) → getD ends k 0 < 65536) where
+      pub short : (k : ℕ) → endAt ends k ≤ 65536
+      short k = by (ltb k (length ends)) refl
+        where
+          by : (t : Bool) → ltb k (length ends) ≡ t → endAt ends k ≤ 65536
+          by true e = omega (arith, end-at ends k (ltb-true k (length ends) e) (wide k), wide k)
+          by false e = omega (arith, past-end ends k (ltb-false k (length ends) e))
 
-    abbrev ws : List ℕ
-    ws = written bs g
+      abbrev ws : List ℕ
+      ws = written bs g
 
-    puts : (q : Putting) → putParts bs g (partsOf bs (length bs)) q ≡ putText ws q
-    puts = puts-written bs ends xs ys fs few (belongs .number) (belongs .many) (through .small-x) (through .small-y) sound short [] (omega arith)
+      puts : (q : Putting) → putParts bs g (partsOf bs (length bs)) q ≡ putText ws q
+      puts = puts-written bs few (belongs .number) ends xs ys fs sx sy short
 
-    all-put : (row : List ℕ) → writeAll bs g (length bs) row ≡ putText ws (put 0 row)
-    all-put row = outside-is-kept bs g (length bs) row ∙ puts (put 0 row)
+      all-put : (row : List ℕ) → writeAll bs g (length bs) row ≡ putText ws (put 0 row)
+      all-put row = outside-is-kept bs g (length bs) row ∙ puts (put 0 row)
 
-    size-is : sizeOf bs g (refusedBy (fileIn bs) g) ≡ min (length ws) most
-    unfolding pick
-    size-is = rw refused-none (ap placeIn (all-put (replicate 1 0)) ∙ text-place ws 0 (replicate 1 0) (omega arith) ∙ zero-more)
-      where
-        zero-more : min (0 + length ws) most ≡ min (length ws) most
-        zero-more = omega arith
-
-    size-fits : sizeOf bs g (refusedBy (fileIn bs) g) ≤ length out
-    unfolding numberOf
-    size-fits = ltb-false (length out) _ (nine-zero _ (first-zero (refusedBy (fileIn bs) g) _ answered .1))
-
-    fits : length ws ≤ length out
-    fits = omega (arith, size-is, size-fits)
-
-    size-all : sizeOf bs g (refusedBy (fileIn bs) g) ≡ length ws
-    size-all = omega (arith, size-is, size-fits)
-
-    pub bytes-are : answerOf bs g (length out) .bytes ≡ length ws
-    unfolding Writes.reportOf pick
-    bytes-are = rw answered size-all
-
-    pub row-holds : take (answerOf bs g (length out) .bytes) (leftIn bs g (length out) out) ≡ ws
-    unfolding pick
-    row-holds =
-        ap (λ (v : ℕ). take v (leftIn bs g (length out) out)) bytes-are
-        ∙ ap (take (length ws)) (rw answered (ap rowIn (all-put out) ∙ text-row ws 0 out (omega (arith, fits))))
-        ∙ text-front ws out fits
-
-    -- what is read of it, into rows that suffice
-    module _ (E : List ℕ) (X Y : List ℤ) (F : List ℕ) (m : ℕ) (room-e : length ends ≤ length E) (room-x : length fs ≤ length X) (room-y : length fs ≤ length Y) (room-f : length fs ≤ length F)
-        (room-m : length fs ≤ m) (few-x : length X ≤ nowhere) (few-y : length Y ≤ nowhere) (few-f : length F ≤ nowhere) (few-m : m ≤ nowhere) where
-      abbrev rs : Rooms
-      rs = rooms (length E) (length X) (length Y) (length F) m
-
-      abbrev row : List (List ℕ)
-      row = replicate m noPlace
-
-      abbrev found : Totals
-      found = record { number = 0; contours = length ends; points = startOf ends (length ends); full = startOf ends (length ends) }
-
-      abbrev ps : List (List ℕ)
-      ps = rowTo bs ends xs ys fs row (length ends)
-
-      judged-is : judgedIn ws rs ≡ Scan.judged found ps
-      judged-is =
-          reads-written bs ends xs ys fs few (belongs .number) (belongs .many) (through .small-x) (through .small-y) sound short row (omega (arith, length-replicate m noPlace))
-
-      none-refused : refusalIn found rs ≡ 0
-      unfolding refusal pick
-      none-refused =
-          rw (
-            le-ltb (length E) (length ends) room-e,
-            le-ltb m (startOf ends (length ends)) (omega (arith, belongs .all)),
-            le-ltb (length X) (startOf ends (length ends)) (omega (arith, belongs .all)),
-            le-ltb (length Y) (startOf ends (length ends)) (omega (arith, belongs .all)),
-            le-ltb (length F) (startOf ends (length ends)) (omega (arith, belongs .all)),
-          )
-
-      pub report-is : answerBy (judgedIn ws rs) rs ≡ record { number = 0; contours = length ends; points = length fs }
-      unfolding reportOf numbered pick
-      report-is = rw (judged-is, none-refused) (λ i. record { number = 0; contours = length ends; points = belongs .all i })
-
-      pub rows-are : entersBy (judgedIn ws rs) rs (filled E (rows X Y F)) ≡ filled (paste E 0 ends (length ends)) (rows (paste X 0 xs (length fs)) (paste Y 0 ys (length fs)) (paste F 0 fs (length fs)))
+      size-is : sizeOf bs g (refusedBy (fileIn bs) g) ≡ min (length ws) most
       unfolding pick
-      rows-are =
-          rw (judged-is, none-refused)
-          (ap (λ (k : ℕ). enterAll ps k (length ends) (filled E (rows X Y F))) (belongs .all)
-          ∙ enters-all xs ys fs (through .small-x) (through .small-y) (through .bits) X Y F (omega (arith, belongs .same-x)) (omega (arith, belongs .same-y)) room-f few-x few-y few-f (belongs .same-x) (belongs .same-y)
-          bs ends E row sound (through .wide) (belongs .all) (omega (arith, length-replicate m noPlace)) room-e)
+      size-is = rw refused-none (ap placeIn (all-put (replicate 1 0)) ∙ text-place ws 0 (replicate 1 0) (omega arith) ∙ zero-more)
+        where
+          zero-more : min (0 + length ws) most ≡ min (length ws) most
+          zero-more = omega arith
+
+      size-fits : sizeOf bs g (refusedBy (fileIn bs) g) ≤ length out
+      unfolding numberOf
+      size-fits = ltb-false (length out) _ (nine-zero _ (first-zero (refusedBy (fileIn bs) g) _ answered .1))
+
+      fits : length ws ≤ length out
+      fits = omega (arith, size-is, size-fits)
+
+      size-all : sizeOf bs g (refusedBy (fileIn bs) g) ≡ length ws
+      size-all = omega (arith, size-is, size-fits)
+
+      pub bytes-are : answerOf bs g (length out) .bytes ≡ length ws
+      unfolding Writes.reportOf pick
+      bytes-are = rw answered size-all
+
+      pub row-holds : take (answerOf bs g (length out) .bytes) (leftIn bs g (length out) out) ≡ ws
+      unfolding pick
+      row-holds =
+          ap (λ (v : ℕ). take v (leftIn bs g (length out) out)) bytes-are
+          ∙ ap (take (length ws)) (rw answered (ap rowIn (all-put out) ∙ text-row ws 0 out (omega (arith, fits))))
+          ∙ text-front ws out fits
+
+    -- what is read of it, where 1 to 5 let the contours through, into rows that suffice
+    module _ (through : LetThrough ends xs ys fs) where
+      plain : (k : ℕ) → k < length ends → Plain fs (startOf ends k) (endAt ends k)
+      plain k h = plain-of xs ys fs (startOf ends k) (endAt ends k) (belongs .some k h) (inside k h) (through .fine k h)
+
+      low : (k : ℕ) → endAt ends k ≤ 65536
+      low = short (through .small-x) (through .small-y) (through .wide)
+
+      module _ (E : List ℕ) (X Y : List ℤ) (F : List ℕ) (m : ℕ) (room-e : length ends ≤ length E) (room-x : length fs ≤ length X) (room-y : length fs ≤ length Y) (room-f : length fs ≤ length F)
+          (room-m : length fs ≤ m) (few-x : length X ≤ nowhere) (few-y : length Y ≤ nowhere) (few-f : length F ≤ nowhere) (few-m : m ≤ nowhere) where
+        abbrev rs : Rooms
+        rs = rooms (length E) (length X) (length Y) (length F) m
+
+        abbrev row : List (List ℕ)
+        row = replicate m noPlace
+
+        abbrev found : Totals
+        found = record { number = 0; contours = length ends; points = startOf ends (length ends); full = startOf ends (length ends) }
+
+        full-is : (k : ℕ) → k ≤ length ends → fullAt ends fs k ≡ startOf ends k
+        unfolding fullAt
+        full-is zero h = sym (start-first ends)
+        full-is (suc k) h =
+            let some = belongs .some k h in
+            let all : startOf ends k + (endAt ends k - startOf ends k) ≡ startOf ends (suc k) = omega (arith, start-next ends k) in
+            (λ i. full-is k (omega arith) i + plain-round (plain k h) i) ∙ all
+
+        start-short : (k : ℕ) → startOf ends k ≤ 65536
+        start-short zero = omega (arith, start-first ends)
+        start-short (suc k) = omega (arith, start-next ends k, low k)
+
+        not-late : tooFar ends fs (length ends) ≡ false
+        not-late = ap (ltb 65536) (full-is (length ends) (omega arith)) ∙ le-ltb 65536 (startOf ends (length ends)) (start-short (length ends))
+
+        abbrev ps : List (List ℕ)
+        ps = rowTo bs ends xs ys fs row (length ends)
+
+        number-is : _≡_ {A = ℕ} (pick (tooFar ends fs (length ends)) 14 0) 0
+        unfolding pick
+        number-is = rw not-late
+
+        judged-is : judgedIn (written bs g) rs ≡ Scan.judged found ps
+        judged-is =
+            reads-written bs few (belongs .number) ends xs ys fs (through .small-x) (through .small-y) low (belongs .many) (λ k h. plain-sound (plain k h)) row
+            (omega (arith, length-replicate m noPlace))
+            ∙ (λ i. Scan.judged (record { number = number-is i; contours = length ends; points = startOf ends (length ends); full = full-is (length ends) (omega arith) i }) ps)
+
+        none-refused : refusalIn found rs ≡ 0
+        unfolding refusal pick
+        none-refused =
+            rw (
+              le-ltb (length E) (length ends) room-e,
+              le-ltb m (startOf ends (length ends)) (omega (arith, belongs .all)),
+              le-ltb (length X) (startOf ends (length ends)) (omega (arith, belongs .all)),
+              le-ltb (length Y) (startOf ends (length ends)) (omega (arith, belongs .all)),
+              le-ltb (length F) (startOf ends (length ends)) (omega (arith, belongs .all)),
+            )
+
+        pub report-is : answerBy (judgedIn (written bs g) rs) rs ≡ record { number = 0; contours = length ends; points = length fs }
+        unfolding reportOf numbered pick
+        report-is = rw (judged-is, none-refused) (λ i. record { number = 0; contours = length ends; points = belongs .all i })
+
+        pub rows-are : entersBy (judgedIn (written bs g) rs) rs (filled E (rows X Y F)) ≡ filled (paste E 0 ends (length ends)) (rows (paste X 0 xs (length fs)) (paste Y 0 ys (length fs)) (paste F 0 fs (length fs)))
+        unfolding pick
+        rows-are =
+            rw (judged-is, none-refused)
+            (ap (λ (k : ℕ). enterAll ps k (length ends) (filled E (rows X Y F))) (belongs .all)
+            ∙ enters-all xs ys fs (through .small-x) (through .small-y) (through .bits) X Y F (omega (arith, belongs .same-x)) (omega (arith, belongs .same-y)) room-f few-x few-y few-f (belongs .same-x) (belongs .same-y)
+            bs ends E row plain (through .wide) (belongs .all) (omega (arith, length-replicate m noPlace)) room-e)
 
 -- ---- in the words of the statement
 
@@ -302,7 +329,7 @@ unfolding numberOf
 small-number bs ends xs ys fs room =
     below _ _ (refusedBy (fileIn bs) (given ends xs ys fs)) 21 (below _ 9 0 21 (omega arith) (omega arith)) (small-rows bs ends xs ys fs)
 
-answered-zero : (bs ends : List ℕ) (xs ys : List ℤ) (fs : List ℕ) (room : ℕ) → answerOf bs (given ends xs ys fs) room .number ≡ 0 → numberIn bs (given ends xs ys fs) room ≡ 0
+pub answered-zero : (bs ends : List ℕ) (xs ys : List ℤ) (fs : List ℕ) (room : ℕ) → answerOf bs (given ends xs ys fs) room .number ≡ 0 → numberIn bs (given ends xs ys fs) room ≡ 0
 unfolding Writes.reportOf
 answered-zero bs ends xs ys fs room e = omega (arith, e, small-number bs ends xs ys fs room)
 
@@ -316,7 +343,7 @@ pub rows-read-back : RowsReadBack
 rows-read-back bytes ends xs ys fs out (rooms e x y f m) few room answer through suffices =
     let g = given ends xs ys fs in
     let answered = answered-zero bytes ends xs ys fs (length out) answer in
-    let belong = belongs bytes ends xs ys fs out few room answered through in
+    let belong = belongs bytes ends xs ys fs out few room answered in
     let ws = written bytes g in
     let E : List ℕ = replicate e 0 in
     let X : List ℤ = replicate x (pos 0) in
@@ -342,7 +369,7 @@ rows-read-back bytes ends xs ys fs out (rooms e x y f m) few room answer through
     ∙ report-is bytes ends xs ys fs out few room answered through E X Y F m room-e room-x room-y room-f room-m few-x few-y few-f (suffices .few-marks) in
     let entered = ap (λ (r : Rooms). entersBy (judgedIn ws r) r (filled E (rows X Y F))) rs
     ∙ rows-are bytes ends xs ys fs out few room answered through E X Y F m room-e room-x room-y room-f room-m few-x few-y few-f (suffices .few-marks) in
-    ap (readOf (rooms e x y f m)) (row-holds bytes ends xs ys fs out few room answered through)
+    ap (readOf (rooms e x y f m)) (row-holds bytes ends xs ys fs out few room answered (through .small-x) (through .small-y) (through .wide))
     ∙ (λ i. foundBy (report i) (entered i))
     ∙ (λ i. done (given (front E ends (length ends) refl room-e i) (front X xs (length fs) same-x room-x i) (front Y ys (length fs) same-y room-y i) (front F fs (length fs) refl room-f i)))
 

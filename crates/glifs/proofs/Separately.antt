@@ -4,6 +4,7 @@ use native.Mathlib.Omega.{arith}
 use mathlib.Core.Bool.{Bool, true, false, not}
 use mathlib.Core.List.{List}
 use mathlib.Core.Path.{_≡_, refl, sym}
+use borrow.Author.Tests.{ltb-false}
 use lib.Dec.{ltb}
 use lib.IntN.{ℤ}
 use lib.ListN.{length}
@@ -28,22 +29,23 @@ module _ (r : Rooms) (settings : Settings) (bytes : List ℕ) (g : GivenRows) wh
   eachOf old = crunchEach (r .work) settings (pointRoom (r .read) (r .points)) (contoursOf old)
 
   module _ (old : GivenRows) (read : readOf (r .read) bytes ≡ done old) where
-    tested : (news : List Points) → eachOf old ≡ done news → (unfit many : Bool) →
+    tested : (news : List Points) → eachOf old ≡ done news → (unfit many : Bool) → ltb 65536 (length (together news)) ≡ many →
         andThen (refuse 16 unfit (refuse 14 many (done news))) (λ cs. done (givenOf cs)) ≡ done g → ContourByContour r settings bytes g
-    tested news is true many e = absurd (let z : _≡_ {A = ℕ} 0 1 = cc in omega arith)
-    tested news is false true e = absurd (let z : _≡_ {A = ℕ} 0 1 = cc in omega arith)
-    tested news is false false e = record {
+    tested news is true many m e = absurd (let z : _≡_ {A = ℕ} 0 1 = cc in omega arith)
+    tested news is false true m e = absurd (let z : _≡_ {A = ℕ} 0 1 = cc in omega arith)
+    tested news is false false m e = record {
       old = old;
       read = read;
       contours = news;
       each = each (r .work) settings (pointRoom (r .read) (r .points)) (contoursOf old) is;
       are = sym (done-is e);
+      few = ltb-false 65536 (length (together news)) m;
     }
 
     crunched : (o : Outcome (List Points)) → eachOf old ≡ o → andThen (andThen o (numbered settings)) (λ cs. done (givenOf cs)) ≡ done g →
         ContourByContour r settings bytes g
     crunched (refused k) is e = absurd (let z : _≡_ {A = ℕ} 0 1 = cc in omega arith)
-    crunched (done news) is e = tested news is (not (settingsFine settings)) (ltb 65536 (length (together news))) e
+    crunched (done news) is e = tested news is (not (settingsFine settings)) (ltb 65536 (length (together news))) refl e
 
   belonging : (old : GivenRows) → readOf (r .read) bytes ≡ done old → (b : Bool) →
       refuse 1 b (andThen (andThen (eachOf old) (numbered settings)) (λ cs. done (givenOf cs))) ≡ done g → ContourByContour r settings bytes g

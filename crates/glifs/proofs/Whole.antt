@@ -4,7 +4,7 @@ use native.Mathlib.Omega.{arith}
 use mathlib.Core.Bool.{Bool, true, false, not, false≢true, true≢false}
 use mathlib.Core.List.{List, [], _∷_, _++_, append-assoc, append-nil}
 use mathlib.Core.Path.{_≡_, refl, sym, ap, subst, _∙_}
-use borrow.Author.Tests.{le-ltb, le-leb, ne-eqb, eqb-true, not-true}
+use borrow.Author.Tests.{lt-ltb, ltb-true, le-ltb, le-leb, ne-eqb, eqb-true, not-true}
 use lib.Dec.{eqb, ltb, leb}
 use lib.IntN.{ℤ}
 use lib.ListN.{length, take, drop, getD, set, length-drop}
@@ -31,7 +31,7 @@ use Rattle.glif.proofs.Stems.{one-step, nameAt}
 use Rattle.gliftext.proofs.Live.{within, liveTag, liveName, liveValue, liveRefer, inEnd, Facts}
 use Rattle.glif.proofs.Like.{liveNames, Like, like-step, tag-word}
 use Rattle.glifs.proofs.Point.{inContour, Ready, Kept, standing, less-read}
-use Rattle.glifs.proofs.Contour.{sumOf, contour-sealed, place, placed, Sound, sumTo, contour-read}
+use Rattle.glifs.proofs.Contour.{contour-sealed, place, placed, fullTo, onTo, fullRound, Sound, full-few, sumTo, contour-read}
 use Rattle.glif.proofs.Ways.{Went, down-on, down, aside, up, still, Way, opening, closing, outer, inner, Quiet, quiet-sum, met-same, summed-by, contour-on}
 use Rattle.glif.proofs.Ways.{point-off, left-open, left-closed, tags-none, met-none}
 use Rattle.glifs.proofs.Track.{act, to, wordAfter, state-is, Fine, tag-on, at, fedAt, at-next, names-at, Good, good-nil, good-own, good-contour}
@@ -147,13 +147,26 @@ rune-zero (suc (suc (suc (suc (suc (suc (suc (suc (suc (suc (suc r))))))))))) h 
 
 -- ---- the file that is written, read as far as the other
 
-pub record Counted (ends : List ℕ) (k : ℕ) (s : Sum) : Type 0 where
+-- how many points entered before contour c
+unfoldable pub fullAt : List ℕ → List ℕ → ℕ → ℕ
+fullAt ends fs zero = 0
+fullAt ends fs (suc c) = fullAt ends fs c + fullRound fs (startOf ends c) (endAt ends c)
+
+-- more than the ends can tell
+abbrev pub tooFar : List ℕ → List ℕ → ℕ → Bool
+tooFar ends fs c = ltb 65536 (fullAt ends fs c)
+
+-- after c contours, so many of its points
+abbrev pub sumIn : List ℕ → List ℕ → ℕ → ℕ → Sum
+sumIn ends fs c k = sumTo fs c (fullAt ends fs c) (startOf ends c) (endAt ends c) (tooFar ends fs c) k
+
+pub record Counted (ends fs : List ℕ) (k : ℕ) (s : Sum) : Type 0 where
   pub contours : s .contours ≡ k
   pub points : s .points ≡ startOf ends k
-  pub full : s .full ≡ startOf ends k
+  pub full : s .full ≡ fullAt ends fs k
   pub wrong : s .wrong ≡ false
   pub cubic : s .cubic ≡ false
-  pub far : s .far ≡ false
+  pub far : s .far ≡ ltb 65536 (fullAt ends fs k)
   pub bare : s .bare ≡ false
 
 abbrev pub runOf : List ℕ → GivenRows → Abs → List Part → Abs
@@ -166,7 +179,7 @@ part bs from i = take (i - from) (drop from (fedOf bs))
 -- outside of contours
 pub record Outer (bs ends : List ℕ) (xs ys : List ℤ) (fs : List ℕ) (w₀ : Abs) (i from k : ℕ) (ps : List Part) : Type 0 where
   pub like : Like (nameAt bs 0) (at bs i) (steps (nameAt bs 0) (part bs from i) (runOf bs (given ends xs ys fs) w₀ ps))
-  pub counted : Counted ends k (steps (nameAt bs 0) (part bs from i) (runOf bs (given ends xs ys fs) w₀ ps) .sum)
+  pub counted : Counted ends fs k (steps (nameAt bs 0) (part bs from i) (runOf bs (given ends xs ys fs) w₀ ps) .sum)
   pub row : steps (nameAt bs 0) (part bs from i) (runOf bs (given ends xs ys fs) w₀ ps) .points ≡ rowTo bs ends xs ys fs (w₀ .points) k
 
 -- in the end tag of a contour
@@ -185,7 +198,7 @@ pub record Inner (bs ends : List ℕ) (xs ys : List ℤ) (fs : List ℕ) (i tag 
   pub c : ℕ
   pub this : k ≡ suc c
   pub in-ends : c < length ends
-  pub sum : w .sum ≡ sumTo fs c (startOf ends c) (endAt ends c) (endAt ends c - startOf ends c)
+  pub sum : w .sum ≡ sumIn ends fs c (endAt ends c - startOf ends c)
   pub row : w .points ≡ rowTo bs ends xs ys fs row₀ k
   pub leaves : either (eqb (at bs i .text .state) 15) (inEnd (at bs i .text .state)) ≡ true → at bs i .tree .depth ≡ 3 → Ending bs i tag w
 
@@ -265,36 +278,88 @@ pub start-first : (ends : List ℕ) → startOf ends 0 ≡ 0
 unfolding startOf pick
 start-first ends = refl
 
-opposite : (x : Bool) → both x (not x) ≡ false
+-- a first point that is a line stands after an on-curve last one
+no-line : (first last : Bool) → both (both first last) (not last) ≡ false
 unfolding pick
-opposite true = refl
-opposite false = refl
+no-line true true = refl
+no-line true false = refl
+no-line false last = refl
 
-ended-by : (ends fs : List ℕ) (c m : ℕ) → endAt ends c ≤ 65536 → c < most → suc (startOf ends c + m) ≡ endAt ends c → startOf ends c + m ≡ endAt ends c - 1 →
-    Counted ends (suc c) (ended (sumTo fs c (startOf ends c) (endAt ends c) (suc m)))
-unfolding ended sumTo pick
-ended-by ends fs c m short low all last = record {
-  contours = plain-more c low;
-  points = all ∙ sym (start-next ends c);
-  full = all ∙ sym (start-next ends c);
-  wrong = rw last (opposite (isOn fs (endAt ends c - 1)));
-  cubic = refl;
-  far = le-ltb 65536 (suc (startOf ends c + m)) (omega arith);
-  bare = refl;
-}
+last-enters : (t : Bool) (base n : ℕ) → base + n < most → pick t (more (base + n)) (base + n) ≡ base + pick t (suc n) n
+unfolding pick
+last-enters true base n h = plain-more (base + n) h ∙ omega arith
+last-enters false base n h = refl
 
-counted-ended : (ends fs : List ℕ) (c : ℕ) → Sound fs (startOf ends c) (endAt ends c) → endAt ends c ≤ 65536 → c < most →
-    Counted ends (suc c) (ended (sumTo fs c (startOf ends c) (endAt ends c) (endAt ends c - startOf ends c)))
-counted-ended ends fs c sound short low =
+far-rises : (a b : ℕ) → either (ltb 65536 a) (ltb 65536 (a + b)) ≡ ltb 65536 (a + b)
+unfolding pick
+far-rises a b = by (ltb 65536 a) refl
+  where
+    by : (t : Bool) → ltb 65536 a ≡ t → pick t true (ltb 65536 (a + b)) ≡ ltb 65536 (a + b)
+    by true e = sym (lt-ltb 65536 (a + b) (omega (arith, ltb-true 65536 a e)))
+    by false e = refl
+
+module _ (ends fs : List ℕ) (c m : ℕ) (many : endAt ends c - startOf ends c ≡ suc m) (last : startOf ends c + m ≡ endAt ends c - 1) where
+  abbrev roundOff : Bool
+  roundOff = both (not (isOn fs (startOf ends c))) (not (isOn fs (startOf ends c + m)))
+
+  abbrev fullHere : ℕ
+  fullHere = fullTo fs (startOf ends c) (suc m)
+
+  round-end : fullRound fs (startOf ends c) (endAt ends c) ≡ pick roundOff (suc fullHere) fullHere
+  unfolding fullRound
+  round-end =
+      λ i. pick (both (not (isOn fs (startOf ends c))) (not (isOn fs (sym last i)))) (suc (fullTo fs (startOf ends c) (many i))) (fullTo fs (startOf ends c) (many i))
+
+  ended-by : fullAt ends fs c ≤ 131072 → endAt ends c ≤ 65536 → c < most → onTo fs (startOf ends c) (endAt ends c - startOf ends c) ≡ true →
+      Counted ends fs (suc c) (ended (sumIn ends fs c (suc m)))
+  unfolding ended sumTo fullAt pick
+  ended-by few short low on =
+      let all : suc (startOf ends c + m) ≡ endAt ends c = omega arith in
+      let entered : pick roundOff (more (fullAt ends fs c + fullHere)) (fullAt ends fs c + fullHere) ≡ fullAt ends fs c + fullRound fs (startOf ends c) (endAt ends c) =
+      last-enters roundOff (fullAt ends fs c) fullHere (omega (arith, full-few fs (startOf ends c) m)) ∙ ap (λ (v : ℕ). fullAt ends fs c + v) (sym round-end) in
+      record {
+        contours = plain-more c low;
+        points = all ∙ sym (start-next ends c);
+        full = entered;
+        wrong = rw last (no-line (isOn fs (startOf ends c)) (isOn fs (endAt ends c - 1)));
+        cubic = refl;
+        far = ap (λ (v : ℕ). either (tooFar ends fs c) (ltb 65536 v)) entered ∙ far-rises (fullAt ends fs c) (fullRound fs (startOf ends c) (endAt ends c));
+        bare = ap not (sym (ap (onTo fs (startOf ends c)) many) ∙ on);
+      }
+
+counted-ended : (ends fs : List ℕ) (c : ℕ) → Sound fs (startOf ends c) (endAt ends c) → fullAt ends fs c ≤ 131072 → endAt ends c ≤ 65536 → c < most →
+    Counted ends fs (suc c) (ended (sumIn ends fs c (endAt ends c - startOf ends c)))
+counted-ended ends fs c sound few short low =
     let some = sound .some in
     let many : endAt ends c - startOf ends c ≡ suc (endAt ends c - startOf ends c - 1) = omega arith in
-    subst (λ (k : ℕ). Counted ends (suc c) (ended (sumTo fs c (startOf ends c) (endAt ends c) k))) (sym many)
-    (ended-by ends fs c (endAt ends c - startOf ends c - 1) short low (omega arith) (omega arith))
+    subst (λ (k : ℕ). Counted ends fs (suc c) (ended (sumIn ends fs c k))) (sym many)
+    (ended-by ends fs c (endAt ends c - startOf ends c - 1) many (omega arith) few short low (sound .on))
+
+-- never more than two a point
+full-at-few : (ends fs : List ℕ) → ((k : ℕ) → k < length ends → Sound fs (startOf ends k) (endAt ends k)) → (c : ℕ) → c ≤ length ends →
+    fullAt ends fs c ≤ startOf ends c + startOf ends c
+unfolding fullAt fullRound pick
+full-at-few ends fs sound zero h = omega arith
+full-at-few ends fs sound (suc c) h =
+    let some = sound c h .some in
+    let many : endAt ends c - startOf ends c ≡ suc (endAt ends c - startOf ends c - 1) = omega arith in
+    let here : fullTo fs (startOf ends c) (endAt ends c - startOf ends c) ≤ suc (endAt ends c - startOf ends c - 1 + (endAt ends c - startOf ends c - 1)) =
+    subst (λ (k : ℕ). fullTo fs (startOf ends c) k ≤ suc (endAt ends c - startOf ends c - 1 + (endAt ends c - startOf ends c - 1))) (sym many)
+    (full-few fs (startOf ends c) (endAt ends c - startOf ends c - 1)) in
+    by (both (not (isOn fs (startOf ends c))) (not (isOn fs (endAt ends c - 1)))) (full-at-few ends fs sound c (omega arith)) here (start-next ends c) some
+  where
+    by : (t : Bool) → fullAt ends fs c ≤ startOf ends c + startOf ends c →
+        fullTo fs (startOf ends c) (endAt ends c - startOf ends c) ≤ suc (endAt ends c - startOf ends c - 1 + (endAt ends c - startOf ends c - 1)) →
+        startOf ends (suc c) ≡ endAt ends c → startOf ends c < endAt ends c →
+        fullAt ends fs c + pick t (suc (fullTo fs (startOf ends c) (endAt ends c - startOf ends c))) (fullTo fs (startOf ends c) (endAt ends c - startOf ends c))
+        ≤ startOf ends (suc c) + startOf ends (suc c)
+    by true a b e l = omega arith
+    by false a b e l = omega arith
 
 -- and when the next has begun
-begun-counted : (ends : List ℕ) (k : ℕ) (s : Sum) → Counted ends k s → begun s ≡ sumOf k (startOf ends k) 0 false false false
-unfolding begun
-begun-counted ends k s c =
+begun-counted : (ends fs : List ℕ) (k : ℕ) (s : Sum) → Counted ends fs k s → begun s ≡ sumIn ends fs k 0
+unfolding begun sumTo
+begun-counted ends fs k s c =
     λ i. record {
       contours = c .contours i;
       points = c .points i;
@@ -397,7 +462,7 @@ module _ (bs ends : List ℕ) (xs ys : List ℤ) (fs : List ℕ) (few : length b
       let quiet = quiet-like z b (nameAt bs i) f v (o .like) (quiet-is bs i room few t fine l l′) in
       record {
         like = subst (Like z f′) run (like-next (o .like));
-        counted = subst (Counted ends (t .k)) (sym (quiet .0) ∙ ap (λ (u : Abs). u .sum) run) (o .counted);
+        counted = subst (Counted ends fs (t .k)) (sym (quiet .0) ∙ ap (λ (u : Abs). u .sum) run) (o .counted);
         row = ap (λ (u : Abs). u .points) (sym run) ∙ quiet .1 ∙ o .row;
       }
 
@@ -421,7 +486,7 @@ module _ (bs ends : List ℕ) (xs ys : List ℤ) (fs : List ℕ) (few : length b
       let outline = t′ .met (omega arith) in
       λ j. record { depth = d j; level = l j; root = root j; outline = outline j; wrong = fine .tree j }
 
-  module _ (sx : Small xs) (sy : Small ys) (sound : Sound fs (startOf ends (t .k)) (endAt ends (t .k))) (short : endAt ends (t .k) ≤ 65536) (in-ends : t .k < length ends)
+  module _ (sx : Small xs) (sy : Small ys) (sound : Sound fs (startOf ends (t .k)) (endAt ends (t .k))) (full : fullAt ends fs (t .k) ≤ 131072) (short : endAt ends (t .k) ≤ 65536) (in-ends : t .k < length ends)
       (e : eqb a 8 ≡ true) (on : onPath (f .tree) word ≡ true) (l : f .tree .level ≡ 2) (l′ : f′ .tree .level ≡ 3) (d′ : f′ .tree .depth ≡ 3)
       (o : Outer bs ends xs ys fs w₀ i (t .from) (t .k) (t .ps)) where
     abbrev w : Abs
@@ -448,13 +513,13 @@ module _ (bs ends : List ℕ) (xs ys : List ℤ) (fs : List ℕ) (few : length b
     no-point : pointMet (f .tree) a wv ≡ false
     no-point = point-off (f .tree) a wv (λ g. omega arith)
 
-    sum-opens : v′ .sum ≡ sumOf (t .k) (startOf ends (t .k)) 0 false false false
+    sum-opens : v′ .sum ≡ sumIn ends fs (t .k) 0
     unfolding pick
     sum-opens =
         sum-like z b (nameAt bs i) f v (o .like)
         ∙ summed-by (v .sum) (f .tree) a wv (pointV z b (nameAt bs i) f v (o .like)) (contour-on (f .tree) a wv (tag-on a e) l on-v) no-point
         (left-open (f .tree) a wv (other 10 (λ g. omega (arith, g))) (other 9 (λ g. omega (arith, g))))
-        ∙ begun-counted ends (t .k) (v .sum) (o .counted)
+        ∙ begun-counted ends fs (t .k) (v .sum) (o .counted)
 
     row-opens : v′ .points ≡ rowTo bs ends xs ys fs (w₀ .points) (t .k)
     row-opens = row-none z b (nameAt bs i) f v (o .like) no-point ∙ o .row
@@ -475,11 +540,12 @@ module _ (bs ends : List ℕ) (xs ys : List ℤ) (fs : List ℕ) (few : length b
     abbrev text : List ℕ
     text = contourText xs ys fs (startOf ends (t .k)) (endAt ends (t .k)) (endAt ends (t .k) - startOf ends (t .k))
 
-    kept : Kept z v′ (steps z (fedOf text) v′) (sumTo fs (t .k) (startOf ends (t .k)) (endAt ends (t .k)) (endAt ends (t .k) - startOf ends (t .k)))
+    kept : Kept z v′ (steps z (fedOf text) v′) (sumIn ends fs (t .k) (endAt ends (t .k) - startOf ends (t .k)))
         (placed xs ys fs (startOf ends (t .k)) (endAt ends (t .k) - startOf ends (t .k)) (v′ .points))
+    unfolding sumTo
     kept =
-        contour-read z xs ys fs sx sy (t .k) (startOf ends (t .k)) (endAt ends (t .k)) sound (omega arith) (endAt ends (t .k) - startOf ends (t .k))
-        (omega (arith, sound .some)) v′ ready sum-opens
+        contour-read z xs ys fs sx sy (t .k) (fullAt ends fs (t .k)) (startOf ends (t .k)) (endAt ends (t .k)) (tooFar ends fs (t .k)) full short
+        (endAt ends (t .k) - startOf ends (t .k)) (omega (arith, sound .some)) v′ ready sum-opens
 
     abbrev ps′ : List Part
     ps′ = t .ps ++ own (t .from) (more i) ∷ contour (t .k) ∷ []
@@ -536,7 +602,7 @@ module _ (bs ends : List ℕ) (xs ys : List ℤ) (fs : List ℕ) (few : length b
     none : (contourMet (f .tree) a wu ≡ false) × (pointMet (f .tree) a wu ≡ false)
     none = met-none (f .tree) a wu (tags-none (f .tree) a wu (not-a 10 8 e (λ g. omega (arith, g))) (not-a 10 9 e (λ g. omega (arith, g))))
 
-    sum-closes : step z (fedAt bs i) u .sum ≡ ended (sumTo fs (n .c) (startOf ends (n .c)) (endAt ends (n .c)) (endAt ends (n .c) - startOf ends (n .c)))
+    sum-closes : step z (fedAt bs i) u .sum ≡ ended (sumIn ends fs (n .c) (endAt ends (n .c) - startOf ends (n .c)))
     unfolding pick
     sum-closes =
         sum-like z b (nameAt bs i) f u (ending .like)
@@ -549,13 +615,16 @@ module _ (bs ends : List ℕ) (xs ys : List ℤ) (fs : List ℕ) (few : length b
     low : n .c < most
     low = omega (arith, t .low, n .this)
 
+    few-here : fullAt ends fs (n .c) ≤ 131072
+    few-here = omega (arith, full-at-few ends fs sound (n .c) (omega (arith, n .in-ends)), sound (n .c) (n .in-ends) .some, short (n .c))
+
     closes-outer : {ps : List Part} → w ≡ runOf bs (given ends xs ys fs) w₀ ps → Outer bs ends xs ys fs w₀ (suc i) (t .tag) (t .k) ps
     closes-outer {ps} is =
         let run : step z (fedAt bs i) u ≡ steps z (part bs (t .tag) (suc i)) (runOf bs (given ends xs ys fs) w₀ ps) = run-closes ∙ ap (steps z (part bs (t .tag) (suc i))) is in
         record {
           like = subst (Like z f′) run (like-next (ending .like));
-          counted = subst (λ (k : ℕ). Counted ends k (steps z (part bs (t .tag) (suc i)) (runOf bs (given ends xs ys fs) w₀ ps) .sum)) (sym (n .this))
-              (subst (Counted ends (suc (n .c))) (sym sum-closes ∙ ap (λ (v : Abs). v .sum) run) (counted-ended ends fs (n .c) (sound (n .c) (n .in-ends)) (short (n .c)) low));
+          counted = subst (λ (k : ℕ). Counted ends fs k (steps z (part bs (t .tag) (suc i)) (runOf bs (given ends xs ys fs) w₀ ps) .sum)) (sym (n .this))
+              (subst (Counted ends fs (suc (n .c))) (sym sum-closes ∙ ap (λ (v : Abs). v .sum) run) (counted-ended ends fs (n .c) (sound (n .c) (n .in-ends)) few-here (short (n .c)) low));
           row = ap (λ (v : Abs). v .points) (sym run) ∙ row-none z b (nameAt bs i) f u (ending .like) (none .1) ∙ ending .row ∙ n .row;
         }
 
@@ -715,6 +784,9 @@ module _ (bs ends : List ℕ) (xs ys : List ℤ) (fs : List ℕ) (few : length b
     outside-now : f .tree .level ≤ 2 → Outer bs ends xs ys fs w₀ i (t .from) (t .k) (t .ps)
     outside-now l = subst (Out i) (t .is) (st .outside l)
 
+    full-here : t .k < length ends → fullAt ends fs (t .k) ≤ 131072
+    full-here h = omega (arith, full-at-few ends fs sound (t .k) (omega arith), sound (t .k) h .some, short (t .k))
+
     inside-now : 2 < f .tree .level → Inner bs ends xs ys fs i (t .tag) (t .k) (w₀ .points) (runOf bs (given ends xs ys fs) w₀ (t .ps))
     inside-now l = subst (In i) (t .is) (st .inside l)
 
@@ -730,7 +802,7 @@ module _ (bs ends : List ℕ) (xs ys : List ℤ) (fs : List ℕ) (few : length b
             let in-ends : t .k < length ends = omega (arith, ap countIn is) in
             record {
               outside = λ h. absurd (omega arith);
-              inside = λ h. subst (In (suc i)) (sym is) (opens-inner sx sy (sound (t .k) in-ends) (short (t .k)) in-ends e on l l′ d′ (outside-now (omega arith)) tag′);
+              inside = λ h. subst (In (suc i)) (sym is) (opens-inner sx sy (sound (t .k) in-ends) (full-here in-ends) (short (t .k)) in-ends e on l l′ d′ (outside-now (omega arith)) tag′);
             }
         by (closing e l d l′ d′) =
             let w = runOf bs (given ends xs ys fs) w₀ (t .ps) in
@@ -781,12 +853,13 @@ count-later bs (suc d) i =
     let same : i + suc d ≡ suc (i + d) = omega arith in
     rw same (omega (arith, count-later bs d i, count-step bs (i + d)))
 
-module _ (bs ends : List ℕ) (xs ys : List ℤ) (fs : List ℕ) (few : length bs ≤ most) (w₀ : Abs) (flags : Flags (at bs (length bs))) (sx : Small xs) (sy : Small ys)
-    (sound : (k : ℕ) → k < length ends → Sound fs (startOf ends k) (endAt ends k)) (short : (k : ℕ) → endAt ends k ≤ 65536) where
+module _ (bs : List ℕ) (few : length bs ≤ most) (flags : Flags (at bs (length bs))) where
   pub tracked-at : (i : ℕ) → i ≤ length bs → Tracked bs i
   tracked-at zero h = tracked-start bs
   tracked-at (suc i) h = tracked-next bs i h few (tracked-at i (omega arith)) (fine-at bs (suc i) (length bs) h flags)
 
+module _ (bs ends : List ℕ) (xs ys : List ℤ) (fs : List ℕ) (few : length bs ≤ most) (w₀ : Abs) (flags : Flags (at bs (length bs))) (sx : Small xs) (sy : Small ys)
+    (sound : (k : ℕ) → k < length ends → Sound fs (startOf ends k) (endAt ends k)) (short : (k : ℕ) → endAt ends k ≤ 65536) where
   module _ (count : countIn (trackTo bs (length bs)) ≡ length ends) (start : Stage bs ends xs ys fs w₀ 0) where
     pub stage-at : (i : ℕ) → i ≤ length bs → Stage bs ends xs ys fs w₀ i
     stage-at zero h = start
@@ -794,4 +867,4 @@ module _ (bs ends : List ℕ) (xs ys : List ℤ) (fs : List ℕ) (few : length b
         let same : suc i + (length bs - suc i) ≡ length bs = omega arith in
         let later : countIn (trackTo bs (suc i)) ≤ countIn (trackTo bs (length bs)) =
         subst (λ (v : ℕ). countIn (trackTo bs (suc i)) ≤ countIn (trackTo bs v)) same (count-later bs (length bs - suc i) (suc i)) in
-        stage-next bs ends xs ys fs few w₀ i h (tracked-at i (omega arith)) (fine-at bs (suc i) (length bs) h flags) sx sy sound short (omega arith) (stage-at i (omega arith))
+        stage-next bs ends xs ys fs few w₀ i h (tracked-at bs few flags i (omega arith)) (fine-at bs (suc i) (length bs) h flags) sx sy sound short (omega arith) (stage-at i (omega arith))

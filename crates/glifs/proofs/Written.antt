@@ -30,12 +30,12 @@ use Rattle.glif.proofs.Like.{Like, liveNames}
 use Rattle.glifs.proofs.Contour.{Sound}
 use Rattle.glifs.proofs.Track.{at, Good, good-own, Begun, begun-by, Front, front-none, front-some, Tracked}
 use Rattle.glifs.proofs.Flags.{Flags}
-use Rattle.glifs.proofs.Whole.{piecesFed, good-fed, good-put, rowTo, start-first, start-next, Counted, runOf, part, Outer, outerAt, Stage, countIn}
+use Rattle.glifs.proofs.Whole.{piecesFed, good-fed, good-put, rowTo, start-first, start-next, fullAt, tooFar, Counted, runOf, part, Outer, outerAt, Stage, countIn}
 use Rattle.glifs.proofs.Whole.{tracked-at, stage-at}
 
 -- ---- what is let through
 
-pub record Accepted (s : Scan) (u : Bool) : Type 0 where
+pub record Accepted (far : Bool) (s : Scan) (u : Bool) : Type 0 where
   pub text : s .text .wrong ≡ false
   pub tree : s .tree .wrong ≡ false
   pub sum : s .sum .wrong ≡ false
@@ -44,7 +44,7 @@ pub record Accepted (s : Scan) (u : Bool) : Type 0 where
   pub root : s .tree .root ≡ true
   pub utf8 : u ≡ true
   pub cubic : s .sum .cubic ≡ false
-  pub far : s .sum .far ≡ false
+  pub late : s .sum .far ≡ far
   pub bare : s .sum .bare ≡ false
 
 not-number : (n : ℕ) (t : Bool) (x : ℕ) → (n ≡ 0 → ⊥) → pick t n x ≡ 0 → (t ≡ false) × (x ≡ 0)
@@ -52,7 +52,7 @@ unfolding pick
 not-number n true x h e = absurd (h e)
 not-number n false x h e = (refl, e)
 
-pub accepted : (s : Scan) (u : Bool) → numberOf s u ≡ 0 → Accepted s u
+pub accepted : (s : Scan) (u : Bool) → numberOf s u ≡ 0 → Accepted false s u
 unfolding numberOf
 accepted s u e =
     let a = not-number 19 _ _ (λ g. omega (arith, g)) e in
@@ -74,13 +74,13 @@ accepted s u e =
       root = x .1;
       utf8 = not-false u (v .1);
       cubic = b .0;
-      far = c .0;
+      late = c .0;
       bare = d .0;
     }
 
-pub number-zero : (s : Scan) (u : Bool) → Accepted s u → numberOf s u ≡ 0
+pub number-late : (far : Bool) (s : Scan) (u : Bool) → Accepted far s u → numberOf s u ≡ pick far 14 0
 unfolding numberOf pick
-number-zero s u a = rw (a .text, a .tree, a .sum, a .state, a .depth, a .root, a .utf8, a .cubic, a .far, a .bare)
+number-late far s u a = rw (a .text, a .tree, a .sum, a .state, a .depth, a .root, a .utf8, a .cubic, a .late, a .bare)
 
 -- every refusal of a file is below 22
 pub below : (t : Bool) (n x m : ℕ) → n ≤ m → x ≤ m → pick t n x ≤ m
@@ -171,12 +171,12 @@ start-like bs ws row = record {
   names = λ j h. absurd (omega (arith, no-names bs));
 }
 
-start-counted : (ends ws : List ℕ) (row : List (List ℕ)) → Counted ends 0 (Fold.startOf ws (replicate 256 0) row .sum)
-unfolding absOf
-start-counted ends ws row = record {
+start-counted : (ends fs ws : List ℕ) (row : List (List ℕ)) → Counted ends fs 0 (Fold.startOf ws (replicate 256 0) row .sum)
+unfolding absOf fullAt
+start-counted ends fs ws row = record {
   contours = refl;
   points = sym (start-first ends);
-  full = sym (start-first ends);
+  full = refl;
   wrong = refl;
   cubic = refl;
   far = refl;
@@ -194,7 +194,7 @@ start-level bs = refl
 start-stage : (bs ends : List ℕ) (xs ys : List ℤ) (fs ws : List ℕ) (row : List (List ℕ)) → Stage bs ends xs ys fs (Fold.startOf ws (replicate 256 0) row) 0
 unfolding trackTo piecesFed steps rowTo
 start-stage bs ends xs ys fs ws row = record {
-  outside = λ h. record { like = start-like bs ws row; counted = start-counted ends ws row; row = refl };
+  outside = λ h. record { like = start-like bs ws row; counted = start-counted ends fs ws row; row = refl };
   inside = λ h. absurd (omega (arith, start-level bs));
 }
 
@@ -243,14 +243,9 @@ unfolding putParts
 put-append bs g [] rs q = refl
 put-append bs g (p ∷ ps) rs q = put-append bs g ps rs (putPart bs g p q)
 
--- ---- what is read of it
+-- ---- what is put
 
-module _ (bs ends : List ℕ) (xs ys : List ℤ) (fs : List ℕ) (few : length bs ≤ most) (passes : fileIn bs .number ≡ 0) (many : fileIn bs .contours ≡ length ends)
-    (sx : Small xs) (sy : Small ys) (sound : (k : ℕ) → k < length ends → Sound fs (startOf ends k) (endAt ends k)) (short : (k : ℕ) → endAt ends k ≤ 65536)
-    (row : List (List ℕ)) (row-few : length row ≤ nowhere) where
-  abbrev g : GivenRows
-  g = given ends xs ys fs
-
+module _ (bs : List ℕ) (few : length bs ≤ most) (passes : fileIn bs .number ≡ 0) where
   abbrev n : ℕ
   n = length bs
 
@@ -260,11 +255,8 @@ module _ (bs ends : List ℕ) (xs ys : List ℤ) (fs : List ℕ) (few : length b
   file-is : judgedOf bs noPoints ≡ judged (totalsOf (scanIn (readTo bs n)) (isUtf8 bs)) (pointsIn bs (readTo bs n))
   file-is = judged-by bs noPoints (readTo bs n) refl
 
-  file-accepted : Accepted (scanIn (readTo bs n)) (isUtf8 bs)
+  file-accepted : Accepted false (scanIn (readTo bs n)) (isUtf8 bs)
   file-accepted = accepted (scanIn (readTo bs n)) (isUtf8 bs) (sym (found-number (scanIn (readTo bs n)) (isUtf8 bs)) ∙ sym (ap (λ (j : Judged). totalsIn j .number) file-is) ∙ passes)
-
-  file-contours : scanIn (readTo bs n) .sum .contours ≡ length ends
-  file-contours = sym (found-contours (scanIn (readTo bs n)) (isUtf8 bs)) ∙ sym (ap (λ (j : Judged). totalsIn j .contours) file-is) ∙ many
 
   abbrev seen : Shown bs (at bs n) (readTo bs n)
   seen = shown-at bs n
@@ -280,116 +272,130 @@ module _ (bs ends : List ℕ) (xs ys : List ℤ) (fs : List ℕ) (few : length b
     rune = rw rune-last refl;
   }
 
-  abbrev ws : List ℕ
-  ws = written bs g
-
-  abbrev w₀ : Abs
-  w₀ = Fold.startOf ws (replicate 256 0) row
-
   t : Tracked bs n
-  t = tracked-at bs ends xs ys fs few w₀ flags sx sy sound short n (omega arith)
+  t = tracked-at bs few flags n (omega arith)
 
-  depth-none : at bs n .tree .depth ≡ 0
-  depth-none = ap (λ (v : Tree). v .depth) (seen .tree) ∙ file-accepted .depth
+  -- rows of 16 bits, whatever contours they hold
+  module _ (ends : List ℕ) (xs ys : List ℤ) (fs : List ℕ) (sx : Small xs) (sy : Small ys) (short : (k : ℕ) → endAt ends k ≤ 65536) where
+    abbrev g : GivenRows
+    g = given ends xs ys fs
 
-  outside : at bs n .tree .level ≤ 2
-  outside = omega (arith, t .fits, depth-none)
+    abbrev ws : List ℕ
+    ws = written bs g
 
-  count : t .k ≡ length ends
-  count = sym (t .outside outside) ∙ ap (λ (v : Sum). v .contours) (seen .sum) ∙ file-contours
+    start-short : (k : ℕ) → startOf ends k ≤ 65536
+    start-short zero = omega (arith, start-first ends)
+    start-short (suc k) = omega (arith, start-next ends k, short k)
 
-  last-stage : Outer bs ends xs ys fs w₀ n (t .from) (t .k) (t .ps)
-  last-stage =
-      subst (outerAt bs ends xs ys fs w₀ n) (t .is)
-      (stage-at bs ends xs ys fs few w₀ flags sx sy sound short (ap countIn (t .is) ∙ count) (start-stage bs ends xs ys fs ws row) n (omega arith) .outside outside)
+    pub puts-written : (q : Putting) → putParts bs g (partsOf bs n) q ≡ putText ws q
+    unfolding putParts
+    puts-written q =
+        ap (λ (l : List Part). putParts bs g l q) (pieces-are bs g t)
+        ∙ put-append bs g (t .ps) (own (t .from) n ∷ []) q
+        ∙ range-text bs (t .from) (n - t .from) (putParts bs g (t .ps) q) (omega (arith, t .in-from)) (omega (arith, t .in-from))
+        ∙ ap (putText (take (n - t .from) (drop (t .from) bs))) (good-put bs ends xs ys fs (t .good) few sx sy short start-short q)
+        ∙ sym (text-append (piecesText bs g (t .ps)) (take (n - t .from) (drop (t .from) bs)) q)
+        ∙ ap (λ (l : List ℕ). putText (piecesText bs g (t .ps) ++ l) q) (rest-all bs g t)
+        ∙ ap (λ (l : List ℕ). putText l q) (sym (written-is bs g t))
 
-  abbrev last : Abs
-  last = steps z (part bs (t .from) n) (runOf bs g w₀ (t .ps))
+    -- ---- what is read of it, where each contour has an on-curve point
 
-  same-stem : nameAt ws 0 ≡ z
-  same-stem = ap stem (written-is bs g t) ∙ front-stem bs g (t .good) (t .front outside)
+    module _ (many : fileIn bs .contours ≡ length ends) (sound : (k : ℕ) → k < length ends → Sound fs (startOf ends k) (endAt ends k))
+        (row : List (List ℕ)) (row-few : length row ≤ nowhere) where
+      file-contours : scanIn (readTo bs n) .sum .contours ≡ length ends
+      file-contours = sym (found-contours (scanIn (readTo bs n)) (isUtf8 bs)) ∙ sym (ap (λ (j : Judged). totalsIn j .contours) file-is) ∙ many
 
-  fed-is : fedOf ws ≡ piecesFed bs g (t .ps) ++ part bs (t .from) n
-  fed-is =
-      ap fedOf (written-is bs g t) ∙ good-fed bs ends xs ys fs (t .good) (drop (t .from) bs)
-      ∙ ap (λ (l : List Fed). piecesFed bs g (t .ps) ++ l) (fed-rest bs g t)
+      abbrev w₀ : Abs
+      w₀ = Fold.startOf ws (replicate 256 0) row
 
-  abbrev final : Pass
-  final = scanned ws (length ws) (replicate 256 0) row
+      depth-none : at bs n .tree .depth ≡ 0
+      depth-none = ap (λ (v : Tree). v .depth) (seen .tree) ∙ file-accepted .depth
 
-  scan-is : absOf ws (runeAt ws (length ws)) final ≡ last
-  scan-is =
-      abs-scanned ws (replicate 256 0) row (omega arith) row-few (length ws) (omega arith)
-      ∙ ap (λ (l : List Fed). steps (nameAt ws 0) l w₀) (take-all (length ws) (fedOf ws) (omega (arith, fed-length ws)))
-      ∙ (λ j. steps (same-stem j) (fed-is j) w₀)
-      ∙ steps-append z (piecesFed bs g (t .ps)) (part bs (t .from) n) w₀
+      outside : at bs n .tree .level ≤ 2
+      outside = omega (arith, t .fits, depth-none)
 
-  abbrev like : Like z (at bs n) last
-  like = last-stage .like
+      count : t .k ≡ length ends
+      count = sym (t .outside outside) ∙ ap (λ (v : Sum). v .contours) (seen .sum) ∙ file-contours
 
-  seen-last : Shown ws last final
-  seen-last = subst (λ (v : Abs). Shown ws v final) scan-is (shown ws (runeAt ws (length ws)) final)
+      last-stage : Outer bs ends xs ys fs w₀ n (t .from) (t .k) (t .ps)
+      last-stage =
+          subst (outerAt bs ends xs ys fs w₀ n) (t .is)
+          (stage-at bs ends xs ys fs few w₀ flags sx sy sound short (ap countIn (t .is) ∙ count) (start-stage bs ends xs ys fs ws row) n (omega arith) .outside outside)
 
-  abbrev s : Scan
-  s = scanIn final
+      abbrev last : Abs
+      last = steps z (part bs (t .from) n) (runOf bs g w₀ (t .ps))
 
-  utf8-written : isUtf8 ws ≡ true
-  utf8-written = rune-utf8 ws (sym (rune-of ws (runeAt ws (length ws)) final) ∙ ap (λ (v : Abs). v .rune) scan-is ∙ sym (like .rune) ∙ rune-last)
+      same-stem : nameAt ws 0 ≡ z
+      same-stem = ap stem (written-is bs g t) ∙ front-stem bs g (t .good) (t .front outside)
 
-  abbrev counted : Counted ends (t .k) (last .sum)
-  counted = last-stage .counted
+      fed-is : fedOf ws ≡ piecesFed bs g (t .ps) ++ part bs (t .from) n
+      fed-is =
+          ap fedOf (written-is bs g t) ∙ good-fed bs ends xs ys fs (t .good) (drop (t .from) bs)
+          ∙ ap (λ (l : List Fed). piecesFed bs g (t .ps) ++ l) (fed-rest bs g t)
 
-  sum-last : s .sum ≡ last .sum
-  sum-last = sym (seen-last .sum)
+      abbrev final : Pass
+      final = scanned ws (length ws) (replicate 256 0) row
 
-  tree-last : s .tree ≡ at bs n .tree
-  tree-last = sym (seen-last .tree) ∙ sym (like .tree)
+      scan-is : absOf ws (runeAt ws (length ws)) final ≡ last
+      scan-is =
+          abs-scanned ws (replicate 256 0) row (omega arith) row-few (length ws) (omega arith)
+          ∙ ap (λ (l : List Fed). steps (nameAt ws 0) l w₀) (take-all (length ws) (fedOf ws) (omega (arith, fed-length ws)))
+          ∙ (λ j. steps (same-stem j) (fed-is j) w₀)
+          ∙ steps-append z (piecesFed bs g (t .ps)) (part bs (t .from) n) w₀
 
-  written-accepted : Accepted s (isUtf8 ws)
-  written-accepted = record {
-    text = sym (seen-last .wrong) ∙ sym (like .wrong) ∙ flags .text;
-    tree = ap (λ (v : Tree). v .wrong) tree-last ∙ flags .tree;
-    sum = ap (λ (v : Sum). v .wrong) sum-last ∙ counted .wrong;
-    state = sym (seen-last .state) ∙ sym (like .state) ∙ seen .state ∙ file-accepted .state;
-    depth = ap (λ (v : Tree). v .depth) tree-last ∙ depth-none;
-    root = ap (λ (v : Tree). v .root) tree-last ∙ ap (λ (v : Tree). v .root) (seen .tree) ∙ file-accepted .root;
-    utf8 = utf8-written;
-    cubic = ap (λ (v : Sum). v .cubic) sum-last ∙ counted .cubic;
-    far = ap (λ (v : Sum). v .far) sum-last ∙ counted .far;
-    bare = ap (λ (v : Sum). v .bare) sum-last ∙ counted .bare;
-  }
+      abbrev like : Like z (at bs n) last
+      like = last-stage .like
 
-  abbrev found : Totals
-  found = record { number = 0; contours = length ends; points = startOf ends (length ends); full = startOf ends (length ends) }
+      seen-last : Shown ws last final
+      seen-last = subst (λ (v : Abs). Shown ws v final) scan-is (shown ws (runeAt ws (length ws)) final)
 
-  found-is : totalsOf s (isUtf8 ws) ≡ found
-  unfolding totalsOf
-  found-is =
-      λ j. record {
-        number = number-zero s (isUtf8 ws) written-accepted j;
-        contours = (ap (λ (v : Sum). v .contours) sum-last ∙ counted .contours ∙ count) j;
-        points = (ap (λ (v : Sum). v .points) sum-last ∙ counted .points ∙ ap (startOf ends) count) j;
-        full = (ap (λ (v : Sum). v .full) sum-last ∙ counted .full ∙ ap (startOf ends) count) j;
+      abbrev s : Scan
+      s = scanIn final
+
+      utf8-written : isUtf8 ws ≡ true
+      utf8-written = rune-utf8 ws (sym (rune-of ws (runeAt ws (length ws)) final) ∙ ap (λ (v : Abs). v .rune) scan-is ∙ sym (like .rune) ∙ rune-last)
+
+      abbrev counted : Counted ends fs (t .k) (last .sum)
+      counted = last-stage .counted
+
+      sum-last : s .sum ≡ last .sum
+      sum-last = sym (seen-last .sum)
+
+      tree-last : s .tree ≡ at bs n .tree
+      tree-last = sym (seen-last .tree) ∙ sym (like .tree)
+
+      abbrev late : Bool
+      late = tooFar ends fs (length ends)
+
+      written-accepted : Accepted late s (isUtf8 ws)
+      written-accepted = record {
+        text = sym (seen-last .wrong) ∙ sym (like .wrong) ∙ flags .text;
+        tree = ap (λ (v : Tree). v .wrong) tree-last ∙ flags .tree;
+        sum = ap (λ (v : Sum). v .wrong) sum-last ∙ counted .wrong;
+        state = sym (seen-last .state) ∙ sym (like .state) ∙ seen .state ∙ file-accepted .state;
+        depth = ap (λ (v : Tree). v .depth) tree-last ∙ depth-none;
+        root = ap (λ (v : Tree). v .root) tree-last ∙ ap (λ (v : Tree). v .root) (seen .tree) ∙ file-accepted .root;
+        utf8 = utf8-written;
+        cubic = ap (λ (v : Sum). v .cubic) sum-last ∙ counted .cubic;
+        late = ap (λ (v : Sum). v .far) sum-last ∙ counted .far ∙ ap (tooFar ends fs) count;
+        bare = ap (λ (v : Sum). v .bare) sum-last ∙ counted .bare;
       }
 
-  -- let through, with the points of the rows in the scratch row
-  pub reads-written : judgedOf ws row ≡ judged found (rowTo bs ends xs ys fs row (length ends))
-  reads-written =
-      judged-by ws row final refl
-      ∙ (λ j. judged (found-is j) ((sym (seen-last .points) ∙ last-stage .row ∙ (λ k. rowTo bs ends xs ys fs (start-points ws row k) (count k))) j))
+      abbrev found : Totals
+      found = record { number = pick late 14 0; contours = length ends; points = startOf ends (length ends); full = fullAt ends fs (length ends) }
 
-  -- and it is what is put
-  start-short : (k : ℕ) → startOf ends k ≤ 65536
-  start-short zero = omega (arith, start-first ends)
-  start-short (suc k) = omega (arith, start-next ends k, short k)
+      found-is : totalsOf s (isUtf8 ws) ≡ found
+      unfolding totalsOf
+      found-is =
+          λ j. record {
+            number = number-late late s (isUtf8 ws) written-accepted j;
+            contours = (ap (λ (v : Sum). v .contours) sum-last ∙ counted .contours ∙ count) j;
+            points = (ap (λ (v : Sum). v .points) sum-last ∙ counted .points ∙ ap (startOf ends) count) j;
+            full = (ap (λ (v : Sum). v .full) sum-last ∙ counted .full ∙ ap (fullAt ends fs) count) j;
+          }
 
-  pub puts-written : (q : Putting) → putParts bs g (partsOf bs n) q ≡ putText ws q
-  unfolding putParts
-  puts-written q =
-      ap (λ (l : List Part). putParts bs g l q) (pieces-are bs g t)
-      ∙ put-append bs g (t .ps) (own (t .from) n ∷ []) q
-      ∙ range-text bs (t .from) (n - t .from) (putParts bs g (t .ps) q) (omega (arith, t .in-from)) (omega (arith, t .in-from))
-      ∙ ap (putText (take (n - t .from) (drop (t .from) bs))) (good-put bs ends xs ys fs (t .good) few sx sy short start-short q)
-      ∙ sym (text-append (piecesText bs g (t .ps)) (take (n - t .from) (drop (t .from) bs)) q)
-      ∙ ap (λ (l : List ℕ). putText (piecesText bs g (t .ps) ++ l) q) (rest-all bs g t)
-      ∙ ap (λ (l : List ℕ). putText l q) (sym (written-is bs g t))
+      -- let through, with the points of the rows in the scratch row
+      pub reads-written : judgedOf ws row ≡ judged found (rowTo bs ends xs ys fs row (length ends))
+      reads-written =
+          judged-by ws row final refl
+          ∙ (λ j. judged (found-is j) ((sym (seen-last .points) ∙ last-stage .row ∙ (λ k. rowTo bs ends xs ys fs (start-points ws row k) (count k))) j))

@@ -6,3 +6,6 @@ pub mod Back
 pub mod Box
 pub mod Again
 pub mod Sound
+pub mod After
+mod Values
+pub mod Long

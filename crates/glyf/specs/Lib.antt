@@ -1,2 +1,4 @@
 pub mod Layout
 pub mod Trips
+pub mod After
+pub mod Long

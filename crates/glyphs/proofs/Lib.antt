@@ -7,3 +7,4 @@ pub mod Some
 pub mod Sixteen
 pub mod Says
 pub mod Separately
+pub mod Handed

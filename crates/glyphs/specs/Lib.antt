@@ -4,3 +4,4 @@ pub mod Entry
 pub mod Stands
 pub mod Determine
 pub mod Separately
+pub mod Handed

@@ -1,7 +1,8 @@
 -- A place and a direction looked up in a row of samples [x, y, dx, dy], at a length. Definitions only.
-use Prim.Native.Nat.{ℕ, _+_}
+use Prim.Native.Nat.{ℕ, _+_, _≤_}
 use mathlib.Core.Bool.{Bool, cond}
 use mathlib.Core.List.{List, []}
+use mathlib.Core.Path.{_≡_}
 use lib.Dec.{leb}
 use lib.ListN.{length, getD}
 use lib.Ieee.{Float, nan, toUnsigned}
@@ -9,9 +10,8 @@ use Rattle.float.specs.Numbers.{nought}
 use Rattle.float.specs.Float.{fractOf}
 use Rattle.geometry.specs.Geometry.{lerpOf}
 use Rattle.geometry.specs.declared.Point.{Point}
-use Rattle.lookup.specs.declared.Spot.{Spot}
-use Rattle.lookup.specs.declared.Looked.{Looked}
-use Rattle.lookup.specs.declared.Looked.the-variants.{At, Missing}
+use Rattle.lookup.specs.declared.Found as F
+use Rattle.lookup.specs.declared.Found.the-variants as Finding
 
 -- a point, or the refusal 8
 pub data Found : Type 0 where
@@ -47,15 +47,13 @@ xyAt row s = lookedUp 0 row s
 abbrev pub dirAt : List (List Float) → Float → Found
 dirAt row s = lookedUp 2 row s
 
--- the place, then the direction
-abbrev pub both : Found → Found → Looked
-both (found p) (found d) = At (record { xy = p; dir = d })
-both (found p) refused = Missing
-both refused f = Missing
+-- ---- what the functions give
 
-abbrev pub spotAt : List (List Float) → Float → Looked
-spotAt row s = both (xyAt row s) (dirAt row s)
+abbrev pub foundIn : F.Found → Found
+foundIn (Finding.At p) = found p
+foundIn Finding.Missing = refused
 
--- place and direction, u of the way from the sample p to the sample q
-abbrev pub spotBetween : List Float → List Float → Float → Spot
-spotBetween p q u = record { xy = pointBetween 0 p q u; dir = pointBetween 2 p q u }
+-- of the lookups at the length s, place and direction, n fell
+pub record Falls (row : List (List Float)) (s : Float) (n : ℕ) : Type 0 where
+  pub is : n ≡ cond (fell row s) 2 0
+  pub few : n ≤ 2

@@ -58,11 +58,7 @@ fallenBy row m = unlessLast (walkedBy row m) (fallenAmong row m (askedAll (apply
 unfoldable pub fallenOf : List (List Float) → Float → Float → Quad → ℕ
 fallenOf row s0 s1 q = fallenBy row (measureFunctorOf s0 s1 q)
 
--- ---- as the code counts: over the stages below k, each with its length
-
-unfoldable pub fallenBelow : List (List Float) → MeasureFunctor → List (List Float) → ℕ → ℕ
-fallenBelow row m stages zero = 0
-fallenBelow row m stages (suc k) = fallenBelow row m stages k + fallenAt row m (getD (getD stages k []) 2 nan)
+-- ---- what the functions give
 
 -- what is told of the measure x and the number n
 abbrev pub Counts : Measured → ℕ → Counted → Type 0

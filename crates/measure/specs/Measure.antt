@@ -3,8 +3,8 @@
 use mathlib.Core.Bool.{cond}
 use mathlib.Core.List.{List, [], _∷_}
 use lib.ListN.{getD}
-use lib.Ieee.{Float, nan, binary64, add, sub, mul, div, ofBits}
-use Rattle.float.specs.Numbers.{nought, five}
+use lib.Ieee.{Float, nan, binary64, add, sub, mul, div}
+use Rattle.float.specs.Numbers.{nought, five, twoHundredth}
 use Rattle.float.specs.Float.{closeTo}
 use Rattle.geometry.specs.Geometry.{squareDistanceOf, pointAtT}
 use Rattle.geometry.specs.declared.Point.{Point}
@@ -19,7 +19,7 @@ use Rattle.measure.specs.declared.Measured.the-variants.{At, Missing}
 
 -- DIST_FACTOR, 0.005
 abbrev pub distFactor : Float
-distFactor = ofBits binary64 0x3f74_7ae1_47ae_147b
+distFactor = twoHundredth
 
 -- ANGLE_FACTOR, 5.0
 abbrev pub angleFactor : Float

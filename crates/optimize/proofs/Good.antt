@@ -68,7 +68,7 @@ module _ (previous : Best) (p : Leg) (t : Float) where
 
 -- ---- the scores of attempts
 
-scores-append : (b : ℕ) (l k : List Attempt) → scoresInto b (l ++ k) ≡ scoresInto b l ++ scoresInto b k
+pub scores-append : (b : ℕ) (l k : List Attempt) → scoresInto b (l ++ k) ≡ scoresInto b l ++ scoresInto b k
 unfolding scoresInto
 scores-append b [] k = refl
 scores-append b (a ∷ l) k = by (scores-append b l k) (eqb (a .to) b)
@@ -111,7 +111,7 @@ module _ (measure : Measure) (breaks : Row) (penalty : Float) (n b : ℕ) (insid
   away true ss a ne = rw (ne-eqb (a .to) b ne) (append-nil ss)
   away false ss a ne = append-nil ss
 
-  measured-carries : (r : Measured) (bend : Bool) (i j : ℕ) (q : Quad) (st : List Best) {ss : List Float} → length st ≡ n → Good ss (bestAt st b) →
+  pub measured-carries : (r : Measured) (bend : Bool) (i j : ℕ) (q : Quad) (st : List Best) {ss : List Float} → length st ≡ n → Good ss (bestAt st b) →
       Carried n b (after ss (scored measure breaks penalty r bend i j q st)) (measured measure breaks penalty r i j q st)
   unfolding combined
   measured-carries Measured.Missing bend i j q st long g = lost

@@ -19,7 +19,7 @@ use Rattle.geometry.specs.declared.Quad.{Quad}
 use Rattle.measure.specs.Measure.{measureOf}
 use Rattle.measure.specs.Fallen.{fallenOf, Counts}
 use Rattle.measure.specs.declared.Counted.{Counted}
-use Rattle.measure.proofs.Still.{still}
+use Rattle.quickmeasure.proofs.Still.{still}
 use Rattle.measure.proofs.Asked.{fallen-most}
 use Rattle.measure.specs.declared.Measure as M
 use Rattle.measure.specs.declared.Measured.{Measured}

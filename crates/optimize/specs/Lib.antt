@@ -9,3 +9,5 @@ pub mod Laws
 pub mod Trace
 pub mod Unchanged
 pub mod WholeUnits
+pub mod Controls
+pub mod Seen

@@ -18,7 +18,7 @@ use Rattle.measure.specs.Measure.{measureOf}
 use Rattle.measure.specs.declared.Measure as M
 use Rattle.measure.specs.declared.Measured.{Measured}
 use Rattle.measure.specs.declared.Measured.the-variants as Measured
-use Rattle.measure.proofs.Still.{still}
+use Rattle.quickmeasure.proofs.Still.{still}
 use Rattle.breaks.specs.Breaks.{Row, breakAt}
 use Rattle.chain.specs.declared.Before.the-variants.{Start}
 use Rattle.chain.specs.declared.Piece as C
@@ -30,6 +30,7 @@ use Rattle.chain.specs.Laws.{equals-same}
 use Rattle.attempt.specs.Answers.{Statelet, first, scoreOf, legOf, Best, none, totalOf}
 use Rattle.optimize.specs.Optimize.{Measure, measureBy, bestAt, States, states, Optimised, refused8, unchanged, solved, pairsAfterSplits, pairsAfterSearch, ended, chosenIf, goOn, searched, splitted, tried, optimizeOf}
 use Rattle.optimize.specs.Stored.{inPlace, bendInPlace}
+use Rattle.optimize.proofs.Walk.{none-yet}
 use Rattle.optimize.proofs.One.{off-whole, one-refused, one-solved, one-bent-refused}
 use Rattle.pieces.specs.Pieces.{asPiece, piecesOf}
 use Rattle.pieces.specs.Statements.{EveryAnswerAccepted}
@@ -52,12 +53,6 @@ answered {P} a pairs s e = by (subst (Sound P) e s)
   where
     by : Sound P (solved a pairs) → P a
     by (solves h) = h
-
--- before the first pair nothing stands
-none-yet : (k b : ℕ) → bestAt (replicate k none) b ≡ none
-none-yet zero b = refl
-none-yet (suc k) zero = refl
-none-yet (suc k) (suc b) = none-yet k b
 
 module _ (samples : List (List Float)) (breaks : Row) (penalty : Float) where
   abbrev measure : Measure

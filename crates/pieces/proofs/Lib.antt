@@ -7,3 +7,4 @@ pub mod Within
 mod Slots
 mod Going
 mod Whole
+pub mod Drawn

@@ -2,13 +2,11 @@
 -- Assumes nothing.
 use Prim.Native.Nat.{ℕ, zero, suc, _+_, _≤_, _<_}
 use native.Mathlib.Omega.{arith}
-use native.Mathlib.Decide.{ℕ-discrete, decLt}
 use mathlib.Core.Bool.{Bool, true, false, _&&_, _||_}
 use mathlib.Core.List.{List, [], _∷_, _++_}
 use mathlib.Core.Path.{_≡_, refl, sym, ap, _∙_}
 use lib.Dec.{T}
-use lib.ListN.{length, set}
-use lib.Seq.{getD-set-same, getD-set-other, set-out}
+use lib.ListN.{set}
 use lib.Ieee.{Float, binary64, add, mul}
 use lib.Ieee.Fits.{and-i}
 use Rattle.float.specs.Numbers.{half}
@@ -30,6 +28,7 @@ use Rattle.chain.specs.declared.Before.the-variants.{Start, After}
 use Rattle.chain.specs.declared.Summed.the-variants as Summed
 use Rattle.attempt.specs.Answers.{Leg, Statelet, first, on, legOf, Best, none, best, smoothAfter, okForHalf, oneOrTwo, jointOf, previousScore, totalOf, isLess, replacedIf, mayBuild, combinedIf, combined}
 use Rattle.optimize.specs.Optimize.{Measure, measureBy, bestAt, States, refused, states, measured, tryQuad, tryIf, bentQuad, bentAt, bent, thenBent, tryLineQuad, onward, tryAll, splitsFrom, falling, searchFrom}
+use Rattle.optimize.proofs.Walk.{set-each}
 use Rattle.pieces.proofs.Chained.{Fine, Good, starts, goes}
 
 -- ---- what stands at a break, as a chain has it before a piece from there
@@ -109,15 +108,7 @@ module _ (samples : List (List Float)) (breaks : Row) (penalty : Float) where
     goes-on : {st : List Best} → All st → Fair (states st)
 
   set-keeps : (st : List Best) (j : ℕ) (t : Best) → All st → GoodAt j t → All (set st j t)
-  set-keeps st j t all good b = by (ℕ-discrete b j)
-    where
-      here : Dec (j < length st) → GoodAt j (bestAt (set st j t) j)
-      here (yes h) = rw (getD-set-same st j t none h) good
-      here (no h) = rw (set-out st j t (omega arith)) (all j)
-
-      by : Dec (b ≡ j) → GoodAt b (bestAt (set st j t) b)
-      by (yes e) = rw e (here (decLt j (length st)))
-      by (no h) = rw (getD-set-other st j b t none h) (all b)
+  set-keeps st j t all good = set-each GoodAt st j t all good
 
   -- it stays, or a piece that fits what stands where it starts is built on that
   module _ (p : Leg) (s : Float) (old : Best) (was : GoodAt (p .to) old) where

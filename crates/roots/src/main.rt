@@ -39,7 +39,8 @@ fn put(output: &mut [u8], at: usize, w: u64)
 fn answer(input: &[u8; 32768], output: &mut [u8], i: usize)
     requires { ⌜ (i < 4096) × (65536 ≤ length (now output)) ⌝ }
 {
-    let r = quickroot::roots_agree(float::of_bits(pattern(input, i * 8)));
+    let x = float::of_bits(pattern(input, i * 8));
+    let r = quickroot::roots_agree(x, x);
     put(output, i * 16, r.stepped);
     put(output, i * 16 + 8, r.quick);
 }

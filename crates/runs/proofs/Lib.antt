@@ -4,3 +4,4 @@ mod Values
 mod Numbered
 mod Covered
 pub mod Few
+pub mod Strict

@@ -1,13 +1,13 @@
 -- Corner k and run k, as types; proofs/Numbered has a proof of each. Definitions and statements only.
-use Prim.Native.Nat.{ℕ, zero, suc, _-_, _≤_, _<_}
+use Prim.Native.Nat.{ℕ, zero, suc, _+_, _-_, _≤_, _<_}
 use mathlib.Core.Bool.{Bool, true, false}
 use mathlib.Core.List.{List, [], _∷_}
 use mathlib.Core.Path.{_≡_}
 use lib.IntN.{ℤ}
 use lib.ListN.{length, getD}
-use Rattle.outline.specs.Segments.{oneMore}
+use Rattle.outline.specs.Segments.{oneMore, countOf}
 use Rattle.corners.specs.Corners.{cornersOf}
-use Rattle.runs.specs.Runs.{cornerList, stopsOf, runsOf, runAt}
+use Rattle.runs.specs.Runs.{cornerList, stopsOf, runsOf, runAt, numberedRun}
 use Rattle.runs.specs.declared.Run.the-variants.{Between, Nothing}
 
 -- how many indices below i are marked
@@ -38,3 +38,9 @@ RunLiesBetween =
 
 abbrev pub NoRunPast : Type 0
 NoRunPast = (closed : Bool) (xs ys : List ℤ) (fs : List ℕ) (k : ℕ) → length (stopsOf closed xs ys fs) ≤ suc k → runAt (runsOf closed xs ys fs) k ≡ Nothing
+
+-- A run has a segment at least, and it ends before it has gone round twice.
+abbrev pub RunHasSegments : Type 0
+RunHasSegments =
+    (closed : Bool) (xs ys : List ℤ) (fs : List ℕ) (k first count : ℕ) → numberedRun closed xs ys fs k ≡ Between first count →
+    (0 < count) × (first + count ≤ countOf fs + countOf fs)

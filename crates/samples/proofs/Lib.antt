@@ -1,2 +1,2 @@
--- What the proofs share.
-mod Turns
+-- What the proofs share, here and in `quicksamples`.
+pub mod Turns

@@ -1,19 +1,17 @@
-// Module 5: the samples of a run, a row of [x, y, dx, dy] at each whole arc length. Each contract
-// equates what is left in the row with a definition of specs/Samples.antt.
+// Module 5, the Rust's `Thetas::new`: the samples of a run, a row of [x, y, direction x, y] at each whole arc length, by 100 steps a quad.
+// Each contract equates what is left in the row with a definition of specs/Samples.antt.
 use arclen::ArclenFunctor;
 use geometry::Point;
 use geometry::Quad;
 use outline::Seg;
 ghost use mathlib.Core.Path.{_≡_};
 ghost use Prim.Native.Nat.{_≤_};
-ghost use mathlib.Core.Bool.{false};
 ghost use lib.ListN.{length, take};
 ghost use Rattle.float.specs.Numbers.{nought};
 ghost use Rattle.arclen.specs.Arclen.{arclenFunctorOf};
 ghost use Rattle.samples.specs.Samples.{quadOf, quadsOf, sampleFrom, sampleAt, stepAt, fillTo, sweepFrom, lengthAfter};
 ghost use Rattle.samples.specs.Samples.{finished, thetasOf, start, walkedIn, filledIn, placesFilled};
 ghost use Rattle.samples.specs.Samples.{sweptIn, placesSwept, lengthSwept, runIn, placesSampled};
-ghost use Rattle.samples.specs.Tens.{NoneDue, TenSteps};
 
 // A step along a quad: the place, the derivative and the length there.
 pub struct Step {
@@ -63,7 +61,8 @@ pub fn as_quad(s: Seg) -> Quad
     }
 }
 
-fn packed(p: Point, d: Point) -> [f64; 4]
+// A place and a direction, as a row has them.
+pub fn packed(p: Point, d: Point) -> [f64; 4]
     ensures { λ r. ⌜ r ≡ sampleFrom p d ⌝ }
 {
     [p.x, p.y, d.x, d.y]
@@ -98,7 +97,8 @@ fn fill(row: &mut [[f64; 4]], n: usize, ix: f64, last: Step, this: Step, limit: 
     Filled::At(m, x)
 }
 
-fn step_at(q: Quad, f: ArclenFunctor, t: f64, y: f64) -> Step
+// Where the quad is at the time t, with the length y there.
+pub fn step_at(q: Quad, f: ArclenFunctor, t: f64, y: f64) -> Step
     requires { ⌜ f ≡ arclenFunctorOf q ⌝ }
     ensures { λ r. ⌜ r ≡ stepAt q t y ⌝ }
 {
@@ -107,84 +107,7 @@ fn step_at(q: Quad, f: ArclenFunctor, t: f64, y: f64) -> Step
     Step { xy, d, s: y }
 }
 
-// Whether a sample is due in ten steps that start at these lengths.
-fn is_due(starts: &[f64; 11], ix: f64) -> bool
-    requires { ⌜ length (now starts) ≡ 11 ⌝ }
-    ensures { λ r. ⌜ (r ≡ false → NoneDue (now (starts .entry)) ix 10) ⌝ }
-{
-    let mut due = false;
-    let mut i = 0usize;
-    while i < 10 {
-        due = due | (ix <= starts[i]);
-        i += 1;
-    }
-    due
-}
-
-// Ten steps from the time t on, which start at these lengths, each with the samples up to it.
-fn fill_steps(
-    row: &mut [[f64; 4]],
-    from: Walk,
-    q: Quad,
-    f: ArclenFunctor,
-    t: f64,
-    starts: &[f64; 11],
-) -> Swept
-    requires { ⌜ (f ≡ arclenFunctorOf q) × (from .n ≤ length (now row)) × (length (now starts) ≡ 11) ⌝ }
-    ensures { λ r. ⌜ TenSteps q t (now (starts .entry)) from (now (row .entry)) (now (row .exit)) r ⌝ }
-{
-    let h = 1.0 / 100.0;
-    let mut n = from.n;
-    let mut ix = from.ix;
-    let mut last = from.last;
-    let mut time = t;
-    for i in 0..10usize {
-        let y = starts[i];
-        let this = step_at(q, f, time, y);
-        let Filled::At(m, x) = fill(row, n, ix, last, this, y) else {
-            return Swept::Full;
-        };
-        n = m;
-        ix = x;
-        last = this;
-        time = time + h;
-    }
-    Swept::At(Walk {
-        n,
-        ix,
-        last,
-        len: starts[10],
-    })
-}
-
-// The same; where no sample is due, only the last of the steps is worked out.
-fn ten_steps(
-    row: &mut [[f64; 4]],
-    from: Walk,
-    q: Quad,
-    f: ArclenFunctor,
-    t: f64,
-    starts: &[f64; 11],
-) -> Swept
-    requires { ⌜ (f ≡ arclenFunctorOf q) × (from .n ≤ length (now row)) × (length (now starts) ≡ 11) ⌝ }
-    ensures { λ r. ⌜ TenSteps q t (now (starts .entry)) from (now (row .entry)) (now (row .exit)) r ⌝ }
-{
-    let n = from.n;
-    let ix = from.ix;
-    if is_due(starts, ix) {
-        return fill_steps(row, from, q, f, t, starts);
-    }
-    let last = step_at(q, f, arclen::later(1.0 / 100.0, t, 9), starts[9]);
-    Swept::At(Walk {
-        n,
-        ix,
-        last,
-        len: starts[10],
-    })
-}
-
-// 100 steps over one quad, ten at a time. Of a straight one all speeds are one; of another the last of ten
-// steps' is the first of the next ten's.
+// 100 steps over one quad.
 fn sweep(row: &mut [[f64; 4]], from: Walk, q: Quad) -> Swept
     requires { ⌜ from .n ≤ length (now row) ⌝ }
     ensures row { λ r. ⌜ sweepFrom 100 (length (now (row .entry))) q nought (from .len) (walkedIn (now (row .entry)) from) ≡ sweptIn (now (row .exit)) r ⌝ }
@@ -193,26 +116,34 @@ fn sweep(row: &mut [[f64; 4]], from: Walk, q: Quad) -> Swept
 {
     let f = ArclenFunctor::new(q);
     let h = 1.0 / 100.0;
-    let straight = f.is_straight();
-    let mut v = arclen::same_speeds(f, 0.0);
-    let mut w = from;
+    let mut n = from.n;
+    let mut ix = from.ix;
+    let mut last = from.last;
     let mut t = 0.0;
-    for _ in 0..10usize {
-        if !straight {
-            arclen::speeds_on(f, h, t, &mut v);
-        }
-        let starts = arclen::lengths(h, w.len, &v);
-        let Swept::At(next) = ten_steps(row, w, q, f, t, &starts) else {
+    let mut y = from.len;
+    let mut k = 0usize;
+    while k < 100 {
+        let this = step_at(q, f, t, y);
+        let Filled::At(m, x) = fill(row, n, ix, last, this, y) else {
             return Swept::Full;
         };
-        w = next;
-        t = arclen::later(h, t, 10);
+        n = m;
+        ix = x;
+        last = this;
+        y = arclen::rk4(f, h, t, y);
+        t = t + h;
+        k += 1;
     }
-    Swept::At(w)
+    Swept::At(Walk {
+        n,
+        ix,
+        last,
+        len: y,
+    })
 }
 
 // The samples after the last step, up to the length + 2.
-fn finish(row: &mut [[f64; 4]], w: Walk, q: Quad) -> Thetas
+pub fn finish(row: &mut [[f64; 4]], w: Walk, q: Quad) -> Thetas
     requires { ⌜ w .n ≤ length (now row) ⌝ }
     ensures row { λ r. ⌜ finished (length (now (row .entry))) q (w .len) (walkedIn (now (row .entry)) w) ≡ runIn (now (row .exit)) r ⌝ }
     ensures places { λ r. ⌜ placesSampled r ≤ length (now (row .entry)) ⌝ }
@@ -229,7 +160,8 @@ fn finish(row: &mut [[f64; 4]], w: Walk, q: Quad) -> Thetas
     }
 }
 
-fn begin() -> Walk
+// Before the first segment.
+pub fn begin() -> Walk
     ensures { λ r. ⌜ r ≡ start ⌝ }
 {
     let here = Point { x: 0.0, y: 0.0 };
@@ -245,8 +177,7 @@ fn begin() -> Walk
     }
 }
 
-// The run of `count` segments from segment `first` on. Each starts at the place where the one before it
-// ended.
+// The run of `count` segments from segment `first` on. Each starts at the place where the one before it ended.
 pub fn sample_run(
     xs: &[i16],
     ys: &[i16],

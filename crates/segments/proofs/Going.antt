@@ -14,9 +14,9 @@ use Rattle.float.specs.Numbers.{nought}
 use Rattle.geometry.specs.declared.Quad.{Quad}
 use Rattle.rows.proofs.Filled.{Filled, more, filled}
 use Rattle.arclen.specs.Arclen.{hundredth, arclenFunctorOf}
-use Rattle.arclen.specs.Stages.{paceOf, reachedBy}
+use Rattle.arclen.specs.One.{StepsOne}
 use Rattle.arclen.specs.declared.ArclenFunctor.{ArclenFunctor}
-use Rattle.arclen.specs.declared.Reached.{Reached}
+use Rattle.arclen.proofs.Laws.{stepped-one}
 use Rattle.outline.specs.Segments.{endOf, segFrom}
 use Rattle.samples.specs.Samples.{quadOf, quadsFrom, lengthFrom, lengthAfter}
 use Rattle.segments.specs.Segments.{endsFrom, firstHolding}
@@ -24,18 +24,17 @@ use Rattle.segments.specs.Laws.{getD-mapped}
 
 -- ---- 100 steps over a quad, of which k are done
 
-pub record Stepping (f : ArclenFunctor) (y : Float) (t : Float) (to : Reached) (k : ℕ) : Type 0 where
-  pub pace : to .pace ≡ paceOf f t
-  pub len : lengthFrom 100 f nought y ≡ lengthFrom (100 - k) f t (to .length)
+pub record Stepping (f : ArclenFunctor) (y : Float) (t at : Float) (k : ℕ) : Type 0 where
+  pub len : lengthFrom 100 f nought y ≡ lengthFrom (100 - k) f t at
 
-module _ {f : ArclenFunctor} {y : Float} {t : Float} {to : Reached} {k : ℕ} (s : Stepping f y t to k) where
-  pub steps : {to' : Reached} → k < 100 → to' ≡ reachedBy f hundredth t (to .length) → Stepping f y (add binary64 t hundredth) to' (k + 1)
+module _ {f : ArclenFunctor} {y : Float} {t at : Float} {k : ℕ} (s : Stepping f y t at k) where
+  pub steps : {next : Float} → k < 100 → StepsOne f hundredth t at next → Stepping f y (add binary64 t hundredth) next (k + 1)
   unfolding lengthFrom
-  steps h reached =
+  steps h step =
       let one-less : 100 - k ≡ suc (100 - (k + 1)) = omega arith in
-      record { pace = rw reached refl; len = s .len ∙ rw (one-less, reached) refl }
+      record { len = s .len ∙ rw (one-less, ← stepped-one f hundredth t at step) refl }
 
-  pub stepped : (q : Quad) → 100 ≤ k → f ≡ arclenFunctorOf q → to .length ≡ lengthAfter q y
+  pub stepped : (q : Quad) → 100 ≤ k → f ≡ arclenFunctorOf q → at ≡ lengthAfter q y
   unfolding lengthFrom
   stepped q h is =
       let none : 100 - k ≡ 0 = omega arith in

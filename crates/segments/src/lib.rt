@@ -2,8 +2,6 @@
 // the breaks are found and used, so that nothing else can depend on it. Each contract equates the result
 // with a definition of specs/Segments.antt.
 use arclen::ArclenFunctor;
-use arclen::Pace;
-use arclen::Reached;
 use geometry::Quad;
 ghost use mathlib.Core.Path.{_≡_};
 ghost use mathlib.Core.List.{map};
@@ -20,15 +18,12 @@ fn length_after(q: Quad, y: f64) -> f64
     let f = ArclenFunctor::new(q);
     let h = 1.0 / 100.0;
     let mut t = 0.0;
-    let mut at = Reached {
-        length: y,
-        pace: f.pace(t, Pace::still()),
-    };
+    let mut at = y;
     for k in 0..100usize {
         at = arclen::rk4(f, h, t, at);
         t = t + h;
     }
-    at.length
+    at
 }
 
 // Where n segments end, from segment `first` on, in the first places of the row.

@@ -3,8 +3,9 @@ use Prim.Native.Nat.{ℕ}
 use mathlib.Core.Bool.{Bool, true, false, not, _&&_}
 use mathlib.Core.List.{List}
 use lib.Dec.{eqb, leb, ltb}
-use lib.Ieee.{Float, binary64, ofInt, div, ofBits}
+use lib.Ieee.{Float, binary64, ofInt, div}
 use lib.IntN.{ℤ, pos}
+use Rattle.float.specs.Numbers.{sixteen}
 use Rattle.refusals.specs.Refusals.{judged, refuse}
 use Rattle.refusals.specs.declared.Judged.{Judged}
 use Rattle.refusals.specs.declared.Judged.the-variants as Judged
@@ -12,9 +13,9 @@ use Rattle.breaks.specs.Breaks.{halfGrid, wholeGrid}
 use Rattle.breaks.specs.declared.Grid.{Grid}
 use Rattle.settings.specs.declared.Settings.{Settings}
 
--- a penalty in sixteenths, as a float: the quotient is exact
+-- a penalty in sixteenths, as a float. The quotient is exact: `PenaltyIsExact` of specs/Statements
 unfoldable pub penaltyOf : Settings → Float
-penaltyOf s = div binary64 (ofInt binary64 (pos (s .penalty))) (ofBits binary64 0x4030000000000000)
+penaltyOf s = div binary64 (ofInt binary64 (pos (s .penalty))) sixteen
 
 -- what the breaks are rounded to: the profile of whole units, or the crate's half units
 abbrev pub gridBy : Bool → Grid

@@ -26,11 +26,11 @@ use Rattle.survey.proofs.Bounded.{Within, round-within, mul-within, div
 
 -- ---- one place: a length of at most k is looked up at a place of at most k
 
-int-value : (n : ℕ) → n ≤ 2 ^ 53 → HasValue (ofInt binary64 (pos n)) false n 1
+pub int-value : (n : ℕ) → n ≤ 2 ^ 53 → HasValue (ofInt binary64 (pos n)) false n 1
 unfolding ofInt
 int-value n h = round-whole binary64 false n h
 
-int-within : (i n : ℕ) → i ≤ n → n < 2 ^ 31 → Within n (ofInt binary64 (pos i))
+pub int-within : (i n : ℕ) → i ≤ n → n < 2 ^ 31 → Within n (ofInt binary64 (pos i))
 unfolding ofInt
 int-within i n h few = round-within false i 1 n (lit≤ tt) (omega arith) (omega arith)
 

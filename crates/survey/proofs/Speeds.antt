@@ -21,7 +21,7 @@ use Rattle.arclen.specs.Rk4.{halfOf, moved, grownBy, grownAll, rk4}
 use Rattle.arclen.specs.Arclen.{hundredth, doubled, arclenFunctorOf, derivOf, speedOf, rk4One}
 use Rattle.arclen.specs.declared.ArclenFunctor.{ArclenFunctor}
 use Rattle.outline.specs.Segments.{coordinate, onAt, nextOf, segIf, segFrom, endOf}
-use Rattle.samples.specs.Samples.{quadOf, quadsFrom, lengthFrom, lengthAll}
+use Rattle.samples.specs.Samples.{quadOf, quadsFrom, lengthFrom, lengthAfter, lengthAll}
 use Rattle.survey.specs.Never.{Sixteen}
 use Rattle.survey.proofs.Bounded.{Within, within, wider, round-within, add-within, sub-within, mul-within}
 
@@ -204,12 +204,17 @@ module _ (xs ys : List ℤ) (sx : Sixteen xs) (sy : Sixteen ys) where
   unfolding segFrom
   quad-held fs a = seg-held (onAt fs (nextOf a (length fs))) a _ _
 
+  -- the length after the segment from place a on
+  pub after-size : (fs : List ℕ) (a : ℕ) (y : Float) → Size y → Size (lengthAfter (quadOf (segFrom xs ys fs a)) y)
+  after-size fs a y z =
+      let q = quadOf (segFrom xs ys fs a) in
+      from-size 100 0 (arclenFunctorOf q) nought y (steady q (quad-held fs a)) (lit≤ tt) nought-within z
+
   all-size : (fs : List ℕ) (a n : ℕ) (y : Float) → Size y → Size (lengthAll (quadsFrom xs ys fs a n) y)
   unfolding quadsFrom lengthAll
   all-size fs a zero y z = z
   all-size fs a (suc n) y z =
-      let q = quadOf (segFrom xs ys fs a) in
-      all-size fs (endOf fs a) n _ (from-size 100 0 (arclenFunctorOf q) nought y (steady q (quad-held fs a)) (lit≤ tt) nought-within z)
+      all-size fs (endOf fs a) n _ (after-size fs a y z)
 
   -- the length of n segments from place a on
   pub length-size : (fs : List ℕ) (a n : ℕ) → Size (lengthAll (quadsFrom xs ys fs a n) nought)

@@ -7,7 +7,7 @@ use mathlib.Core.Path.{_≡_, refl, ap, _∙_}
 use lib.Dec.{T}
 use lib.Ieee.{Float, binary64, fits}
 use lib.IntN.{ℤ}
-use lib.ListN.{length}
+use lib.ListN.{length, take}
 use Rattle.breaks.specs.Breaks.{Row, RunBreaks, breakAt, breaksOf}
 use Rattle.breaks.specs.Breaks as Breaks
 use Rattle.breaks.specs.Laws.{found-some, found-few, found-fit, breaks-same}
@@ -15,7 +15,9 @@ use Rattle.breaks.specs.declared.Grid.{Grid}
 use Rattle.samples.specs.Samples.{Sample, Run, thetasOf, quadsOf}
 use Rattle.samples.specs.Samples as Samples
 use Rattle.samples.specs.Laws.{samples-same}
-use Rattle.survey.specs.Survey.{refused, surveyed, sampleRoom, breakRoom, searched, afterSampling, surveyOf}
+use Rattle.survey.specs.Survey.{refused, surveyed, sampleRoom, breakRoom, searched, afterSampling, surveyOf, surveyIn}
+use Rattle.survey.specs.declared.Surveyed as Y
+use Rattle.survey.specs.declared.Surveyed.the-variants as Surveyed
 
 -- the breaks of a surveyed run are some that were found
 record Found (room : ℕ) (g : Grid) (row : Row) : Type 0 where
@@ -68,3 +70,30 @@ module _ (sampleRow breakRow sampleRow' breakRow' : ℕ) (hs : sampleRow ≤ sam
       surveyOf sampleRow' breakRow' xs ys fs first count g ≡ surveyOf sampleRow breakRow xs ys fs first count g
   unfolding surveyOf
   survey-same six seven = sampled-same _ refl six seven
+
+-- ---- for those who lend the rows on
+
+-- breaks that a survey found: there are some, at most 2,048, and the first stands on doubles
+pub record FoundBreaks (breaks : Row) : Type 0 where
+  pub some : 0 < length breaks
+  pub few : length breaks ≤ 2048
+  pub fit-x : T (fits binary64 (breakAt breaks 0 .xy .x))
+  pub fit-y : T (fits binary64 (breakAt breaks 0 .xy .y))
+
+pub surveyed-found : (sampleRow breakRow : ℕ) (xs ys : List ℤ) (fs : List ℕ) (first count : ℕ) (g : Grid) (samples : List Sample) (breaks : Row) →
+    surveyOf sampleRow breakRow xs ys fs first count g ≡ surveyed samples breaks → FoundBreaks breaks
+surveyed-found sampleRow breakRow xs ys fs first count g samples breaks e =
+    let some = surveyed-some sampleRow breakRow xs ys fs first count g samples breaks e in
+    let fit = surveyed-fit sampleRow breakRow xs ys fs first count g samples breaks e 0 some in
+    record { some = some; few = surveyed-few sampleRow breakRow xs ys fs first count g samples breaks e; fit-x = fit .0; fit-y = fit .1 }
+
+-- those that a survey left in the first places of a row
+pub found-rows : (sampleRow breakRow : ℕ) (xs ys : List ℤ) (fs : List ℕ) (first count : ℕ) (g : Grid) (samples : List Sample) (breaks : Row)
+    {n m : ℕ} {r : Y.Surveyed} →
+    surveyOf sampleRow breakRow xs ys fs first count g ≡ surveyIn samples breaks r → r ≡ Surveyed.Rows n m → FoundBreaks (take m breaks)
+found-rows sampleRow breakRow xs ys fs first count g samples breaks {n} {m} e h =
+    surveyed-found sampleRow breakRow xs ys fs first count g (take n samples) (take m breaks) (e ∙ ap (surveyIn samples breaks) h)
+
+-- so many samples, or breaks, are in a row that is as long as it was lent
+pub in-row : (used : Y.Surveyed → ℕ) {r s : Y.Surveyed} {k l : ℕ} → r ≡ s → used r ≤ k → l ≡ k → used s ≤ l
+in-row used e h kept = omega (arith, h, ap used e, kept)

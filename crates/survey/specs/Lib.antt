@@ -1,3 +1,4 @@
 pub mod Survey
 pub mod Laws
 pub mod Never
+pub mod Along

@@ -10,13 +10,13 @@ use lib.Dec.{T}
 use lib.IntN.{ℤ, pos, negsuc}
 use lib.Ieee.{Float, nan, inf, fin, binary64, up, down, unlike, fits, round, sub, mul, div, lt}
 use lib.Ieee.Back.{whole-unique}
-use Rattle.float.specs.Numbers.{nought}
+use Rattle.float.specs.Numbers.{nought, fiftieth}
 use Rattle.float.specs.Float.{absOf, tiny, closeTo}
 use Rattle.float.proofs.Zeros.{IsZero, is-zero, zero-finite, IsBlank, blank, blank-nan, zeros-add, times-zero, any-times-zero, root-zero, blanks-sub, blank-over-zero}
 use Rattle.float.proofs.Less.{less-nan}
 use Rattle.geometry.specs.declared.Point.{Point}
 use Rattle.geometry.specs.Geometry.{normOf}
-use Rattle.corners.specs.Corners.{fiftieth, bend, angleCorner}
+use Rattle.corners.specs.Corners.{bend, angleCorner}
 use Rattle.corners.proofs.Whole.{Whole, minus-nil}
 
 -- ---- a whole number close to 0 is 0

@@ -2,6 +2,8 @@
 
 #![allow(dead_code)] // each test program uses some of them
 
+pub mod running;
+
 use fontcrunch::{Cruncher, Point, Settings};
 
 /// What the recorded answers were recorded with: those of the Rust that this follows.

@@ -4,15 +4,14 @@ use native.Mathlib.Omega.{arith}
 use mathlib.Core.Path.{refl, _∙_}
 use lib.Dec.{T, le→leb}
 use lib.IntN.{pos}
-use lib.Ieee.{binary64, inFloat, ofBits}
-use Rattle.float.specs.Float.{rootOf}
+use lib.Ieee.{binary64, inFloat}
 use Rattle.breaks.specs.Breaks.{full, last, past}
 use Rattle.breaks.proofs.Laws.{capped, Seeking, seek, seeks, seeks-no-more, sought}
 use Rattle.breaks.proofs.find_breaks.Statement.{statement}
 use Rattle.breaks.proofs.find_breaks.Tie as tie
 
 abbrev Inv-loop : tie.InvT-loop
-Inv-loop samples len g row₀ n p₀ i₀ row p i = Seeking samples len g n row₀ row p i
+Inv-loop samples len g row₀ n p₀ i₀ row p i = Seeking samples len g n row₀ row (p .count) (p .opened) i
 
 abbrev μ-loop : tie.MeasureT-loop
 μ-loop samples len g row₀ n p₀ i₀ row p i = suc n - i
@@ -29,8 +28,7 @@ places-requires : tie.Need-places-requires Inv-loop μ-loop
 places-requires c κs = tt
 
 loop-holds : tie.Need-loop-holds Inv-loop μ-loop
-unfolding ofBits rootOf
-loop-holds c = seek _ _ _ _ _ _ (c .places .ensures) refl refl
+loop-holds c = seek _ _ _ _ _ _ _ (c .places .ensures) refl refl
 
 int-to-float-place : tie.Need-int-to-float-place Inv-loop μ-loop
 int-to-float-place c = exact _ (omega (arith, few (c .before .before)))

@@ -33,9 +33,6 @@ returns c =
     let start = asking .before .before in
     (join-opens _ _ (start .pre) _ _ _ (sym (asking .opens .ensures) ∙ pushing .before .before .if1 .taken) ∙ pushing .push .ensures .0, pushing .push .ensures .1)
 
-nearer-requires : tie.Need-nearer-requires
-nearer-requires c κs = tt
-
 packed-requires : tie.Need-packed-requires
 packed-requires c κs = search needs
 
@@ -53,20 +50,18 @@ same-length-2 c = search needs
 
 returns-2 : tie.Need-returns-2
 returns-2 c =
-    let asked = c .before .before in
-    let else = asked .before in
+    let else = c .before .before .before in
     let start = else .before .before .before in
-    (rw (c .packed .ensures) (join-replaces _ _ (start .pre) _ _ _ (closely else) (sym (asked .nearer .ensures) ∙ c .before .if2 .taken)), start .pre)
+    (rw (c .packed .ensures) (join-replaces _ _ (start .pre) _ _ _ (closely else) (c .before .if2 .taken)), start .pre)
 
 same-length-3 : tie.Need-same-length-3
 same-length-3 c = search needs
 
 returns-3 : tie.Need-returns-3
 returns-3 c =
-    let asked = c .before in
-    let else = asked .before in
+    let else = c .before .before in
     let start = else .before .before .before in
-    (join-keeps _ _ (start .pre) _ _ _ (closely else) (sym (asked .nearer .ensures) ∙ c .if2 .left), start .pre)
+    (join-keeps _ _ (start .pre) _ _ _ (closely else) (c .if2 .left), start .pre)
 
 pub join-spec : {M : Type 1} → statement M
 join-spec =
@@ -76,7 +71,6 @@ join-spec =
     push-requires
     same-length
     returns
-    nearer-requires
     packed-requires
     sub-t13
     mul-t14

@@ -1,6 +1,5 @@
 -- `breaks::push` meets its contract. Assumes nothing.
 use native.Mathlib.Omega.{arith}
-use Rattle.float.specs.Float.{rootOf}
 use Rattle.breaks.proofs.Laws.{no-room, has-room}
 use borrow.Author.Needs.{needs}
 use Rattle.breaks.proofs.push.Statement.{statement}
@@ -9,7 +8,7 @@ use Rattle.breaks.proofs.push.Tie as tie
 returns : tie.Need-returns
 returns c =
     let args = c .before .args in
-    (no-room (args .row .now) (args .n) (c .before .pre) (args .b) (rootOf (args .square)) (c .if1 .taken), omega arith)
+    (no-room (args .row .now) (args .n) (c .before .pre) (args .b) (args .dist) (c .if1 .taken), omega arith)
 
 packed-requires : tie.Need-packed-requires
 packed-requires c κs = search needs
@@ -30,7 +29,7 @@ returns-2 : tie.Need-returns-2
 returns-2 c =
     let start = c .before .before in
     let args = start .args in
-    (rw (c .packed .ensures) (has-room (args .row .now) (args .n) (start .pre) (args .b) (rootOf (args .square)) (c .before .if1 .left)), omega arith)
+    (rw (c .packed .ensures) (has-room (args .row .now) (args .n) (start .pre) (args .b) (args .dist) (c .before .if1 .left)), omega arith)
 
 pub push-spec : {M : Type 1} → statement M
 push-spec =

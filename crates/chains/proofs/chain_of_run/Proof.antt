@@ -5,6 +5,7 @@ use Rattle.rows.specs.Lent.{inputs}
 use Rattle.pieces.specs.Slots.{chain}
 use Rattle.edition.specs.Laws.{cleared-work}
 use Rattle.chains.specs.Entry.{rows, wholeOf, breaksIn}
+use Rattle.chains.specs.Determine.{values-are}
 use Rattle.chains.proofs.Steps.{answer-is, rows-are}
 use Rattle.chains.proofs.chain_of_run.Statement.{statement}
 use Rattle.chains.proofs.chain_of_run.Tie as tie
@@ -54,6 +55,7 @@ returns c =
     let handed = c .before .before .before .before .before .before .before .before .before .before .before .before .before .before .before .before .before .before .before .before .before .before .before .before .chain-judged .ensures in
     record {
       answer = answer-is whole breaks lent handed;
+      values = values-are whole (answer-is whole breaks lent handed);
       rows = rows-are whole breaks lent handed;
       work = cleared-work (args .samples .now) (args .breaks .now) (args .answers .now) (args .links .now) (c .before .before .before .before .before .clear-work .ensures) (kept .0) (kept .1 .0) (kept .1 .1 .0) (kept .1 .1 .1 .0);
     }

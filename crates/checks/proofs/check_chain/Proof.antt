@@ -1,7 +1,8 @@
 -- `checks::check_chain` meets its contract. Assumes nothing.
-use mathlib.Core.Path.{refl, _∙_}
+use mathlib.Core.Path.{refl, ap, _∙_}
 use Rattle.checks.specs.Checks.{GivenChain}
-use Rattle.edition.specs.Laws.{cleared-work}
+use Rattle.rows.specs.Scratch.{cleared-work}
+use Rattle.checks.specs.Entry.{report}
 use Rattle.checks.proofs.Steps.{whole-is}
 use Rattle.checks.proofs.check_chain.Statement.{statement}
 use Rattle.checks.proofs.check_chain.Tie as tie
@@ -32,8 +33,10 @@ returns c =
     let args = c .before .before .before .before .before .before .before .before .before .before .before .before .before .before .before .before .before .before .before .before .before .before .args in
     let kept = c .before .before .before .before .before .before .before .before .before .before .before .before .check-judged .kept .1 .1 .1 .1 .1 .1 .1 .1 .1 .1 .1 in
     let chain : GivenChain = record { starts = args .starts .now; ends = args .ends .now; xs = args .cxs .now; ys = args .cys .now; score = args .score } in
+    let ruled = whole-is (args .xs .now) (args .ys .now) (args .flags .now) (args .k) (args .settings) chain (args .samples .now) (args .breaks .now) (args .answers .now) (args .links .now) (c .before .before .before .before .before .before .before .before .before .before .before .before .before .before .before .least .ensures) (c .before .before .before .before .before .before .before .before .before .before .before .before .check-judged .ensures) in
     record {
-      ruling = whole-is (args .xs .now) (args .ys .now) (args .flags .now) (args .k) (args .settings) chain (args .samples .now) (args .breaks .now) (args .answers .now) (args .links .now) (c .before .before .before .before .before .before .before .before .before .before .before .before .before .before .before .least .ensures) (c .before .before .before .before .before .before .before .before .before .before .before .before .check-judged .ensures);
+      ruling = ruled;
+      values = ap report ruled;
       left = cleared-work (args .samples .now) (args .breaks .now) (args .answers .now) (args .links .now) (c .before .before .before .before .before .clear-work .ensures) (kept .0) (kept .1 .0) refl refl;
     }
 

@@ -2,7 +2,7 @@
 use mathlib.Core.Path.{sym}
 use lib.Seq.{length-take-le}
 use Rattle.survey.specs.Survey.{samplesUsed, breaksUsed}
-use Rattle.edition.specs.Laws.{in-row, found-rows}
+use Rattle.survey.specs.Laws.{in-row, found-rows}
 use Rattle.checks.proofs.Steps.{survey-is}
 use Rattle.checks.proofs.check_run.Statement.{statement}
 use Rattle.checks.proofs.check_run.Tie as tie

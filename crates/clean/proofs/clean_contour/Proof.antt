@@ -18,7 +18,7 @@ clean-fine-requires : tie.Need-clean-fine-requires
 clean-fine-requires c κs = accepted _ _ _ (sym (c .before .before .before .before .before .before .judge .ensures) ∙ c .before .before .before .before .enum-told .given .1)
 
 returns : tie.Need-returns
-returns c = refused-first _ _ (c .before .before .before .judge .ensures) (c .before .k .given .1)
+returns c = refused-first _ _ _ (c .before .before .before .judge .ensures) (c .before .k .given .1)
 
 same-length : tie.Need-same-length
 same-length c = c .before .before .before .before .before .clean-fine .kept .1 .1 .1 .0

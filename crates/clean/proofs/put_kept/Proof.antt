@@ -1,11 +1,12 @@
 -- `clean::put_kept` meets its contract. Assumes nothing.
 use Prim.Native.Nat.{_-_}
 use mathlib.Core.List.{map}
+use mathlib.Core.Path.{refl}
 use native.Mathlib.Omega.{arith}
 use Rattle.rows.proofs.Filled.{Filled, start}
 use Rattle.clean.specs.Clean.{upFrom}
 use Rattle.clean.specs.PutBack.{keptSpot}
-use Rattle.clean.proofs.Restoring.{kept-more, kept-all}
+use Rattle.clean.proofs.Restoring.{number-more, number-all}
 use Rattle.clean.proofs.put_kept.Statement.{statement}
 use Rattle.clean.proofs.put_kept.Tie as tie
 
@@ -34,13 +35,13 @@ loop-less : tie.Need-loop-less Inv-loop μ-loop
 loop-less c = omega (arith, c .loop-test .taken)
 
 loop-again : tie.Need-loop-again Inv-loop μ-loop
-loop-again c = kept-more _ (c .before .loop .inv) (c .loop-test .taken) (c .before .before .pre .0)
+loop-again c = number-more keptSpot _ (c .before .loop .inv) (c .loop-test .taken) (c .before .before .pre .0) refl
 
 same-length : tie.Need-same-length Inv-loop μ-loop
 same-length c = c .before .loop .inv .same
 
 returns : tie.Need-returns Inv-loop μ-loop
-returns c = kept-all _ (c .before .loop .inv) (c .loop-test .left)
+returns c = number-all keptSpot _ (c .before .loop .inv) (c .loop-test .left)
 
 pub put-kept-spec : {M : Type 1} → statement M
 put-kept-spec =

@@ -2,19 +2,22 @@
 use Prim.Native.Nat.{_-_}
 use mathlib.Core.Path.{sym, _∙_}
 use native.Mathlib.Omega.{arith}
-use Rattle.contour.specs.Implied.{isImplied}
+use Rattle.contour.specs.Implied.{isImplied, firstPlace}
 use Rattle.contour.proofs.Dropping.{Dropping, drop-start, drop-one, keep-one, dropped}
 use Rattle.contour.proofs.drop_implied.Statement.{statement}
 use Rattle.contour.proofs.drop_implied.Tie as tie
 
 abbrev Inv-loop : tie.InvT-loop
-Inv-loop points₀ n closed left₀ i₀ points left i = Dropping (isImplied closed) points₀ points n left i
+Inv-loop points₀ n closed left₀ i₀ points left i = Dropping (isImplied closed) points₀ points n (firstPlace closed) left i
 
 abbrev μ-loop : tie.MeasureT-loop
 μ-loop points₀ n closed left₀ i₀ points left i = left - i
 
+first-place-requires : tie.Need-first-place-requires Inv-loop μ-loop
+first-place-requires c κs = tt
+
 loop-holds : tie.Need-loop-holds Inv-loop μ-loop
-loop-holds c = drop-start _ _ _ (c .pre)
+loop-holds c = drop-start _ _ _ _ _ (c .before .pre) (c .first-place .ensures)
 
 implied-at-requires : tie.Need-implied-at-requires Inv-loop μ-loop
 implied-at-requires c κs = let inv = c .before .before .loop .inv in (c .before .loop-test .taken, omega (arith, inv .fits, inv .same))
@@ -62,6 +65,7 @@ drop-implied-spec =
     (tie.spec
     Inv-loop
     μ-loop
+    first-place-requires
     loop-holds
     implied-at-requires
     remove-requires

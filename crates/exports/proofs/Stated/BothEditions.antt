@@ -1,44 +1,28 @@
--- The contract of the export, as the check reads it off src/both_editions.rt: nothing is asked of a caller; and what is promised fixes both reports and
--- every lent row, of the contour, of the order and of the lengths of the rows alone. Assumes nothing.
-use Rattle.contour.specs.Output.{outputs}
-use Rattle.editions.specs.Entry.{LentRows}
-use Rattle.editions.specs.Determine.{AlikeBoth}
-use Rattle.exports.specs.Determine.{EqualReports, editions-equal-orders}
+-- The contract of the export, as the check reads it off src/both_editions.rt, of any call (proofs/Calls), its rows and numbers by name (specs/Calls): nothing
+-- is asked of a caller; the contract IS the entry's promise for what the caller gave; both reports show, field by field, what the definition gives; what is
+-- given fixes both reports and every lent row; and of the lent rows their lengths alone fix the reports, what is written and the scratch rows. Assumes
+-- nothing.
+use mathlib.Core.Path.{_≡_}
+use Rattle.exports.specs.Determine.{EqualReports}
+use Rattle.exports.specs.Calls.BothEditions.{EditionsIs, EditionsShow, EditionsAlike, editionsAfter}
+use Rattle.exports.proofs.Calls.BothEditions.{EditionsCall, editionsGiven, editionsLeft}
+use Rattle.exports.proofs.Laws.BothEditions as Laws
 use Rattle.exports.proofs.both_editions.fontcrunch_editions.Reads as editions
+
+-- ---- fontcrunch_editions
 
 pub editions-asks-nothing : (κs : _) (a : _) → editions.Pre κs a
 editions-asks-nothing κs a = tt
 
-pub editions-says : (κs κs' xs ys fs pena penb whole closed s s' b b' a a' l l' p p' x x' y y' f f' a₂ a₂' l₂ l₂' p₂ p₂' x₂ x₂' y₂ y₂' f₂ f₂' r r' z z' : _) →
-    editions.Post κs (xs, (ys, (fs, (pena, (penb, (whole, (closed, (s, (b, (a, (l, (p, (x, (y, (f, (a₂, (l₂, (p₂, (x₂, (y₂, (f₂, tt))))))))))))))))))))) r z →
-    editions.Post κs' (xs, (ys, (fs, (pena, (penb, (whole, (closed, (s', (b', (a', (l', (p', (x', (y', (f', (a₂', (l₂', (p₂', (x₂', (y₂', (f₂', tt))))))))))))))))))))) r' z' →
-    let t : LentRows = record {
-      entry = record {
-        samples = s .now;
-        breaks = b .now;
-        own-a = record { answers = a .now; links = l .now; points = p .now; outs = outputs (x .now) (y .now) (f .now) };
-        own-b = record { answers = a₂ .now; links = l₂ .now; points = p₂ .now; outs = outputs (x₂ .now) (y₂ .now) (f₂ .now) };
-      };
-      exit = record {
-        samples = z .1 .1 .1 .1 .1 .1 .1 .0 .now;
-        breaks = z .1 .1 .1 .1 .1 .1 .1 .1 .0 .now;
-        own-a = record { answers = z .1 .1 .1 .1 .1 .1 .1 .1 .1 .0 .now; links = z .1 .1 .1 .1 .1 .1 .1 .1 .1 .1 .0 .now; points = z .1 .1 .1 .1 .1 .1 .1 .1 .1 .1 .1 .0 .now; outs = outputs (z .1 .1 .1 .1 .1 .1 .1 .1 .1 .1 .1 .1 .0 .now) (z .1 .1 .1 .1 .1 .1 .1 .1 .1 .1 .1 .1 .1 .0 .now) (z .1 .1 .1 .1 .1 .1 .1 .1 .1 .1 .1 .1 .1 .1 .0 .now) };
-        own-b = record { answers = z .1 .1 .1 .1 .1 .1 .1 .1 .1 .1 .1 .1 .1 .1 .1 .0 .now; links = z .1 .1 .1 .1 .1 .1 .1 .1 .1 .1 .1 .1 .1 .1 .1 .1 .0 .now; points = z .1 .1 .1 .1 .1 .1 .1 .1 .1 .1 .1 .1 .1 .1 .1 .1 .1 .0 .now; outs = outputs (z .1 .1 .1 .1 .1 .1 .1 .1 .1 .1 .1 .1 .1 .1 .1 .1 .1 .1 .0 .now) (z .1 .1 .1 .1 .1 .1 .1 .1 .1 .1 .1 .1 .1 .1 .1 .1 .1 .1 .1 .0 .now) (z .1 .1 .1 .1 .1 .1 .1 .1 .1 .1 .1 .1 .1 .1 .1 .1 .1 .1 .1 .1 .0 .now) };
-      };
-    } in
-    let t' : LentRows = record {
-      entry = record {
-        samples = s' .now;
-        breaks = b' .now;
-        own-a = record { answers = a' .now; links = l' .now; points = p' .now; outs = outputs (x' .now) (y' .now) (f' .now) };
-        own-b = record { answers = a₂' .now; links = l₂' .now; points = p₂' .now; outs = outputs (x₂' .now) (y₂' .now) (f₂' .now) };
-      };
-      exit = record {
-        samples = z' .1 .1 .1 .1 .1 .1 .1 .0 .now;
-        breaks = z' .1 .1 .1 .1 .1 .1 .1 .1 .0 .now;
-        own-a = record { answers = z' .1 .1 .1 .1 .1 .1 .1 .1 .1 .0 .now; links = z' .1 .1 .1 .1 .1 .1 .1 .1 .1 .1 .0 .now; points = z' .1 .1 .1 .1 .1 .1 .1 .1 .1 .1 .1 .0 .now; outs = outputs (z' .1 .1 .1 .1 .1 .1 .1 .1 .1 .1 .1 .1 .0 .now) (z' .1 .1 .1 .1 .1 .1 .1 .1 .1 .1 .1 .1 .1 .0 .now) (z' .1 .1 .1 .1 .1 .1 .1 .1 .1 .1 .1 .1 .1 .1 .0 .now) };
-        own-b = record { answers = z' .1 .1 .1 .1 .1 .1 .1 .1 .1 .1 .1 .1 .1 .1 .1 .0 .now; links = z' .1 .1 .1 .1 .1 .1 .1 .1 .1 .1 .1 .1 .1 .1 .1 .1 .0 .now; points = z' .1 .1 .1 .1 .1 .1 .1 .1 .1 .1 .1 .1 .1 .1 .1 .1 .1 .0 .now; outs = outputs (z' .1 .1 .1 .1 .1 .1 .1 .1 .1 .1 .1 .1 .1 .1 .1 .1 .1 .1 .0 .now) (z' .1 .1 .1 .1 .1 .1 .1 .1 .1 .1 .1 .1 .1 .1 .1 .1 .1 .1 .1 .0 .now) (z' .1 .1 .1 .1 .1 .1 .1 .1 .1 .1 .1 .1 .1 .1 .1 .1 .1 .1 .1 .1 .0 .now) };
-      };
-    } in
-    AlikeBoth (t .entry) (t' .entry) → EqualReports r r' (t .exit) (t' .exit)
-editions-says κs κs' xs ys fs pena penb whole closed s s' b b' a a' l l' p p' x x' y y' f f' a₂ a₂' l₂ l₂' p₂ p₂' x₂ x₂' y₂ y₂' f₂ f₂' r r' z z' h h' alike = editions-equal-orders alike h h'
+pub editions-is : (c : EditionsCall) → EditionsIs (editionsGiven c) (editionsLeft c)
+editions-is c = record { shown = c .said }
+
+pub editions-show : (c : EditionsCall) → EditionsShow (editionsGiven c) (c .r)
+editions-show c = Laws.editions-show (editions-is c)
+
+pub editions-leaves : (c c' : EditionsCall) → editionsGiven c ≡ editionsGiven c' → editionsLeft c ≡ editionsLeft c'
+editions-leaves c c' e = Laws.editions-left (editions-is c) (editions-is c') e
+
+pub editions-says : (c c' : EditionsCall) → EditionsAlike (editionsGiven c) (editionsGiven c') →
+    EqualReports (c .r) (c' .r) (editionsAfter (editionsLeft c)) (editionsAfter (editionsLeft c'))
+editions-says c c' e = Laws.editions-equal (editions-is c) (editions-is c') e

@@ -1,89 +1,60 @@
--- The contracts of the exports, as the check reads them off src/glif.rt: nothing is asked of a caller; and what is promised fixes the report and
--- every lent row, of what is read, of the settings and of the lengths of the rows alone. Assumes nothing.
-use Prim.Native.Nat.{ℕ}
-use mathlib.Core.List.{List}
+-- The contracts of the exports, as the check reads them off src/glif.rt, of any call (proofs/Calls), its rows and numbers by name (specs/Calls): nothing is
+-- asked of a caller; each contract IS the entry's promise for what the caller gave; what is given fixes the report and every lent row; and of the lent rows
+-- their lengths alone fix the report and what is written. Assumes nothing.
 use mathlib.Core.Path.{_≡_}
-use denote.Triple.Both.{Both}
-use lib.ListN.{length}
-use Rattle.rows.specs.Rows.{work}
-use Rattle.glifread.specs.Enter.{rows, filled}
-use Rattle.glifread.specs.Reads.{Kept, kept, roomsOf}
-use Rattle.glifwrite.specs.Writes.{given}
-use Rattle.glifs.specs.Entry as Entry
 use Rattle.glifread.specs.Determine as Reading
 use Rattle.glifwrite.specs.Determine as Writing
 use Rattle.glifs.specs.Determine as Crunching
+use Rattle.exports.specs.Calls.Glif.{ReadGlifIs, ReadGlifAlike, readGlifRows}
+use Rattle.exports.specs.Calls.Glif.{WriteGlifIs, WriteGlifAlike, writeGlifRows, writeGlifRow}
+use Rattle.exports.specs.Calls.Glif.{CrunchGlifIs, CrunchGlifAlike, crunchGlifRows}
+use Rattle.exports.proofs.Calls.Glif.{ReadGlifCall, readGlifGiven, readGlifLeft, WriteGlifCall, writeGlifGiven, writeGlifLeft, CrunchGlifCall, crunchGlifGiven, crunchGlifLeft}
+use Rattle.exports.proofs.Laws.Glif as Laws
 use Rattle.exports.proofs.glif.fontcrunch_read_glif.Reads as read
 use Rattle.exports.proofs.glif.fontcrunch_write_glif.Reads as write
 use Rattle.exports.proofs.glif.fontcrunch_crunch_glif.Reads as crunch
 
--- ---- read
+-- ---- fontcrunch_read_glif
 
 pub read-asks-nothing : (κs : _) (a : _) → read.Pre κs a
 read-asks-nothing κs a = tt
 
-pub read-says : (κs κs' bytes e e' x x' y y' f f' p p' r r' z z' : _) →
-    read.Post κs (bytes, (e, (x, (y, (f, (p, tt)))))) r z → read.Post κs' (bytes, (e', (x', (y', (f', (p', tt)))))) r' z' →
-    let w : Both Kept Kept = record {
-      entry = kept (filled (e .now) (rows (x .now) (y .now) (f .now))) (p .now);
-      exit = kept (filled (z .1 .0 .now) (rows (z .1 .1 .0 .now) (z .1 .1 .1 .0 .now) (z .1 .1 .1 .1 .0 .now))) (z .1 .1 .1 .1 .1 .0 .now);
-    } in
-    let w' : Both Kept Kept = record {
-      entry = kept (filled (e' .now) (rows (x' .now) (y' .now) (f' .now))) (p' .now);
-      exit = kept (filled (z' .1 .0 .now) (rows (z' .1 .1 .0 .now) (z' .1 .1 .1 .0 .now) (z' .1 .1 .1 .1 .0 .now))) (z' .1 .1 .1 .1 .1 .0 .now);
-    } in
-    roomsOf (w .entry) ≡ roomsOf (w' .entry) → Reading.Alike r r' w w'
-read-says κs κs' bytes e e' x x' y y' f f' p p' r r' z z' s s' same = Reading.equal-orders same s s'
+pub read-is : (c : ReadGlifCall) → ReadGlifIs (readGlifGiven c) (readGlifLeft c)
+read-is c = record { promise = c .said }
 
--- ---- written
+pub read-leaves : (c c' : ReadGlifCall) → readGlifGiven c ≡ readGlifGiven c' → readGlifLeft c ≡ readGlifLeft c'
+read-leaves c c' e = Laws.read-left (read-is c) (read-is c') e
+
+pub read-says : (c c' : ReadGlifCall) → ReadGlifAlike (readGlifGiven c) (readGlifGiven c') →
+    Reading.Alike (c .r) (c' .r) (readGlifRows (readGlifGiven c) (readGlifLeft c)) (readGlifRows (readGlifGiven c') (readGlifLeft c'))
+read-says c c' e = Laws.read-equal (read-is c) (read-is c') e
+
+-- ---- fontcrunch_write_glif
 
 pub write-asks-nothing : (κs : _) (a : _) → write.Pre κs a
 write-asks-nothing κs a = tt
 
-pub write-says : (κs κs' bytes e x y f o o' r r' z z' : _) →
-    write.Post κs (bytes, (e, (x, (y, (f, (o, tt)))))) r z → write.Post κs' (bytes, (e, (x, (y, (f, (o', tt)))))) r' z' →
-    let w : Both (List ℕ) (List ℕ) = record { entry = o .now; exit = z .1 .1 .1 .1 .1 .0 .now } in
-    let w' : Both (List ℕ) (List ℕ) = record { entry = o' .now; exit = z' .1 .1 .1 .1 .1 .0 .now } in
-    length (w .entry) ≡ length (w' .entry) → Writing.Alike (bytes .now) (given (e .now) (x .now) (y .now) (f .now)) r r' w w'
-write-says κs κs' bytes e x y f o o' r r' z z' s s' same = Writing.equal-orders same s s'
+pub write-is : (c : WriteGlifCall) → WriteGlifIs (writeGlifGiven c) (writeGlifLeft c)
+write-is c = record { promise = c .said }
 
--- ---- crunched
+pub write-leaves : (c c' : WriteGlifCall) → writeGlifGiven c ≡ writeGlifGiven c' → writeGlifLeft c ≡ writeGlifLeft c'
+write-leaves c c' e = Laws.write-left (write-is c) (write-is c') e
+
+pub write-says : (c c' : WriteGlifCall) → WriteGlifAlike (writeGlifGiven c) (writeGlifGiven c') →
+    Writing.Alike (writeGlifGiven c .bytes) (writeGlifRows (writeGlifGiven c)) (c .r) (c' .r) (writeGlifRow (writeGlifGiven c) (writeGlifLeft c)) (writeGlifRow (writeGlifGiven c') (writeGlifLeft c'))
+write-says c c' e = Laws.write-equal (write-is c) (write-is c') e
+
+-- ---- fontcrunch_crunch_glif
 
 pub crunch-asks-nothing : (κs : _) (a : _) → crunch.Pre κs a
 crunch-asks-nothing κs a = tt
 
-pub crunch-says : (κs κs' bytes penalty whole closed o o' e e' x x' y y' f f' m m' s s' b b' a a' l l' p p' r r' z z' : _) →
-    crunch.Post κs (bytes, (penalty, (whole, (closed, (o, (e, (x, (y, (f, (m, (s, (b, (a, (l, (p, tt))))))))))))))) r z →
-    crunch.Post κs' (bytes, (penalty, (whole, (closed, (o', (e', (x', (y', (f', (m', (s', (b', (a', (l', (p', tt))))))))))))))) r' z' →
-    let t : Entry.LentRows = record {
-      entry = record {
-        out = o .now;
-        read = kept (filled (e .now) (rows (x .now) (y .now) (f .now))) (m .now);
-        work = work (s .now) (b .now) (a .now) (l .now);
-        points = p .now;
-      };
-      exit = record {
-        out = z .1 .1 .1 .1 .0 .now;
-        read = kept (filled (z .1 .1 .1 .1 .1 .0 .now) (rows (z .1 .1 .1 .1 .1 .1 .0 .now) (z .1 .1 .1 .1 .1 .1 .1 .0 .now) (z .1 .1 .1 .1 .1 .1 .1 .1 .0 .now))) (z .1 .1 .1 .1 .1 .1 .1 .1 .1 .0 .now);
-        work = work (z .1 .1 .1 .1 .1 .1 .1 .1 .1 .1 .0 .now) (z .1 .1 .1 .1 .1 .1 .1 .1 .1 .1 .1 .0 .now) (z .1 .1 .1 .1 .1 .1 .1 .1 .1 .1 .1 .1 .0 .now)
-            (z .1 .1 .1 .1 .1 .1 .1 .1 .1 .1 .1 .1 .1 .0 .now);
-        points = z .1 .1 .1 .1 .1 .1 .1 .1 .1 .1 .1 .1 .1 .1 .0 .now;
-      };
-    } in
-    let t' : Entry.LentRows = record {
-      entry = record {
-        out = o' .now;
-        read = kept (filled (e' .now) (rows (x' .now) (y' .now) (f' .now))) (m' .now);
-        work = work (s' .now) (b' .now) (a' .now) (l' .now);
-        points = p' .now;
-      };
-      exit = record {
-        out = z' .1 .1 .1 .1 .0 .now;
-        read = kept (filled (z' .1 .1 .1 .1 .1 .0 .now) (rows (z' .1 .1 .1 .1 .1 .1 .0 .now) (z' .1 .1 .1 .1 .1 .1 .1 .0 .now) (z' .1 .1 .1 .1 .1 .1 .1 .1 .0 .now))) (z' .1 .1 .1 .1 .1 .1 .1 .1 .1 .0 .now);
-        work = work (z' .1 .1 .1 .1 .1 .1 .1 .1 .1 .1 .0 .now) (z' .1 .1 .1 .1 .1 .1 .1 .1 .1 .1 .1 .0 .now) (z' .1 .1 .1 .1 .1 .1 .1 .1 .1 .1 .1 .1 .0 .now)
-            (z' .1 .1 .1 .1 .1 .1 .1 .1 .1 .1 .1 .1 .1 .0 .now);
-        points = z' .1 .1 .1 .1 .1 .1 .1 .1 .1 .1 .1 .1 .1 .1 .0 .now;
-      };
-    } in
-    Entry.roomsOf (t .entry) ≡ Entry.roomsOf (t' .entry) → Crunching.Alike (bytes .now) r r' t t'
-crunch-says κs κs' bytes penalty whole closed o o' e e' x x' y y' f f' m m' s s' b b' a a' l l' p p' r r' z z' h h' rooms = Crunching.equal-orders rooms h h'
+pub crunch-is : (c : CrunchGlifCall) → CrunchGlifIs (crunchGlifGiven c) (crunchGlifLeft c)
+crunch-is c = record { promise = c .said }
+
+pub crunch-leaves : (c c' : CrunchGlifCall) → crunchGlifGiven c ≡ crunchGlifGiven c' → crunchGlifLeft c ≡ crunchGlifLeft c'
+crunch-leaves c c' e = Laws.crunch-left (crunch-is c) (crunch-is c') e
+
+pub crunch-says : (c c' : CrunchGlifCall) → CrunchGlifAlike (crunchGlifGiven c) (crunchGlifGiven c') →
+    Crunching.Alike (crunchGlifGiven c .bytes) (c .r) (c' .r) (crunchGlifRows (crunchGlifGiven c) (crunchGlifLeft c)) (crunchGlifRows (crunchGlifGiven c') (crunchGlifLeft c'))
+crunch-says c c' e = Laws.crunch-equal (crunch-is c) (crunch-is c') e

@@ -1,29 +1,27 @@
--- The contract of the export, as the check reads it off src/written_out.rt: nothing is asked of a caller; and what is promised fixes the report and
--- what is written, of the contour and of the lengths of the rows alone, and every lent row, of what it held. Assumes nothing.
+-- The contract of the export, as the check reads it off src/written_out.rt, of any call (proofs/Calls), its rows and numbers by name (specs/Calls): nothing
+-- is asked of a caller; the contract IS the entry's promise for what the caller gave; the report shows, field by field, what the definition gives; what is
+-- given fixes the report and every lent row; and of the lent rows their lengths alone fix the report and what is written. Assumes nothing.
 use mathlib.Core.Path.{_≡_}
-use Rattle.contour.specs.Output.{outputs}
-use Rattle.explicit.specs.Determine.{Same, placesOf, firstOf}
-use Rattle.exports.specs.Determine.{explicit-equal-orders, explicit-determined}
+use Rattle.explicit.specs.Determine.{Same}
+use Rattle.exports.specs.Calls.WrittenOut.{ExplicitIs, ExplicitShows, ExplicitAlike, explicitDefined, explicitWritten}
+use Rattle.exports.proofs.Calls.WrittenOut.{ExplicitCall, explicitGiven, explicitLeft}
+use Rattle.exports.proofs.Laws.WrittenOut as Laws
 use Rattle.exports.proofs.written_out.fontcrunch_explicit.Reads as explicit
+
+-- ---- fontcrunch_explicit
 
 pub explicit-asks-nothing : (κs : _) (a : _) → explicit.Pre κs a
 explicit-asks-nothing κs a = tt
 
-pub explicit-says : (κs κs' xs ys flags ox ox' oy oy' of of' r r' x x' : _) →
-    (s : explicit.Post κs (xs, (ys, (flags, (ox, (oy, (of, tt)))))) r x) →
-    (s' : explicit.Post κs' (xs, (ys, (flags, (ox', (oy', (of', tt)))))) r' x') →
-    placesOf (outputs (ox .now) (oy .now) (of .now)) ≡ placesOf (outputs (ox' .now) (oy' .now) (of' .now)) →
-    let w = x .1 .1 .1 in
-    let w' = x' .1 .1 .1 in
-    Same r r' (firstOf (s .answer) (outputs (w .0 .now) (w .1 .0 .now) (w .1 .1 .0 .now)))
-    (firstOf (s' .answer) (outputs (w' .0 .now) (w' .1 .0 .now) (w' .1 .1 .0 .now)))
-explicit-says κs κs' xs ys flags ox ox' oy oy' of of' r r' x x' s s' places = explicit-equal-orders places s s'
+pub explicit-is : (c : ExplicitCall) → ExplicitIs (explicitGiven c) (explicitLeft c)
+explicit-is c = record { shown = c .said }
 
-pub explicit-leaves : (κs κs' xs ys flags ox ox' oy oy' of of' r r' x x' : _) →
-    explicit.Post κs (xs, (ys, (flags, (ox, (oy, (of, tt)))))) r x →
-    explicit.Post κs' (xs, (ys, (flags, (ox', (oy', (of', tt)))))) r' x' →
-    outputs (ox .now) (oy .now) (of .now) ≡ outputs (ox' .now) (oy' .now) (of' .now) →
-    let w = x .1 .1 .1 in
-    let w' = x' .1 .1 .1 in
-    Same r r' (outputs (w .0 .now) (w .1 .0 .now) (w .1 .1 .0 .now)) (outputs (w' .0 .now) (w' .1 .0 .now) (w' .1 .1 .0 .now))
-explicit-leaves κs κs' xs ys flags ox ox' oy oy' of of' r r' x x' s s' rows = explicit-determined rows s s'
+pub explicit-shows : (c : ExplicitCall) → ExplicitShows (explicitDefined (explicitGiven c)) (c .r)
+explicit-shows c = Laws.explicit-shows (explicit-is c)
+
+pub explicit-leaves : (c c' : ExplicitCall) → explicitGiven c ≡ explicitGiven c' → explicitLeft c ≡ explicitLeft c'
+explicit-leaves c c' e = Laws.explicit-left (explicit-is c) (explicit-is c') e
+
+pub explicit-says : (c c' : ExplicitCall) → ExplicitAlike (explicitGiven c) (explicitGiven c') →
+    Same (c .r) (c' .r) (explicitWritten (explicitLeft c)) (explicitWritten (explicitLeft c'))
+explicit-says c c' e = Laws.explicit-equal (explicit-is c) (explicit-is c') e

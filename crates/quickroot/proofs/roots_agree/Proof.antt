@@ -1,4 +1,4 @@
--- `quickroot::roots_agree` meets its contract: both roots are the definition's. Assumes nothing.
+-- `quickroot::roots_agree` meets its contract: all roots are the definition's. Assumes nothing.
 use mathlib.Core.Path.{sym, ap, _∙_}
 use lib.Ieee.{binary64, toBits}
 use Rattle.quickroot.proofs.roots_agree.Statement.{statement}
@@ -16,11 +16,21 @@ root-requires-2 c κs = tt
 bits-requires-2 : tie.Need-bits-requires-2
 bits-requires-2 c κs = tt
 
+root-by-requires : tie.Need-root-by-requires
+root-by-requires c κs = tt
+
+bits-requires-3 : tie.Need-bits-requires-3
+bits-requires-3 c κs = tt
+
 returns : tie.Need-returns
 returns c =
-    let stepped = c .before .before .bits .ensures ∙ ap (toBits binary64) (c .before .before .before .root .ensures) in
-    let quick = c .bits2 .ensures ∙ ap (toBits binary64) (c .before .root2 .ensures) in
-    (stepped ∙ sym quick, quick)
+    let second = c .before .before in
+    let first = second .before .before in
+    let stepped = first .bits .ensures ∙ ap (toBits binary64) (first .before .root .ensures) in
+    let quick = second .bits2 .ensures ∙ ap (toBits binary64) (second .before .root2 .ensures) in
+    let guessed = c .bits3 .ensures ∙ ap (toBits binary64) (c .before .root-by .ensures) in
+    (stepped ∙ sym quick, stepped ∙ sym guessed, stepped)
 
 pub roots-agree-spec : {M : Type 1} → statement M
-roots-agree-spec = tie.close (tie.spec root-requires bits-requires root-requires-2 bits-requires-2 returns)
+roots-agree-spec =
+    tie.close (tie.spec root-requires bits-requires root-requires-2 bits-requires-2 root-by-requires bits-requires-3 returns)

@@ -15,17 +15,11 @@ abbrev μ-loop : tie.MeasureT-loop
 new-requires : tie.Need-new-requires Inv-loop μ-loop
 new-requires c κs = tt
 
-still-requires : tie.Need-still-requires Inv-loop μ-loop
-still-requires c κs = tt
-
-pace-requires : tie.Need-pace-requires Inv-loop μ-loop
-pace-requires c κs = c .still .ensures
-
 loop-holds : tie.Need-loop-holds Inv-loop μ-loop
-loop-holds c = record { pace = c .pace .ensures; len = refl }
+loop-holds c = record { len = refl }
 
 rk4-requires : tie.Need-rk4-requires Inv-loop μ-loop
-rk4-requires c κs = c .before .loop .inv .pace
+rk4-requires c κs = tt
 
 add-k : tie.Need-add-k Inv-loop μ-loop
 add-k c = omega arith
@@ -37,7 +31,7 @@ loop-again : tie.Need-loop-again Inv-loop μ-loop
 loop-again c = steps (c .before .before .loop .inv) (c .before .loop-test .taken) (c .rk4 .ensures)
 
 returns : tie.Need-returns Inv-loop μ-loop
-returns c = stepped (c .before .loop .inv) (c .before .before .before .before .before .args .q) (c .loop-test .left) (c .before .before .before .before .new .ensures)
+returns c = stepped (c .before .loop .inv) (c .before .before .before .args .q) (c .loop-test .left) (c .before .before .new .ensures)
 
 pub length-after-spec : {M : Type 1} → statement M
 length-after-spec =
@@ -46,8 +40,6 @@ length-after-spec =
     Inv-loop
     μ-loop
     new-requires
-    still-requires
-    pace-requires
     loop-holds
     rk4-requires
     add-k

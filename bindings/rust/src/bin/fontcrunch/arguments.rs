@@ -1,17 +1,22 @@
 //! What the command line asks for.
 
+mod drawing;
 mod help;
+mod more;
 mod settings;
 
 use std::ffi::{OsStr, OsString};
 use std::path::PathBuf;
 
-use fontcrunch::{Settings, CRATE_PENALTY, DEFAULT_PENALTY};
+use fontcrunch::{Settings, DEFAULT_PENALTY};
 
 use crate::fallen::Fallen;
 use crate::{chain_line, contour_line, glif, glyph};
 
+pub use drawing::Drawing;
 pub use help::{help, version};
+use more::MoreChosen;
+pub use more::{FilesJob, More};
 use settings::Chosen;
 
 #[derive(Debug, PartialEq, Eq)]
@@ -20,8 +25,14 @@ pub enum Request {
     Help(Option<Tool>),
     Version,
     Crunch(Job),
-    /// One file of UFO's GLIF, crunched as it stands.
-    File(Settings, PathBuf),
+    /// One file of UFO's GLIF, crunched to standard output.
+    File(Settings, More, PathBuf),
+    /// Files of UFO's GLIF, each crunched to a file.
+    Files(FilesJob),
+    /// A whole UFO.
+    Ufo(FilesJob),
+    /// One such file, and a page of it.
+    FilePage(Job, PathBuf),
 }
 
 /// What to do with contours, at which settings, what answers tell besides, by how many threads, and where to draw
@@ -31,9 +42,12 @@ pub struct Job {
     pub tool: Tool,
     pub settings: Settings,
     pub fallen: Fallen,
+    pub more: More,
     pub jobs: usize,
     pub inputs: Vec<Input>,
-    pub picture: Option<PathBuf>,
+    pub drawing: Drawing,
+    /// Where it is not, whoever asks is told which one holds.
+    pub penalty_given: bool,
 }
 
 /// What is done with each contour. A first word that names a tool asks for it; without one, contours are crunched.
@@ -41,7 +55,12 @@ pub struct Job {
 pub enum Tool {
     #[default]
     Crunch,
+    Trace,
     Clean {
+        /// and then crunch
+        crunch: bool,
+    },
+    Idle {
         /// and then crunch
         crunch: bool,
     },
@@ -73,6 +92,7 @@ pub enum Tool {
     Glif {
         step: Step,
     },
+    Ufo,
     Editions {
         /// of the second edition; the first has that of the settings
         penalty: u32,
@@ -102,7 +122,9 @@ impl Tool {
     fn named(word: &OsStr) -> Option<Tool> {
         match word.to_str() {
             Some("crunch") => Some(Tool::Crunch),
+            Some("trace") => Some(Tool::Trace),
             Some("clean") => Some(Tool::Clean { crunch: false }),
+            Some("idle") => Some(Tool::Idle { crunch: false }),
             Some("cubic") => Some(Tool::Cubic { crunch: false }),
             Some("explicit") => Some(Tool::Explicit { crunch: false }),
             Some("why") => Some(Tool::Why { index: false }),
@@ -110,6 +132,7 @@ impl Tool {
             Some("check") => Some(Tool::Check { run: 0 }),
             Some("glyph") => Some(Tool::Glyph { step: Step::Read, explicit: false }),
             Some("glif") => Some(Tool::Glif { step: Step::Read }),
+            Some("ufo") => Some(Tool::Ufo),
             Some("editions") => Some(Tool::Editions { penalty: 0 }),
             _ => None,
         }
@@ -118,8 +141,12 @@ impl Tool {
     /// Whether runs are worked, so that settings mean something.
     fn works_runs(self) -> bool {
         match self {
-            Tool::Crunch | Tool::Chain { .. } | Tool::Check { .. } | Tool::Editions { .. } => true,
-            Tool::Clean { crunch } | Tool::Cubic { crunch } | Tool::Explicit { crunch } => crunch,
+            Tool::Crunch | Tool::Trace | Tool::Ufo => true,
+            Tool::Chain { .. } | Tool::Check { .. } | Tool::Editions { .. } => true,
+            Tool::Clean { crunch }
+            | Tool::Idle { crunch }
+            | Tool::Cubic { crunch }
+            | Tool::Explicit { crunch } => crunch,
             Tool::Glyph { step, .. } | Tool::Glif { step } => step == Step::Crunch,
             Tool::Why { .. } => false,
         }
@@ -131,6 +158,7 @@ impl Tool {
             Tool::Chain { .. } | Tool::Check { .. } => Some(NEEDS_RUN),
             Tool::Glyph { .. } => Some(NEEDS_STEP),
             Tool::Glif { .. } => Some(NEEDS_GLIF),
+            Tool::Ufo => Some(NEEDS_UFO),
             Tool::Editions { .. } => Some(NEEDS_PENALTIES),
             _ => None,
         }
@@ -156,12 +184,26 @@ pub enum Input {
 /// A request, or what is wrong with the words and where to read on.
 pub fn read(words: impl IntoIterator<Item = OsString>) -> Result<Request, String> {
     let mut words = words.into_iter().peekable();
+    if words.next_if(|word| word == "help").is_some() {
+        return help_for(words);
+    }
     let named = words.peek().and_then(|word| Tool::named(word));
     let page = match named {
         Some(_) => format!(" {}", words.next().unwrap_or_default().to_string_lossy()),
         None => String::new(),
     };
     read_for(named, words).map_err(|wrong| format!("{wrong}; see fontcrunch{page} --help"))
+}
+
+/// What `fontcrunch help` and `fontcrunch help TOOL` ask for.
+fn help_for(mut words: impl Iterator<Item = OsString>) -> Result<Request, String> {
+    let Some(word) = words.next() else {
+        return Ok(Request::Help(None));
+    };
+    match (Tool::named(&word), words.next()) {
+        (Some(tool), None) => Ok(Request::Help(Some(tool))),
+        _ => Err("help is followed by the name of a tool, or by nothing; see fontcrunch --help".to_owned()),
+    }
 }
 
 /// The request of the words after the tool's name.
@@ -190,7 +232,9 @@ const NEEDS_RUN: &str = "chain and check need the number of a run before any fil
 const NEEDS_STEP: &str = "glyph needs read, write or crunch before any file, as in: glyph read";
 
 const NEEDS_GLIF: &str =
-    "glif needs one file of GLIF, or read, write or crunch before any file of lines, as in: glif A.glif, glif read";
+    "glif needs one file of GLIF, or files and -o DIR, or read, write or crunch before any file of lines, as in: glif A.glif, glif read";
+
+const NEEDS_UFO: &str = "ufo needs one folder, and -o OUT or --in-place, as in: ufo IN.ufo -o OUT.ufo";
 
 const EXPLICIT_IS_FOR: &str = "--explicit is an option of glyph crunch";
 
@@ -204,9 +248,10 @@ struct Asked {
     whole_file: bool,
     settings: Chosen,
     fallen: Fallen,
+    more: MoreChosen,
     jobs: Option<u32>,
     inputs: Vec<Input>,
-    picture: Option<PathBuf>,
+    drawing: Drawing,
 }
 
 impl Asked {
@@ -259,11 +304,16 @@ impl Asked {
         word: &OsStr,
         words: &mut impl Iterator<Item = OsString>,
     ) -> Result<(), String> {
-        if self.take_second(word, words)? || self.settings.take(word, words)? {
+        let taken = self.take_second(word, words)? || self.settings.take(word, words)?;
+        if taken || self.more.take(word, words)? {
+            return Ok(());
+        }
+        if self.drawing.take(self.tool, word, words)? {
             return Ok(());
         }
         match parted(word) {
-            ("--svg", value) => self.draw_to(value.or_else(|| words.next())),
+            ("-j", value) => self.by_jobs(value.or_else(|| words.next())),
+            (short, None) if joined_jobs(short).is_some() => self.by_jobs(joined_jobs(short)),
             ("--jobs", value) => self.by_jobs(value.or_else(|| words.next())),
             ("--crunch", None) => self.then_crunch(),
             ("--explicit", None) => self.made_explicit(),
@@ -276,8 +326,11 @@ impl Asked {
 
     fn then_crunch(&mut self) -> Result<(), String> {
         match &mut self.tool {
-            Tool::Clean { crunch } | Tool::Cubic { crunch } | Tool::Explicit { crunch } => *crunch = true,
-            _ => return Err("--crunch is an option of clean, cubic and explicit".to_owned()),
+            Tool::Clean { crunch }
+            | Tool::Idle { crunch }
+            | Tool::Cubic { crunch }
+            | Tool::Explicit { crunch } => *crunch = true,
+            _ => return Err("--crunch is an option of clean, idle, cubic and explicit".to_owned()),
         }
         Ok(())
     }
@@ -316,14 +369,6 @@ impl Asked {
         }
     }
 
-    fn draw_to(&mut self, name: Option<OsString>) -> Result<(), String> {
-        if self.tool != Tool::Crunch {
-            return Err("--svg draws crunched contours alone".to_owned());
-        }
-        let name = name.filter(|name| !name.is_empty()).ok_or("--svg needs a file to write")?;
-        once("--svg", &mut self.picture, name.into())
-    }
-
     fn by_jobs(&mut self, number: Option<OsString>) -> Result<(), String> {
         let number = number.as_deref().and_then(whole_number).filter(|jobs| (1..=MOST_JOBS).contains(jobs));
         let jobs = number.ok_or_else(|| format!("--jobs needs a number of threads, 1 to {MOST_JOBS}"))?;
@@ -335,20 +380,58 @@ impl Asked {
         match self.settings.first_given() {
             None => Ok(()),
             Some(name) => Err(format!(
-                "{name} is for crunching: clean --crunch, cubic --crunch, explicit --crunch, glyph crunch, glif crunch"
+                "{name} is for crunching: clean --crunch, idle --crunch, cubic --crunch, explicit --crunch, glyph crunch, glif crunch"
             )),
         }
     }
 
-    fn request(self) -> Result<Request, String> {
-        let whole_file = self.whole_file;
-        let mut job = self.job()?;
+    fn request(mut self) -> Result<Request, String> {
+        let (tool, whole_file) = (self.tool, self.whole_file);
+        self.more.fit(tool, whole_file)?;
+        if let (Tool::Chain { segments, .. }, true) = (tool, self.more.more().with_contour) {
+            if segments || self.fallen.told {
+                return Err(
+                    "--with-contour gives lines for check, which reads no segments and no fallen".to_owned()
+                );
+            }
+        }
+        let files = tool == Tool::Ufo || whole_file && self.more.writes_files();
+        let more = std::mem::take(&mut self.more);
+        let mut job = Job { more: more.more(), ..self.job()? };
+        if files {
+            return Asked::files(job, more);
+        }
         if !whole_file {
             return Ok(Request::Crunch(job));
         }
         match (job.inputs.pop(), job.inputs.is_empty()) {
-            (Some(Input::File(name)), true) => Ok(Request::File(job.settings, name)),
+            (Some(Input::File(name)), true) if job.drawing.page.is_some() => Ok(Request::FilePage(job, name)),
+            (Some(Input::File(name)), true) => Ok(Request::File(job.settings, job.more, name)),
             _ => Err(NEEDS_GLIF.to_owned()),
+        }
+    }
+
+    /// Of whole files that go to files: either to a folder or in place.
+    fn files(job: Job, more: MoreChosen) -> Result<Request, String> {
+        let needs = if job.tool == Tool::Ufo { NEEDS_UFO } else { NEEDS_GLIF };
+        let path = |input| match input {
+            Input::File(path) => Ok(path),
+            Input::Standard => Err(needs.to_owned()),
+        };
+        let files = FilesJob {
+            recipe: more.recipe(job.settings),
+            quiet: job.more.quiet,
+            jobs: job.jobs,
+            inputs: job.inputs.into_iter().map(path).collect::<Result<_, String>>()?,
+            out: more.out,
+            report: more.report,
+        };
+        match (job.tool, files.out.is_some(), more.in_place) {
+            (_, true, true) => Err("-o and --in-place exclude each other".to_owned()),
+            (_, false, false) => Err(needs.to_owned()),
+            (Tool::Ufo, ..) if files.inputs.len() != 1 => Err(needs.to_owned()),
+            (Tool::Ufo, ..) => Ok(Request::Ufo(files)),
+            _ => Ok(Request::Files(files)),
         }
     }
 
@@ -365,12 +448,15 @@ impl Asked {
         if self.inputs.is_empty() {
             self.inputs.push(Input::Standard);
         }
-        // studios preview at the penalty of the Rust
-        let usual = if self.picture.is_some() { CRATE_PENALTY } else { DEFAULT_PENALTY };
+        self.drawing.fits(self.tool)?;
+        // the desk and the studios' preview rely on that of the Rust, and pass it by its name
+        let looked_at = self.drawing.is_asked() || self.tool == Tool::Trace;
+        let usual = if looked_at { Settings::of_crate().penalty } else { DEFAULT_PENALTY };
         let settings = self.settings.with_usual(usual);
+        let penalty_given = self.settings.has_penalty() || !looked_at;
         let jobs = self.jobs.unwrap_or(1) as usize;
-        let Asked { tool, fallen, inputs, picture, .. } = self;
-        Ok(Job { tool, settings, fallen, jobs, inputs, picture })
+        let Asked { tool, fallen, inputs, drawing, .. } = self;
+        Ok(Job { tool, settings, fallen, more: More::default(), jobs, inputs, drawing, penalty_given })
     }
 }
 
@@ -385,6 +471,11 @@ pub fn parted(word: &OsStr) -> (&str, Option<OsString>) {
 
 pub fn no_option(word: &OsStr) -> String {
     format!("there is no option {}", word.to_string_lossy())
+}
+
+/// The number in `-j4`.
+fn joined_jobs(word: &str) -> Option<OsString> {
+    word.strip_prefix("-j").filter(|rest| rest.starts_with(|c: char| c.is_ascii_digit())).map(OsString::from)
 }
 
 fn once<T>(name: &str, place: &mut Option<T>, value: T) -> Result<(), String> {

@@ -25,7 +25,7 @@ pub fn parse(line: &[u8], points: &mut Vec<Point>) -> Result<Chain, Malformed> {
     let score = double(words[0], 1)?;
     let pieces = words[1..].chunks_exact(4).zip(0..).map(|(four, i)| piece(four, 4 * i + 2));
     let pieces = pieces.collect::<Result<_, _>>()?;
-    Ok(Chain { pieces, score, pairs: 0, segments: Vec::new(), fallen: 0 })
+    Ok(Chain::new(pieces, score))
 }
 
 /// What stands before the bar and after it.

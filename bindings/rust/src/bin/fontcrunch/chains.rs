@@ -1,6 +1,8 @@
 //! The tool chain: the answer to a contour that is not refused.
 
-use fontcrunch::Chain;
+use fontcrunch::{Chain, Point};
+
+use crate::worker::points_text;
 
 /// All NaNs have one pattern on a line, since which of them comes is not fixed.
 const NAN_BITS: u64 = 0x7ff8_0000_0000_0000;
@@ -19,6 +21,19 @@ pub fn chain_text(chain: &Chain, segments: bool) -> String {
         }
     }
     text
+}
+
+/// The contour and its chain as the tool check reads them; None where there is no piece.
+pub fn check_line(points: &[Point], chain: &Chain) -> Option<String> {
+    if chain.pieces.is_empty() {
+        return None;
+    }
+    let mut text = format!("{} | {}", points_text(points).trim_start(), bits(chain.score));
+    for piece in &chain.pieces {
+        let (x, y) = piece.control;
+        text.push_str(&format!(" {} {} {} {}", piece.start, piece.end, bits(x), bits(y)));
+    }
+    Some(text)
 }
 
 fn bits(x: f64) -> String {

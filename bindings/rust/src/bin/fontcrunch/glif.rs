@@ -8,20 +8,29 @@ use std::path::Path;
 use fontcrunch::glif;
 use fontcrunch::{Cruncher, Point, Refusal, Settings};
 
-use crate::arguments::Step;
+use crate::arguments::{More, Step};
 use crate::contour_line::Malformed;
 use crate::glyph::{hex_of, number, of_hex};
+use crate::kinds;
+use crate::recipe::{Became, Recipe};
 use crate::service::{complain, Status};
 use crate::worker::points_text;
 
 /// A file of eight million bytes has room.
 pub const LONGEST_LINE: usize = 1 << 24;
 
-/// The answer to a line: a text, or a refusal.
+/// How files are crunched at these settings and words.
+pub fn recipe(settings: Settings, more: More) -> Recipe {
+    Recipe { settings, prepare: more.prepare, keep: more.keep, cubic: more.cubic }
+}
+
+/// The answer to a line: a text, or a refusal. What else is to be said of it is put into `notes`.
 pub fn answer(
     step: Step,
+    more: More,
     cruncher: &mut Cruncher,
     line: &[u8],
+    notes: &mut Vec<String>,
 ) -> Result<Result<String, Refusal>, Malformed> {
     if line.len() > LONGEST_LINE {
         return Err(Malformed::TooLong { most: LONGEST_LINE });
@@ -29,9 +38,28 @@ pub fn answer(
     let told = match step {
         Step::Read => glif::read(&of_digits(line)?).map(|contours| text_of(&contours)),
         Step::Write => write(line)?,
-        Step::Crunch => cruncher.crunch_glif(&of_digits(line)?).map(|bytes| hex_of(&bytes)),
+        Step::Crunch => crunch(recipe(cruncher.settings(), more), cruncher, &of_digits(line)?, notes),
     };
     Ok(told.map(|text| format!("ok {text}")))
+}
+
+fn crunch(
+    recipe: Recipe,
+    cruncher: &mut Cruncher,
+    bytes: &[u8],
+    notes: &mut Vec<String>,
+) -> Result<String, Refusal> {
+    match recipe.follow(cruncher, bytes) {
+        Became::Crunched { bytes: made, .. } => {
+            notes.append(&mut recipe.notes(cruncher, bytes, &made));
+            Ok(hex_of(&made))
+        }
+        Became::Kept { .. } => Ok(hex_of(bytes)),
+        Became::Refused { refusal, seen, .. } => {
+            notes.extend(seen.map(|seen| seen.of_line()));
+            Err(refusal)
+        }
+    }
 }
 
 fn write(line: &[u8]) -> Result<Result<String, Refusal>, Malformed> {
@@ -46,26 +74,51 @@ fn of_digits(text: &[u8]) -> Result<Vec<u8>, Malformed> {
 }
 
 /// A refusal writes nothing: what is shown is all of the new file.
-pub fn crunch_file(settings: Settings, path: &Path) -> Status {
-    let complain_of = |why: &str| complain(&format!("{}: {why}", path.display()));
+pub fn crunch_file(settings: Settings, more: More, path: &Path) -> Status {
+    let name = path.display().to_string();
+    if path.is_dir() {
+        complain(&format!("{name}: {}", kinds::of_folder(path)));
+        return Status::Wrong;
+    }
     let bytes = match fs::read(path) {
         Ok(bytes) => bytes,
-        Err(e) => {
-            complain_of(&e.to_string());
+        Err(error) => {
+            complain(&format!("{name}: {error}"));
             return Status::Wrong;
         }
     };
-    match Cruncher::new(settings).crunch_glif(&bytes) {
-        Ok(crunched) => match io::stdout().write_all(&crunched) {
-            Ok(()) => Status::AllCrunched,
-            Err(e) => {
-                complain(&e.to_string());
-                Status::Wrong
+    let recipe = recipe(settings, more);
+    let mut cruncher = recipe.cruncher();
+    match recipe.follow(&mut cruncher, &bytes) {
+        Became::Crunched { bytes: made, .. } => {
+            let notes = recipe.notes(&mut cruncher, &bytes, &made);
+            notes.iter().filter(|_| !more.quiet).for_each(|note| complain(&format!("{name}: {note}")));
+            shown(&made)
+        }
+        Became::Kept { .. } => shown(&bytes),
+        Became::Refused { refusal, seen, .. } => {
+            complain(&format!("{name}: {refusal}"));
+            let kind = if bytes.is_empty() { Some("is empty") } else { kinds::font(&bytes) };
+            match (kind, seen) {
+                (Some(kind), _) => complain(&format!("{name}: {kind}")),
+                (None, Some(seen)) => complain(&seen.of_file(&name)),
+                (None, None) => {}
             }
-        },
-        Err(refusal) => {
-            complain_of(&refusal.to_string());
             Status::SomeRefused
+        }
+    }
+}
+
+/// A reader that has seen enough needs no message.
+fn shown(bytes: &[u8]) -> Status {
+    let mut out = io::stdout().lock();
+    match out.write_all(bytes).and_then(|()| out.flush()) {
+        Ok(()) => Status::AllCrunched,
+        Err(error) => {
+            if error.kind() != io::ErrorKind::BrokenPipe {
+                complain(&format!("(standard output): {error}"));
+            }
+            Status::Wrong
         }
     }
 }

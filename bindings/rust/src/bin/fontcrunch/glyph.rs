@@ -6,19 +6,22 @@ use std::str::FromStr;
 use fontcrunch::glyph::{self, Glyph};
 use fontcrunch::{Cruncher, Point, Refusal};
 
-use crate::arguments::Step;
+use crate::arguments::{More, Step};
 use crate::contour_line::Malformed;
+use crate::look::{self, Hints};
+use crate::notes;
 
 /// The longest glyph as text has room: 65,536 points, 32,767 ends and 65,535 instruction bytes; and so has its
 /// description, with bytes to spare after it.
 pub const LONGEST_LINE: usize = 1 << 22;
 
-/// The answer to a line: a text, or a refusal.
+/// The answer to a line: a text, or a refusal. What else is to be said of it is put into `notes`.
 pub fn answer(
     step: Step,
-    explicit: bool,
+    how: How,
     cruncher: &mut Cruncher,
     line: &[u8],
+    notes: &mut Vec<String>,
 ) -> Result<Result<String, Refusal>, Malformed> {
     if line.len() > LONGEST_LINE {
         return Err(Malformed::TooLong { most: LONGEST_LINE });
@@ -27,11 +30,66 @@ pub fn answer(
         Step::Read => glyph::read(&of_hex(line).ok_or(Malformed::NoHex)?).map(|glyph| text_of(&glyph)),
         Step::Write => of_line(line).ok_or(Malformed::NoGlyph)?.to_bytes().map(|bytes| hex_of(&bytes)),
         Step::Crunch => {
-            let crunch = if explicit { Cruncher::crunch_glyph_explicit } else { Cruncher::crunch_glyph };
-            crunch(cruncher, &of_hex(line).ok_or(Malformed::NoHex)?).map(|bytes| hex_of(&bytes))
+            let bytes = of_hex(line).ok_or(Malformed::NoHex)?;
+            how.crunch(cruncher, &bytes, notes).map(|made| hex_of(&made))
         }
     };
     Ok(told.map(|text| format!("ok {text}")))
+}
+
+/// What is done with a description besides crunching it.
+#[derive(Clone, Copy)]
+pub struct How {
+    /// Implied points are written out before.
+    pub explicit: bool,
+    pub more: More,
+}
+
+impl How {
+    fn crunch(
+        self,
+        cruncher: &mut Cruncher,
+        bytes: &[u8],
+        notes: &mut Vec<String>,
+    ) -> Result<Vec<u8>, Refusal> {
+        let crunch = match (self.more.prepare, self.explicit) {
+            (true, _) => Cruncher::prepared_glyph,
+            (false, true) => Cruncher::crunch_glyph_explicit,
+            (false, false) => Cruncher::crunch_glyph,
+        };
+        let made = crunch(cruncher, bytes).inspect_err(|refusal| {
+            let hints = Hints { may_prepare: true, ..Hints::default() };
+            let seen = look::at_glyph(cruncher, bytes, *refusal, self.more.prepare, self.explicit, hints);
+            notes.extend(seen.map(|seen| seen.words()));
+        })?;
+        if self.more.keep && points_in(&made) >= points_in(bytes) {
+            return Ok(bytes.to_vec());
+        }
+        notes.append(&mut self.notes(cruncher, bytes, &made));
+        Ok(made)
+    }
+
+    fn notes(self, cruncher: &mut Cruncher, before: &[u8], after: &[u8]) -> Vec<String> {
+        let (Ok(before), Ok(after)) = (glyph::read(before), glyph::read(after)) else {
+            return Vec::new();
+        };
+        let ready = |points: &[Point]| match (self.more.prepare, self.explicit) {
+            (true, _) => fontcrunch::prepared(points),
+            (false, true) => fontcrunch::explicit(points),
+            (false, false) => Ok(points.to_vec()),
+        };
+        let pairs = before.contours().zip(after.contours()).enumerate();
+        let told = pairs.flat_map(|(k, (before, after))| {
+            let told = notes::of(cruncher, &ready(before).unwrap_or_default(), after);
+            told.into_iter().map(move |note| format!("contour {k}: {note}"))
+        });
+        told.collect()
+    }
+}
+
+/// As they stand in the description.
+fn points_in(bytes: &[u8]) -> usize {
+    glyph::read(bytes).map_or(0, |glyph| glyph.points.len())
 }
 
 fn text_of(glyph: &Glyph) -> String {

@@ -28,6 +28,7 @@ struct Task {
 enum Next {
     Answer(Source, Receiver<Answer>),
     Wrong(String),
+    Note(String),
 }
 
 pub fn run(job: &Job, mut outlet: Outlet<impl Write + Send>) -> Status {
@@ -71,6 +72,7 @@ fn write_in_order(outlet: &mut Outlet<impl Write>, nexts: Receiver<Next>) -> io:
     while let Some(next) = received(&nexts, outlet)? {
         match next {
             Next::Wrong(message) => outlet.wrong(&message),
+            Next::Note(message) => outlet.note(&message),
             Next::Answer(source, answer) => match received(&answer, outlet)? {
                 Some(answer) => outlet.take(&source, answer)?,
                 None => break,
@@ -114,6 +116,10 @@ impl Lane for Spread {
 
     fn wrong(&mut self, message: String) -> io::Result<()> {
         self.put(Next::Wrong(message))
+    }
+
+    fn note(&mut self, message: String) -> io::Result<()> {
+        self.put(Next::Note(message))
     }
 
     /// The writer does so whenever it has to wait.

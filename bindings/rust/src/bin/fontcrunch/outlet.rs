@@ -1,35 +1,49 @@
-//! Where answers go: standard output, standard error, the picture, and the exit status.
+//! Where answers go: standard output, standard error, pictures and pages, and the exit status.
 
 use std::io::{self, ErrorKind, Write};
 use std::path::Path;
 
-use fontcrunch::Settings;
-
+use crate::destination::Destination;
 use crate::inputs::Source;
-use crate::picture::{Picture, Sketch};
 use crate::service::{complain, Status};
+use crate::sketch::Sketch;
 use crate::worker::Answer;
+
+/// A file that contours are drawn to as they come.
+pub trait Canvas: Send {
+    fn add(&mut self, source: &Source, sketch: &Sketch) -> io::Result<()>;
+
+    fn finish(self: Box<Self>) -> io::Result<()>;
+}
 
 pub struct Outlet<W> {
     answers: W,
-    drawing: Option<Drawing>,
+    drawings: Vec<Drawing>,
+    /// Where a drawing goes to standard output, answers do not.
+    answers_shown: bool,
     status: Status,
 }
 
+/// A picture or a page under way.
 struct Drawing {
     name: String,
-    picture: Picture,
+    canvas: Box<dyn Canvas>,
+    goes: Destination,
 }
 
 impl<W: Write> Outlet<W> {
     pub fn new(answers: W) -> Outlet<W> {
-        Outlet { answers, drawing: None, status: Status::AllCrunched }
+        Outlet { answers, drawings: vec![], answers_shown: true, status: Status::AllCrunched }
     }
 
-    pub fn start_drawing(&mut self, path: &Path, settings: Settings) {
+    /// What is drawn on is created by the path of the file that is written.
+    pub fn start_drawing(&mut self, path: &Path, create: impl FnOnce(&Path) -> io::Result<Box<dyn Canvas>>) {
         let name = path.to_string_lossy().into_owned();
-        match Picture::create(path, settings) {
-            Ok(picture) => self.drawing = Some(Drawing { name, picture }),
+        match Destination::of(path).and_then(|goes| Ok((create(goes.path())?, goes))) {
+            Ok((canvas, goes)) => {
+                self.answers_shown &= !goes.is_standard_output();
+                self.drawings.push(Drawing { name, canvas, goes });
+            }
             Err(error) => self.wrong(&format!("{name}: {error}")),
         }
     }
@@ -39,12 +53,17 @@ impl<W: Write> Outlet<W> {
             self.draw(source, sketch);
         }
         self.status = self.status.max(answer.status);
-        if let Some(message) = &answer.message {
+        if !answer.messages.is_empty() {
             // where both go to one file, lines stand in their order, whoever answered them
             self.flush()?;
+        }
+        for message in &answer.messages {
             complain(&format!("{}:{}: {message}", source.name, source.line));
         }
-        writeln!(self.answers, "{}", answer.text)
+        match answer.text.filter(|_| self.answers_shown) {
+            Some(text) => writeln!(self.answers, "{text}"),
+            None => Ok(()),
+        }
     }
 
     /// What was answered goes out.
@@ -54,6 +73,11 @@ impl<W: Write> Outlet<W> {
 
     pub fn wrong(&mut self, message: &str) {
         self.status = Status::Wrong;
+        self.note(message);
+    }
+
+    /// Something is said, and nothing is wrong.
+    pub fn note(&mut self, message: &str) {
         // a failure is met again when the next answer is written
         let _ = self.flush();
         complain(message);
@@ -67,24 +91,23 @@ impl<W: Write> Outlet<W> {
         }
     }
 
-    /// A picture that fails is given up; the answers go on.
-    fn draw(&mut self, source: &Source, sketch: &Sketch) {
-        let Some(drawing) = &mut self.drawing else {
-            return;
-        };
-        let title = format!("{}, line {}", source.name, source.line);
-        if let Err(error) = drawing.picture.add(&title, sketch) {
-            let message = format!("{}: {error}", drawing.name);
-            self.drawing = None;
-            self.wrong(&message);
+    /// A drawing that fails is given up; the answers go on.
+    pub fn draw(&mut self, source: &Source, sketch: &Sketch) {
+        for mut drawing in std::mem::take(&mut self.drawings) {
+            match drawing.canvas.add(source, sketch) {
+                Ok(()) => self.drawings.push(drawing),
+                Err(error) => self.wrong(&format!("{}: {error}", drawing.name)),
+            }
         }
     }
 
-    /// The picture is ended; the worst that was met.
+    /// Drawings are ended; the worst that was met.
     pub fn finish(mut self) -> Status {
-        if let Some(drawing) = self.drawing.take() {
-            if let Err(error) = drawing.picture.finish() {
-                self.wrong(&format!("{}: {error}", drawing.name));
+        for Drawing { name, canvas, goes } in std::mem::take(&mut self.drawings) {
+            match canvas.finish().and_then(|()| goes.finish()) {
+                Err(error) if error.kind() == ErrorKind::BrokenPipe => self.status = Status::Wrong,
+                Err(error) => self.wrong(&format!("{name}: {error}")),
+                Ok(()) => {}
             }
         }
         self.status

@@ -4,10 +4,16 @@ use std::fs;
 use std::io::{self, BufWriter, Write};
 use std::path::Path;
 
-use crate::arguments::{Input, Job};
+use fontcrunch::{Cruncher, DEFAULT_PENALTY};
+
+use crate::arguments::{Input, Job, Tool};
+use crate::glif;
 use crate::inputs::{read_all, Lane, Source};
 use crate::jobs;
-use crate::outlet::Outlet;
+use crate::outlet::{Canvas, Outlet};
+use crate::page::{self, At, Page};
+use crate::picture::Picture;
+use crate::sketch::Sketch;
 use crate::worker::Worker;
 
 /// The exit status: the worst that was met.
@@ -19,14 +25,25 @@ pub enum Status {
 }
 
 pub fn run(job: &Job) -> Status {
-    let mut outlet = Outlet::new(BufWriter::new(io::stdout()));
-    if let Some(path) = &job.picture {
-        if job.inputs.iter().any(|input| is_same_file(input, path)) {
-            outlet.wrong(&format!("{}: is to be read and drawn to", path.to_string_lossy()));
-            return outlet.finish();
-        }
-        outlet.start_drawing(path, job.settings);
+    tell_penalty(job);
+    if let Some(wrong) = drawn_over(job) {
+        return stopped(&wrong);
     }
+    match page::font_of(job) {
+        Ok(None) => answer_lines(job),
+        Ok(Some((font, page))) => page::run(job, font, page, at(job)),
+        Err(wrong) => stopped(&wrong),
+    }
+}
+
+fn stopped(wrong: &str) -> Status {
+    complain(wrong);
+    Status::Wrong
+}
+
+fn answer_lines(job: &Job) -> Status {
+    let mut outlet = Outlet::new(BufWriter::new(io::stdout()));
+    start_drawings(job, &mut outlet);
     if job.jobs > 1 {
         return jobs::run(job, outlet);
     }
@@ -35,6 +52,76 @@ pub fn run(job: &Job) -> Status {
         desk.outlet.answers_fail(&error);
     }
     desk.outlet.finish()
+}
+
+/// One file of GLIF, crunched to standard output, and a page of it.
+pub fn file_page(job: &Job, path: &Path) -> Status {
+    tell_penalty(job);
+    let Some(page) = &job.drawing.page else {
+        return glif::crunch_file(job.settings, job.more, path);
+    };
+    if is_same_file(&Input::File(path.to_owned()), page) {
+        return stopped(&format!("{}: is to be read and drawn to", page.to_string_lossy()));
+    }
+    if page == Path::new("-") {
+        return stopped("--html -: standard output is for the file that comes out");
+    }
+    let mut outlet = Outlet::new(io::sink());
+    start_drawings(job, &mut outlet);
+    if let Ok(bytes) = fs::read(path) {
+        let sketch = Sketch::of_glif(&mut Cruncher::new(job.settings), &bytes);
+        outlet.draw(&Source { name: path.to_string_lossy().into(), line: 0 }, &sketch);
+    }
+    outlet.finish().max(glif::crunch_file(job.settings, job.more, path))
+}
+
+/// A note of which penalty holds where whoever looks has named none.
+fn tell_penalty(job: &Job) {
+    if !job.penalty_given && !job.more.quiet {
+        complain(&format!(
+            "the penalty is {}, that of Settings::of_crate(), since none is given; an order's default is another, {DEFAULT_PENALTY}",
+            job.settings.penalty
+        ));
+    }
+}
+
+fn at(job: &Job) -> At {
+    let second = match job.tool {
+        Tool::Editions { penalty } => Some(penalty),
+        _ => None,
+    };
+    At { settings: job.settings, second, given: job.penalty_given }
+}
+
+fn start_drawings<W: Write>(job: &Job, outlet: &mut Outlet<W>) {
+    if let Some(path) = &job.drawing.picture {
+        outlet.start_drawing(path, |written| {
+            let drawing = &job.drawing;
+            let picture = Picture::create(written, job.settings, drawing.together, job.penalty_given)?;
+            Ok(Box::new(picture) as Box<dyn Canvas>)
+        });
+    }
+    if let Some(path) = &job.drawing.page {
+        outlet.start_drawing(path, |written| {
+            Page::create(written, at(job)).map(|page| Box::new(page) as Box<dyn Canvas>)
+        });
+    }
+}
+
+/// A drawing would empty a file before it is read, and two drawings each other.
+fn drawn_over(job: &Job) -> Option<String> {
+    let drawings = [&job.drawing.picture, &job.drawing.page];
+    let over =
+        drawings.into_iter().flatten().find(|path| job.inputs.iter().any(|input| is_same_file(input, path)));
+    if let Some(path) = over {
+        return Some(format!("{}: is to be read and drawn to", path.to_string_lossy()));
+    }
+    match drawings {
+        [Some(picture), Some(page)] if picture == page => {
+            Some(format!("{}: is to be a picture and a page", page.to_string_lossy()))
+        }
+        _ => None,
+    }
 }
 
 /// One line on standard error. Where even that cannot be written, nothing is left to tell.
@@ -59,12 +146,16 @@ impl<W: Write> Lane for Desk<W> {
         Ok(())
     }
 
+    fn note(&mut self, message: String) -> io::Result<()> {
+        self.outlet.note(&message);
+        Ok(())
+    }
+
     fn flush(&mut self) -> io::Result<()> {
         self.outlet.flush()
     }
 }
 
-/// A picture would empty the file before it is read.
 fn is_same_file(input: &Input, path: &Path) -> bool {
     let Input::File(read) = input else {
         return false;

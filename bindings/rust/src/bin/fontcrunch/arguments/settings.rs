@@ -53,10 +53,9 @@ impl Chosen {
 
     /// The settings, at the usual penalty where none is given.
     pub fn with_usual(&self, penalty: u32) -> Settings {
-        Settings {
-            penalty: self.penalty.unwrap_or(penalty),
-            whole_units: self.whole_units,
-            closed: self.closed,
-        }
+        Settings::default()
+            .with_penalty(self.penalty.unwrap_or(penalty))
+            .with_whole_units(self.whole_units)
+            .with_closed(self.closed)
     }
 }

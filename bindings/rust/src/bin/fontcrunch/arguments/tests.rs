@@ -1,4 +1,5 @@
 use super::*;
+use crate::recipe::Recipe;
 
 fn asked(words: &[&str]) -> Result<Request, String> {
     read(words.iter().map(OsString::from))
@@ -30,10 +31,10 @@ fn files_and_standard_input() {
 fn a_picture() {
     for words in [["--svg", "p", "a"], ["a", "--svg", "p"]] {
         let job = job(&words);
-        assert_eq!((job.inputs, job.picture), (vec![file("a")], Some("p".into())));
+        assert_eq!((job.inputs, job.drawing.picture), (vec![file("a")], Some("p".into())));
     }
-    assert_eq!(job(&["--svg=a=b"]).picture, Some("a=b".into()));
-    assert_eq!(job(&[]).picture, None);
+    assert_eq!(job(&["--svg=a=b"]).drawing.picture, Some("a=b".into()));
+    assert_eq!(job(&[]).drawing.picture, None);
 }
 
 #[test]
@@ -52,6 +53,8 @@ fn only_the_first_word_names_a_tool() {
 fn cleaning_and_cubics() {
     assert_eq!(job(&["clean"]).tool, Tool::Clean { crunch: false });
     assert_eq!(job(&["clean", "--crunch", "a"]).tool, Tool::Clean { crunch: true });
+    assert_eq!(job(&["idle"]).tool, Tool::Idle { crunch: false });
+    assert_eq!(job(&["idle", "--crunch", "a"]).tool, Tool::Idle { crunch: true });
     assert_eq!(job(&["cubic"]).tool, Tool::Cubic { crunch: false });
     assert_eq!(job(&["cubic", "a", "--crunch"]).tool, Tool::Cubic { crunch: true });
     assert_eq!(job(&["explicit", "a"]).tool, Tool::Explicit { crunch: false });
@@ -137,9 +140,9 @@ fn a_penalty_is_any_whole_number() {
 #[test]
 fn whole_units() {
     assert!(!job(&[]).settings.whole_units);
-    assert_eq!(job(&["--whole-units"]).settings, Settings { whole_units: true, ..Settings::default() });
+    assert_eq!(job(&["--whole-units"]).settings, Settings::default().with_whole_units(true));
     assert!(job(&["cubic", "--whole-units", "--crunch"]).settings.whole_units);
-    let drawn = Settings { whole_units: true, ..Settings::of_crate() };
+    let drawn = Settings::of_crate().with_whole_units(true);
     assert_eq!(job(&["--svg", "p", "--whole-units"]).settings, drawn);
     assert!(fault(&["--whole-units=1"]).contains("no option --whole-units=1"));
 }
@@ -147,14 +150,14 @@ fn whole_units() {
 #[test]
 fn closed() {
     assert!(!job(&[]).settings.closed);
-    assert_eq!(job(&["--closed"]).settings, Settings { closed: true, ..Settings::default() });
-    let drawn = Settings { penalty: 16, whole_units: true, closed: true };
+    assert_eq!(job(&["--closed"]).settings, Settings::default().with_closed(true));
+    let drawn = Settings::default().with_penalty(16).with_whole_units(true).with_closed(true);
     assert_eq!(job(&["--whole-units", "--svg", "p", "--closed"]).settings, drawn);
 }
 
 #[test]
 fn settings_are_for_what_crunches() {
-    for tool in ["clean", "cubic", "explicit", "why"] {
+    for tool in ["clean", "idle", "cubic", "explicit", "why"] {
         assert!(fault(&[tool, "--penalty", "16"]).contains("--penalty is for crunching"), "{tool}");
         assert!(fault(&[tool, "--whole-units"]).contains("--whole-units is for crunching"), "{tool}");
         assert!(fault(&[tool, "--closed"]).contains("--closed is for crunching"), "{tool}");
@@ -172,7 +175,7 @@ fn glyphs() {
         assert!(fault(words).contains("needs read, write or crunch"), "{words:?}");
     }
     assert_eq!(job(&["glyph", "crunch"]).settings, Settings::default());
-    let all = Settings { penalty: 20, whole_units: true, closed: true };
+    let all = Settings::default().with_penalty(20).with_whole_units(true).with_closed(true);
     for words in [
         ["glyph", "crunch", "--penalty=20", "--whole-units", "--closed"],
         ["glyph", "--closed", "--penalty=20", "crunch", "--whole-units"],
@@ -202,7 +205,7 @@ fn two_penalties() {
     {
         let job = job(&[&["editions"][..], &words, &["a"]].concat());
         assert_eq!((job.tool, job.inputs), (Tool::Editions { penalty: 32 }, vec![file("a")]));
-        assert_eq!(job.settings, Settings { penalty: 16, closed: true, ..Settings::default() });
+        assert_eq!(job.settings, Settings::default().with_penalty(16).with_closed(true));
     }
     for words in [&["editions"][..], &["editions", "--penalty", "16"], &["editions", "a", "b"]] {
         assert!(fault(words).contains("two penalties"), "{words:?}");
@@ -216,10 +219,10 @@ fn lines_of_files_or_one_file() {
     for (word, step) in [("read", Step::Read), ("write", Step::Write), ("crunch", Step::Crunch)] {
         assert_eq!(job(&["glif", word, "-"]).tool, Tool::Glif { step });
     }
-    let settings = Settings { penalty: 20, closed: true, ..Settings::default() };
+    let settings = Settings::default().with_penalty(20).with_closed(true);
     for words in [["a.glif", "--closed", "--penalty=20"], ["--closed", "a.glif", "--penalty=20"]] {
         let asked = read([&["glif"][..], &words].concat().into_iter().map(Into::into));
-        assert_eq!(asked, Ok(Request::File(settings, "a.glif".into())));
+        assert_eq!(asked, Ok(Request::File(settings, More::default(), "a.glif".into())));
     }
     for words in
         [&["glif"][..], &["glif", "a", "b"], &["glif", "a", "-"], &["glif", "-"], &["glif", "--closed"]]
@@ -250,8 +253,10 @@ fn wrong_words() {
     assert!(fault(&["-x"]).contains("no option -x"));
 }
 
-const TOOLS: [&str; 10] =
-    ["crunch", "editions", "why", "chain", "check", "glyph", "glif", "clean", "cubic", "explicit"];
+const TOOLS: [&str; 13] = [
+    "crunch", "ufo", "editions", "trace", "why", "chain", "check", "glyph", "glif", "clean", "idle", "cubic",
+    "explicit",
+];
 
 #[test]
 fn each_tool_has_a_page() {
@@ -266,7 +271,8 @@ fn each_tool_has_a_page() {
         assert!(page.contains(&format!("fontcrunch {tool}")) || tool == "crunch", "{tool}");
         assert!(help(None).contains(&format!("\n{tool} ")), "{tool}");
         assert!(page.contains("\nExample:\n  $ ") && page.ends_with("was wrong.\n"), "{tool}");
-        assert!(page.lines().all(|line| line.len() <= 132), "{tool}");
+        // but for an answer of JSON, which is as long as it is
+        assert!(page.lines().all(|line| line.len() <= 132 || line.starts_with("  {")), "{tool}");
         // settings by the same names and words wherever runs are worked; editions has two penalties
         let has_settings = page.contains("--penalty N    what each piece adds");
         assert_eq!(has_settings, !["why", "editions"].contains(&tool), "{tool}");
@@ -288,4 +294,102 @@ fn help_tells_every_refusal_that_can_be_met() {
     }
     assert!(help(Tool::named("why".as_ref())).contains("refused 11: "));
     assert!(!help(Tool::named("why".as_ref())).contains("refused 16: "));
+}
+
+fn files(words: &[&str]) -> FilesJob {
+    match asked(words) {
+        Ok(Request::Files(job) | Request::Ufo(job)) => job,
+        other => panic!("{words:?}: {other:?}"),
+    }
+}
+
+#[test]
+fn help_is_a_word_too() {
+    assert_eq!(asked(&["help"]), Ok(Request::Help(None)));
+    assert_eq!(asked(&["help", "ufo"]), Ok(Request::Help(Some(Tool::Ufo))));
+    for words in [&["help", "x"][..], &["help", "why", "chain"]] {
+        assert!(fault(words).contains("help is followed by the name of a tool"), "{words:?}");
+    }
+    assert_eq!(job(&["./help"]).inputs, [file("./help")]);
+}
+
+#[test]
+fn whole_files_are_closed_prepared_and_kept_unless_fewer() {
+    let closed = Settings::default().with_closed(true);
+    let usual = Recipe { settings: closed, prepare: true, keep: true, cubic: false };
+    let ufo = files(&["ufo", "a.ufo", "-o", "b.ufo"]);
+    assert_eq!(
+        ufo,
+        FilesJob {
+            recipe: usual,
+            quiet: false,
+            jobs: 1,
+            inputs: vec!["a.ufo".into()],
+            out: Some("b.ufo".into()),
+            report: None
+        }
+    );
+    assert_eq!(files(&["ufo", "--output=b.ufo", "a.ufo"]), ufo);
+    let two = files(&["glif", "a", "-o", "d", "b", "-j4", "--report", "r", "--cubic", "-q", "--penalty=20"]);
+    assert_eq!(
+        (two.inputs, two.out, two.report),
+        (vec!["a".into(), "b".into()], Some("d".into()), Some("r".into()))
+    );
+    assert_eq!((two.jobs, two.quiet, two.recipe.cubic, two.recipe.settings.penalty), (4, true, true, 20));
+    let words = ["ufo", "a.ufo", "--in-place", "--no-closed", "--no-prepare", "--no-keep-unless-fewer"];
+    let without = files(&words);
+    let plain = Recipe { settings: Settings::default(), prepare: false, keep: false, cubic: false };
+    assert_eq!((without.recipe, without.out), (plain, None));
+    for words in [
+        &["ufo"][..],
+        &["ufo", "a"],
+        &["ufo", "-o", "b"],
+        &["ufo", "a", "b", "-o", "c"],
+        &["ufo", "-", "-o", "c"],
+        &["glif", "a", "-", "-o", "c"],
+    ] {
+        assert!(fault(words).contains(" needs one "), "{words:?}");
+    }
+    assert!(fault(&["ufo", "a", "-o", "b", "--in-place"]).contains("exclude each other"));
+    assert!(fault(&["ufo", "a", "-o", "b", "-o", "c"]).contains("-o is given twice"));
+    assert!(fault(&["ufo", "a", "-o"]).contains("-o needs a folder"));
+    assert!(fault(&["ufo", "a", "-o", "b", "--report="]).contains("--report needs a file"));
+}
+
+#[test]
+fn options_are_for_tools_that_they_change() {
+    for (words, told) in [
+        (&["why", "--prepare"][..], "--prepare is an option for crunching"),
+        (&["chain", "0", "--prepare"], "--prepare is an option for crunching"),
+        (&["clean", "--prepare"], "--prepare is an option for crunching"),
+        (&["--keep-unless-fewer"], "--keep-unless-fewer is an option of glyph crunch, glif and ufo"),
+        (&["glyph", "read", "--keep-unless-fewer"], "--keep-unless-fewer is an option of"),
+        (&["glyph", "crunch", "--cubic"], "--cubic is an option of glif and ufo"),
+        (&["--words"], "--words is an option of why"),
+        (&["check", "0", "--with-contour"], "--with-contour is an option of chain"),
+        (&["chain", "0", "--with-contour", "--segments"], "reads no segments and no fallen"),
+        (&["chain", "0", "--with-contour", "--fallen"], "reads no segments and no fallen"),
+        (&["-o", "b"], "-o is an option of ufo, and of glif with files"),
+        (&["glif", "read", "--in-place"], "--in-place is an option of ufo, and of glif with files"),
+        (&["glif", "a", "--report", "r"], "--report is an option of ufo"),
+        (&["--no-closed"], "--no-closed is an option of ufo"),
+        (&["glif", "a", "--no-prepare"], "--no-prepare is an option of ufo"),
+    ] {
+        assert!(fault(words).contains(told), "{words:?}: {}", fault(words));
+    }
+    for words in [
+        &["--prepare"][..],
+        &["editions", "--penalty=1", "--penalty=2", "--prepare"],
+        &["cubic", "--crunch", "--prepare"],
+        &["explicit", "--crunch", "--prepare"],
+        &["clean", "--crunch", "--prepare"],
+        &["glyph", "crunch", "--prepare"],
+        &["glif", "crunch", "--prepare"],
+    ] {
+        assert!(job(words).more.prepare, "{words:?}");
+    }
+    assert!(job(&["why", "-q"]).more.quiet);
+    assert_eq!(job(&["-j", "3"]).jobs, 3);
+    assert!(fault(&["-j"]).contains("1 to 256"));
+    assert!(fault(&["-jx"]).contains("no option -jx"));
 }

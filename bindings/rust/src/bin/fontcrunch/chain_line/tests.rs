@@ -16,7 +16,7 @@ fn a_contour_and_a_chain() {
         Piece { start: 0, end: 12, control: (2.0, -1.0) },
         Piece { start: 12, end: 13, control: (1.0, 1.0) },
     ];
-    assert_eq!(chain, Chain { pieces: pieces.into(), score: 1.0, pairs: 0, segments: vec![], fallen: 0 });
+    assert_eq!(chain, Chain::new(pieces.into(), 1.0));
 }
 
 #[test]

@@ -1,8 +1,8 @@
 //! The grid that breaks are rounded to, drawn where its lines would stand apart.
 
+use fontcrunch::outline::Place;
 use fontcrunch::Settings;
 
-use super::outline::Place;
 use super::svg;
 use super::view::{Extent, View};
 

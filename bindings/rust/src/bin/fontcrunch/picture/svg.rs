@@ -1,8 +1,8 @@
 //! Marks and text in SVG.
 
+use fontcrunch::outline::{Outline, Place};
 use fontcrunch::Reasons;
 
-use super::outline::{Outline, Place};
 use super::view::View;
 
 /// The colours of one outline.
@@ -19,6 +19,8 @@ pub const BREAK: &str = "#00875f";
 pub const LOST: &str = "#e07b00";
 pub const FELL: &str = "#8a3ffc";
 pub const GHOST: &str = "#9aa4ad";
+/// The radius of a corner's ring.
+pub const RING: f64 = 7.0;
 pub const TEXT: &str = "#20262b";
 pub const QUIET: &str = "#6b7680";
 
@@ -34,6 +36,37 @@ pub fn number(value: f64) -> String {
     let text = format!("{value:.2}");
     let text = text.trim_end_matches('0').trim_end_matches('.');
     if text == "-0" { "0" } else { text }.to_owned()
+}
+
+/// How wide words are, at most, in the fonts that stand in for Helvetica: these are wider.
+pub fn width(words: &str, size: f64) -> f64 {
+    0.64 * size * words.chars().count() as f64
+}
+
+/// Words in lines of at most that width.
+pub fn wrapped(words: &str, size: f64, most: f64) -> Vec<String> {
+    let mut lines: Vec<String> = vec![];
+    for word in words.split(' ') {
+        match lines.last_mut() {
+            Some(line) if width(line, size) + width(word, size) + size <= most => {
+                line.push(' ');
+                line.push_str(word);
+            }
+            _ => lines.push(clipped(word, size, most)),
+        }
+    }
+    lines
+}
+
+/// Words that fit a width: what is too long loses its middle.
+pub fn clipped(words: &str, size: f64, most: f64) -> String {
+    if width(words, size) <= most {
+        return words.to_owned();
+    }
+    let all: Vec<char> = words.chars().collect();
+    let kept = ((most / (0.64 * size)) as usize).saturating_sub(1) / 2;
+    let (start, end) = (&all[..kept.min(all.len())], &all[all.len() - kept.min(all.len())..]);
+    start.iter().chain(&['\u{2026}']).chain(end).collect()
 }
 
 /// Thousands set apart: 1,234,567.
@@ -128,11 +161,22 @@ pub fn off_curve_mark(at: Place, ink: Ink) -> String {
 }
 
 pub fn corner_mark(at: Place) -> String {
-    circle(at, 7.0, "none", CORNER, 1.5)
+    circle(at, RING, "none", CORNER, 1.5)
 }
 
-/// The reasons of a corner, a letter each, above and beside its ring; the legend tells them.
-pub fn reasons_mark(at: Place, reasons: Reasons) -> String {
+/// A ring with a title, which viewers show where it is pointed at.
+pub fn corner_titled(at: Place, title: &str) -> String {
+    format!(
+        "<circle cx=\"{}\" cy=\"{}\" r=\"{RING}\" fill=\"none\" stroke=\"{CORNER}\" stroke-width=\"1.5\" \
+         pointer-events=\"all\"><title>{}</title></circle>\n",
+        number(at.x),
+        number(at.y),
+        escaped(title)
+    )
+}
+
+/// The reasons of a corner, a letter each; the legend tells them.
+pub fn reason_letters(reasons: Reasons) -> String {
     let letters = [
         (reasons.x, 'x'),
         (reasons.y, 'y'),
@@ -140,8 +184,7 @@ pub fn reasons_mark(at: Place, reasons: Reasons) -> String {
         (reasons.after, 'a'),
         (reasons.angle, '\u{2220}'),
     ];
-    let words: String = letters.iter().filter(|(holds, _)| *holds).map(|(_, letter)| *letter).collect();
-    text(Place { x: at.x + 8.0, y: at.y - 6.0 }, 9.0, CORNER, "", &words)
+    letters.iter().filter(|(holds, _)| *holds).map(|(_, letter)| *letter).collect()
 }
 
 fn circle(at: Place, radius: f64, fill: &str, line: &str, width: f64) -> String {
@@ -230,6 +273,17 @@ mod tests {
         let view = View::new(&Extent::of(places), 1.0, 0.0, 0.0, 4.0);
         assert_eq!(path(&outline, &view, 0..2), "M0 4L4 4L0 0");
         assert_eq!(path(&outline, &view, 2..4), "M0 0L0 4L4 4");
+    }
+
+    #[test]
+    fn words_stay_within_a_width() {
+        let reason = "a run between two corners is too long: it has more than 2,048 breaks, half a unit or a whole one apart";
+        let lines = wrapped(reason, 12.0, 300.0);
+        assert_eq!(lines.join(" "), reason);
+        assert!(lines.len() > 2 && lines.iter().all(|line| width(line, 12.0) <= 300.0), "{lines:?}");
+        assert_eq!(clipped("short", 12.0, 300.0), "short");
+        let cut = clipped(&"long".repeat(50), 12.0, 100.0);
+        assert!(width(&cut, 12.0) <= 100.0 && cut.starts_with("long") && cut.ends_with("long"), "{cut}");
     }
 
     #[test]

@@ -1,6 +1,7 @@
 //! Where a place of a contour is on the picture.
 
-use super::outline::Place;
+use fontcrunch::outline::Place;
+
 use super::svg::number;
 
 /// The least box around places.

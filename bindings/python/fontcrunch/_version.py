@@ -1,0 +1,3 @@
+"""The version, which include/fontcrunch.h has too: a test holds them together."""
+
+__version__ = "1.0.0"

@@ -1,0 +1,6 @@
+pub mod Idle
+pub mod PutBack
+pub mod Entry
+pub mod Outline
+pub mod Determine
+pub mod Statements
