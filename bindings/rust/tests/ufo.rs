@@ -7,7 +7,7 @@ use std::ffi::OsStr;
 use std::fs;
 use std::os::unix::fs::{symlink, PermissionsExt};
 use std::path::{Path, PathBuf};
-use std::process::{Command, Stdio};
+use std::process::{Command, Output, Stdio};
 use std::thread;
 use std::time::Duration;
 
@@ -563,6 +563,11 @@ fn killed(at: &Path, words: &[&str], after: Duration, has_done: impl Fn() -> boo
     at_work
 }
 
+/// Tries what a busy machine may be too late for until it comes in time.
+fn in_time(mut comes: impl FnMut() -> bool) {
+    assert!((0..50).any(|_| comes()), "each call ended before it was met");
+}
+
 #[test]
 fn killed_twenty_times_no_file_is_half() {
     let at = folder("ufo_killed");
@@ -570,10 +575,13 @@ fn killed_twenty_times_no_file_is_half() {
     let words = ["ufo", "A.ufo", "-o", "B.ufo"];
     for k in 0..20 {
         let done = || at.join(format!("B.ufo/glyphs/g{k:02}")).exists();
-        assert!(
-            killed(&at, &words, Duration::from_millis(k * 7 % 12), done),
-            "it ended before it was killed"
-        );
+        in_time(|| {
+            let in_time = killed(&at, &words, Duration::from_millis(k * 7 % 12), done);
+            if !in_time {
+                fs::remove_dir_all(at.join("B.ufo")).unwrap();
+            }
+            in_time
+        });
         for (place, bytes) in held(&at.join("B.ufo")) {
             assert_eq!(bytes, whole[&place], "{place:?}");
         }
@@ -596,7 +604,15 @@ fn killed_in_place_no_glyph_is_crunched_twice() {
     for k in 0..8 {
         let place = PathBuf::from(format!("glyphs/g{k:02}"));
         let done = || fs::read(at.join("A.ufo").join(&place)).unwrap() != before[&place];
-        assert!(killed(&at, &words, Duration::from_millis(k * 5 % 9), done), "it ended before it was killed");
+        in_time(|| {
+            let in_time = killed(&at, &words, Duration::from_millis(k * 5 % 9), done);
+            if !in_time {
+                before
+                    .iter()
+                    .for_each(|(place, bytes)| fs::write(at.join("A.ufo").join(place), bytes).unwrap());
+            }
+            in_time
+        });
         for (place, bytes) in held(&at.join("A.ufo")) {
             assert!(bytes == whole[&place] || bytes == before[&place], "{place:?}");
         }
@@ -610,26 +626,36 @@ fn killed_in_place_no_glyph_is_crunched_twice() {
     assert_eq!(ours(&at.join("A.ufo/glyphs")), 0);
 }
 
+/// A call that is sent a signal after its third glyph; none where it had ended before.
+fn interrupted(at: &Path, signal: &str) -> Option<Output> {
+    let _ = fs::remove_dir_all(at.join("B.ufo"));
+    let child = command()
+        .current_dir(at)
+        .args(["ufo", "A.ufo", "-o", "B.ufo"])
+        .stdout(Stdio::null())
+        .stderr(Stdio::piped())
+        .spawn()
+        .unwrap();
+    while !at.join("B.ufo/glyphs/g02").exists() {
+        thread::sleep(Duration::from_millis(1));
+    }
+    assert!(Command::new("kill").args([signal, &child.id().to_string()]).status().unwrap().success());
+    let output = child.wait_with_output().unwrap();
+    // ended by the signal itself
+    output.status.code().is_none().then_some(output)
+}
+
 #[test]
 fn an_interrupt_leaves_no_temporary_file_and_the_next_call_goes_on() {
     let at = folder("ufo_interrupted");
     let whole = slow(&at, 10);
     for signal in ["-INT", "-TERM", "-HUP"] {
-        let _ = fs::remove_dir_all(at.join("B.ufo"));
-        let child = command()
-            .current_dir(&at)
-            .args(["ufo", "A.ufo", "-o", "B.ufo"])
-            .stdout(Stdio::null())
-            .stderr(Stdio::piped())
-            .spawn()
-            .unwrap();
-        while !at.join("B.ufo/glyphs/g02").exists() {
-            thread::sleep(Duration::from_millis(1));
-        }
-        assert!(Command::new("kill").args([signal, &child.id().to_string()]).status().unwrap().success());
-        let output = child.wait_with_output().unwrap();
-        // by the signal itself
-        assert_eq!(output.status.code(), None);
+        let mut met = None;
+        in_time(|| {
+            met = interrupted(&at, signal);
+            met.is_some()
+        });
+        let output = met.unwrap();
         assert_eq!(
             text(&output.stderr),
             "fontcrunch: interrupted: what is written is whole, and the same call goes on from there\n"
@@ -645,22 +671,23 @@ fn an_interrupt_leaves_no_temporary_file_and_the_next_call_goes_on() {
 fn two_calls_do_not_work_in_one_folder() {
     let at = folder("ufo_two");
     let whole = slow(&at, 10);
-    let mut first = command()
-        .current_dir(&at)
-        .args(["ufo", "A.ufo", "-o", "B.ufo"])
-        .stdout(Stdio::null())
-        .spawn()
-        .unwrap();
-    while !at.join("B.ufo/glyphs/g00").exists() {
-        thread::sleep(Duration::from_millis(1));
-    }
-    let (_, messages, status) = told(&at, &["ufo", "A.ufo", "-o", "B.ufo"]);
-    assert_eq!(
-        (messages.as_str(), status),
-        ("fontcrunch: B.ufo/glyphs: another fontcrunch is at work there\n", Some(2))
-    );
-    assert!(first.wait().unwrap().success());
-    assert_eq!(held(&at.join("B.ufo")), whole);
+    in_time(|| {
+        let _ = fs::remove_dir_all(at.join("B.ufo"));
+        let mut first = command()
+            .current_dir(&at)
+            .args(["ufo", "A.ufo", "-o", "B.ufo"])
+            .stdout(Stdio::null())
+            .spawn()
+            .unwrap();
+        while !at.join("B.ufo/glyphs/g00").exists() {
+            thread::sleep(Duration::from_millis(1));
+        }
+        let (_, messages, status) = told(&at, &["ufo", "A.ufo", "-o", "B.ufo"]);
+        assert!(first.wait().unwrap().success());
+        assert_eq!(held(&at.join("B.ufo")), whole);
+        (messages.as_str(), status)
+            == ("fontcrunch: B.ufo/glyphs: another fontcrunch is at work there\n", Some(2))
+    });
 }
 
 #[test]
