@@ -1,4 +1,5 @@
 // The answer to a line: what becomes of the contour on it, as text.
+#![tactic(auto)]
 ghost use Rattle.std.specs.Prelude.{◌≡◌, [], ◌∷◌, ◌++◌, ◌≤◌, ◌<◌, length};
 ghost use Rattle.contour.specs.Output.{outputs};
 ghost use Rattle.crunch.specs.Entry.{report};
@@ -11,14 +12,14 @@ use lines::Parsed;
 use settings::Settings;
 
 // How lines are answered: what the contours are worked with, and whether an answer tells the lookups that fell.
-#[derive(Drop)]
+#[derive(Clone, Copy)]
 pub struct Order {
     pub settings: Settings,
     pub told: bool,
 }
 
 // What becomes of a contour in rows that may be too short for it.
-#[derive(Drop)]
+#[derive(Clone, Copy)]
 pub enum Fit {
     // the place after the answer
     Put(usize),

@@ -1,6 +1,7 @@
 // Module 4: the derivative of a quad, and its length by RK4 for one value. Each float operation stands where the definition has it, and
 // each root is taken by its digits. That this is the RK4 of the definitions is a law over lists of any length, cited for one value here
 // and for two in `measure`.
+#![tactic(auto)]
 ghost use Rattle.std.specs.Prelude.{◌≡◌};
 ghost use Rattle.arclen.specs.Rk4.{moved_by, grown_by};
 ghost use Rattle.arclen.specs.Arclen.{arclen_functor_of, deriv_of, speed_of, arclen_of};
@@ -9,7 +10,7 @@ ghost use Rattle.arclen.specs.One.{RatesOne, StepsOne};
 use geometry::{Point, Quad};
 
 // The derivative of a quad: its values at both ends.
-#[derive(Drop)]
+#[derive(Clone, Copy)]
 pub struct ArclenFunctor {
     pub dx0: f64,
     pub dy0: f64,

@@ -1,4 +1,5 @@
 // A contour's runs, worked in order into the scratch row for points.
+#![tactic(auto)]
 ghost use Rattle.std.specs.Prelude.{◌≡◌, ◌≤◌, length};
 ghost use Rattle.rows.specs.Lent.{before, after, room};
 ghost use Rattle.runs.specs.Runs.{between, stops_of};
@@ -20,13 +21,13 @@ use settings::Settings;
 use survey::Surveyed;
 
 // The points written, and what was counted: the pairs tried, and the lookups that fell in them.
-#[derive(Drop)]
+#[derive(Clone, Copy)]
 pub struct Progress {
     pub w: Written,
     pub tally: Tally,
 }
 
-#[derive(Drop)]
+#[derive(Clone, Copy)]
 pub enum Crunching {
     // the number of a refusal
     Refused(u8),

@@ -9,7 +9,7 @@ ghost use Rattle.attempt.specs.Value.{best_of, combine_of, base_of, nothing_at};
 
 use geometry::Quad;
 
-#[derive(Drop)]
+#[derive(Clone, Copy)]
 pub struct Answer {
     // what a link to this answer says: 0 where nothing may be built on it
     pub name: u32,

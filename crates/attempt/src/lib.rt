@@ -1,4 +1,5 @@
 // Module 8: one attempt, by value: what a piece from one break to another makes of the answer that stands where it ends.
+#![tactic(auto)]
 pub mod answer;
 
 ghost use Rattle.std.specs.Prelude.{◌≡◌, true};
@@ -12,7 +13,7 @@ use measure::Counted;
 use quickmeasure::Judged;
 
 // What becomes of the answer at a break, and how many lookups fell.
-#[derive(Drop)]
+#[derive(Clone, Copy)]
 pub enum Outcome {
     Made(Answer, usize),
     // refusal 8

@@ -1,5 +1,6 @@
 // Module 7: the breaks of a run, a row of [s, x, y, dx, dy]. Each contract equates the result, and what
 // is left in the row, with a definition of specs/Breaks.antt.
+#![tactic(auto)]
 ghost use Rattle.std.specs.Prelude.{◌≡◌, ◌≤◌, ◌<◌, length, take};
 ghost use Rattle.breaks.specs.Breaks.{half_grid, whole_grid, on_grid, grid_point, packed_of, break_at, places_of, place_at, opens, opened};
 ghost use Rattle.breaks.specs.Breaks.{join_of, so, stepped, breaks_of, joined_in, count_joined, breaks_in, count_found};
@@ -8,14 +9,14 @@ use geometry::{Break, Point};
 use lookup::Found;
 
 // A coordinate is brought to step * round(per * x).
-#[derive(Drop)]
+#[derive(Clone, Copy)]
 pub struct Grid {
     pub per: f64,
     pub step: f64,
 }
 
 // A place of the run: the break it would be, and its distance to its own unrounded point.
-#[derive(Drop)]
+#[derive(Clone, Copy)]
 pub enum Placed {
     At(Break, f64),
     // a sample at the last stored place: refusal 8
@@ -25,14 +26,14 @@ pub enum Placed {
 }
 
 // How many breaks there are, and the distance of the place that first opened the last one.
-#[derive(Drop)]
+#[derive(Clone, Copy)]
 pub struct Progress {
     pub count: usize,
     pub opened: f64,
 }
 
 // The breaks so far, with one place more.
-#[derive(Drop)]
+#[derive(Clone, Copy)]
 pub enum Joined {
     At(Progress),
     Full,
@@ -40,7 +41,7 @@ pub enum Joined {
     Past,
 }
 
-#[derive(Drop)]
+#[derive(Clone, Copy)]
 pub enum Breaks {
     Found(usize),
     // more than the row takes: refusal 7

@@ -1,5 +1,6 @@
 // Demand 3: the checker. A chain stands in four rows: start break, end break, control x, control y. Each
 // contract equates the result with a definition of specs/Valid.antt.
+#![tactic(auto)]
 mod shape;
 mod sum;
 mod valid;
@@ -12,7 +13,7 @@ ghost use Rattle.chain.specs.Fallen.{fallen_rows};
 use geometry::{Point, Quad};
 
 // A piece: the numbers of the breaks where it starts and ends, and its control.
-#[derive(Drop)]
+#[derive(Clone, Copy)]
 pub struct Piece {
     pub from: usize,
     pub to: usize,
@@ -20,27 +21,27 @@ pub struct Piece {
 }
 
 // What comes before a piece: the start of the run, or a piece.
-#[derive(Drop)]
+#[derive(Clone, Copy)]
 pub enum Before {
     Start,
     After(Quad),
 }
 
 // A sum of scores; or a measure was refused, 8.
-#[derive(Drop)]
+#[derive(Clone, Copy)]
 pub enum Summed {
     At(f64),
     Missing,
 }
 
 // A sum, and the lookups that fell in its measures.
-#[derive(Drop)]
+#[derive(Clone, Copy)]
 pub struct Total {
     pub sum: Summed,
     pub fallen: usize,
 }
 
-#[derive(Drop)]
+#[derive(Clone, Copy)]
 pub enum Checked {
     // refusal 8
     Missing,
@@ -49,7 +50,7 @@ pub enum Checked {
 }
 
 // What is said of a chain, and the lookups that fell in the measures made for it.
-#[derive(Drop)]
+#[derive(Clone, Copy)]
 pub struct Checking {
     pub said: Checked,
     pub fallen: usize,

@@ -1,6 +1,7 @@
 // The chain entry: a contour in three rows and a run number; the optimiser's chain of that run out in five
 // rows, start break, end break, control x, control y, and the segments that hold both breaks; and four
 // scratch rows, which are left zero throughout whatever they held.
+#![tactic(auto)]
 ghost use Rattle.std.specs.Prelude.{◌≡◌, ◌≤◌, Float, length, take};
 ghost use Rattle.rows.specs.Lent.{before, room, contour};
 ghost use Rattle.breaks.specs.Breaks.{Row};
@@ -26,7 +27,7 @@ use runs::Run;
 use settings::Settings;
 use survey::Surveyed;
 
-#[derive(Drop)]
+#[derive(Clone, Copy)]
 pub enum Chained {
     // the number of a refusal
     Refused(u8),

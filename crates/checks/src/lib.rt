@@ -1,6 +1,7 @@
 // The checker's entry: a contour in three rows, a run number, a chain in four rows with its score; and four
 // scratch rows, which are left zero throughout whatever they held. Answers and links are lent for their
 // rooms alone: the checker has the same rooms as the optimiser.
+#![tactic(auto)]
 ghost use Rattle.std.specs.Prelude.{◌≡◌, ◌<◌, ◌≤◌, length};
 ghost use Rattle.rows.specs.Lent.{before, room, contour};
 ghost use Rattle.runs.specs.Runs.{numbered_run};
@@ -16,7 +17,7 @@ use runs::Run;
 use settings::Settings;
 use survey::Surveyed;
 
-#[derive(Drop)]
+#[derive(Clone, Copy)]
 pub enum Verdict {
     // the number of a refusal
     Refused(u8),
@@ -25,7 +26,7 @@ pub enum Verdict {
 }
 
 // The verdict, and the lookups that fell in measuring the chain; none where it is refused.
-#[derive(Drop)]
+#[derive(Clone, Copy)]
 pub struct Ruling {
     pub verdict: Verdict,
     pub fallen: usize,

@@ -1,6 +1,7 @@
 // Cleaning an upload: points that repeat their neighbours go, and a list says which and why, so that they can
 // be put back. A contour is three rows: x, y, and flags whose bit 0 means on-curve. Inside, a point goes by its
 // number in the upload, and why it goes by a number too: 0 it stays, 1 before, 2 both, 3 first.
+#![tactic(auto)]
 ghost use Rattle.std.specs.Prelude.{◌≡◌, map, ◌+◌, ◌-◌, ◌<◌, ◌≤◌, eqb, ltb, pos, length, take, get_or};
 ghost use Rattle.refusals.specs.Accepted.{Accepted};
 ghost use Rattle.contour.specs.Implied.{same};
@@ -15,7 +16,7 @@ ghost use Rattle.clean.specs.Entry.{spot_x, spot_bit, spots_into, judged_back, l
 use refusals::Judged;
 
 // What cleaning answers.
-#[derive(Drop)]
+#[derive(Clone, Copy)]
 pub enum Cleaned {
     // the number of a refusal
     Refused(u8),
@@ -24,7 +25,7 @@ pub enum Cleaned {
 }
 
 // What putting back answers.
-#[derive(Drop)]
+#[derive(Clone, Copy)]
 pub enum Restored {
     // the number of a refusal
     Refused(u8),
@@ -33,7 +34,7 @@ pub enum Restored {
 }
 
 // Where a pass over the points is: the number of the last point kept, and how many are kept and dropped so far.
-#[derive(Drop)]
+#[derive(Clone, Copy)]
 pub struct Passed {
     pub last: usize,
     pub kept: usize,

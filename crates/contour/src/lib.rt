@@ -1,5 +1,6 @@
 // Module 9: the points of a contour, written to a row of [x, y, flag]; then reversed, with implied points
 // dropped. Each contract equates what is left in the row with a definition of specs/.
+#![tactic(auto)]
 ghost use Rattle.std.specs.Prelude.{◌≡◌, false, [], ◌∷◌, ◌++◌, reverse, ◌-◌, ◌<◌, ◌≤◌, pos, ◌+ℤ◌, length, take, drop, get_or, set};
 ghost use Rattle.outline.specs.Segments.{previous};
 ghost use Rattle.contour.specs.Points.{on_point, off_point, point_as, start_point, points_of, piece_points, unchanged_points, came_to, unchanged_in};
@@ -11,7 +12,7 @@ use geometry::{Point, Quad};
 use outline::Seg;
 
 // So many points are written; over: there were more than the row takes. Once over, it stays over.
-#[derive(Drop)]
+#[derive(Clone, Copy)]
 pub struct Written {
     pub count: usize,
     pub over: bool,

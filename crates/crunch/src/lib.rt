@@ -1,6 +1,7 @@
 // The crunch entry: a contour in three rows, its points out in three others, and five scratch rows, which
 // are left zero throughout whatever they held. It is made of two steps: crunching into the scratch row for
 // points, and copying out.
+#![tactic(auto)]
 ghost use Rattle.std.specs.Prelude.{◌≡◌, ◌≤◌, length};
 ghost use Rattle.rows.specs.Lent.{before, after, room, contour};
 ghost use Rattle.contour.specs.Output.{outputs};
@@ -15,7 +16,7 @@ use optimize::Tally;
 use refusals::Judged;
 use settings::Settings;
 
-#[derive(Drop)]
+#[derive(Clone, Copy)]
 pub enum Crunched {
     // the number of a refusal
     Refused(u8),

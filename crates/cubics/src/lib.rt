@@ -2,6 +2,7 @@
 // stand in pairs, the controls of a cubic, and a last pair leads back to the start. A cubic is halved until each
 // coordinate of its third difference is at most 8 in size; then it is the quad with the control that document 02
 // names. Each f64 here is exact; only a point that is written is rounded.
+#![tactic(auto)]
 ghost use Rattle.std.specs.Prelude.{◌≡◌, false, ◌&&◌, ◌||◌, List, [], ◌∷◌, ℕ, ◌+◌, ◌*◌, ◌^◌, ◌<◌, ◌≤◌, ℤ, pos, length, get_or};
 ghost use Rattle.refusals.specs.Refusals.{is_on};
 ghost use Rattle.rows.specs.Lent.{before, after, contour};
@@ -19,7 +20,7 @@ use halving::{Axis, Cubic};
 use refusals::Judged;
 
 // What `from_cubics` answers.
-#[derive(Drop)]
+#[derive(Clone, Copy)]
 pub enum Replaced {
     // the number of a refusal
     Refused(u8),
@@ -28,7 +29,7 @@ pub enum Replaced {
 }
 
 // So many points are made; over: there were more than the row takes; far: one of them is outside 16 bits.
-#[derive(Drop)]
+#[derive(Clone, Copy)]
 pub struct Made {
     pub count: usize,
     pub over: bool,

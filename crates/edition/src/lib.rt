@@ -1,11 +1,12 @@
 // An edition of a surveyed run. The survey's rows are lent to it to be read alone; it has answers and links of
 // its own.
+#![tactic(auto)]
 ghost use Rattle.std.specs.Prelude.{length};
 ghost use Rattle.edition.specs.Edition.{edition_of, FoundBreaks, Works};
 
 use optimize::{Solved, Tally};
 
-#[derive(Drop)]
+#[derive(Clone, Copy)]
 pub enum Worked {
     // 6, 7 or 8
     Refused(u8),

@@ -12,7 +12,7 @@ use crate::work::{Both, Order, crunch_runs};
 use crunch::Crunched;
 use refusals::Judged;
 
-#[derive(Drop)]
+#[derive(Clone, Copy)]
 pub struct Editions {
     pub a: Crunched,
     pub b: Crunched,

@@ -22,7 +22,7 @@ use survey::Surveyed;
 
 // What an order chooses. A penalty is an edition's own; the grid and the mode are shared, since the breaks
 // and the list of runs come of them.
-#[derive(Drop)]
+#[derive(Clone, Copy)]
 pub struct Order {
     pub penalty_a: u32,
     pub penalty_b: u32,
@@ -53,7 +53,7 @@ impl Order {
 }
 
 // How far each edition is.
-#[derive(Drop)]
+#[derive(Clone, Copy)]
 pub struct Both {
     pub a: Crunching,
     pub b: Crunching,

@@ -1,6 +1,7 @@
 // Implied points written out. A contour is three rows: x, y, and flags whose bit 0 means on-curve. It is turned to
 // its first on-curve point, and between two off-curve points that follow each other their middle is put in,
 // on-curve, each coordinate rounded with halves away from zero.
+#![tactic(auto)]
 ghost use Rattle.std.specs.Prelude.{◌≡◌, [], ◌∷◌, ◌++◌, ◌<◌, ◌≤◌, ◌+ℤ◌, length};
 ghost use Rattle.std.specs.Int.Signed.{mag};
 ghost use Rattle.outline.specs.Segments.{on_at};
@@ -16,7 +17,7 @@ use contour::Written;
 use refusals::Judged;
 
 // What `explicit_contour` answers.
-#[derive(Drop)]
+#[derive(Clone, Copy)]
 pub enum Explicit {
     // the number of a refusal
     Refused(u8),

@@ -10,7 +10,7 @@ use editions::{Editions, Order};
 
 // Of one edition the number of a refusal, or 0; points written; pairs tried; lookups that fell in them.
 #[repr(C)]
-#[derive(Drop)]
+#[derive(Clone, Copy)]
 pub struct EditionReport {
     pub number: u32,
     pub points: usize,
@@ -19,7 +19,7 @@ pub struct EditionReport {
 }
 
 #[repr(C)]
-#[derive(Drop)]
+#[derive(Clone, Copy)]
 pub struct EditionsReport {
     pub a: EditionReport,
     pub b: EditionReport,

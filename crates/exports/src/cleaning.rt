@@ -8,7 +8,7 @@ use clean::{Cleaned, Restored};
 
 // The number of a refusal, or 0; points kept; points dropped.
 #[repr(C)]
-#[derive(Drop)]
+#[derive(Clone, Copy)]
 pub struct CleanReport {
     pub number: u32,
     pub kept: usize,
@@ -49,7 +49,7 @@ pub extern "C" fn fontcrunch_clean(
 
 // The number of a refusal, or 0; points written.
 #[repr(C)]
-#[derive(Drop)]
+#[derive(Clone, Copy)]
 pub struct PutReport {
     pub number: u32,
     pub points: usize,

@@ -8,7 +8,7 @@ use cubics::Replaced;
 
 // The number of a refusal, or 0; points written.
 #[repr(C)]
-#[derive(Drop)]
+#[derive(Clone, Copy)]
 pub struct CubicReport {
     pub number: u32,
     pub points: usize,

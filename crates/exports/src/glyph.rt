@@ -14,7 +14,7 @@ use settings::Settings;
 
 // The number of a refusal, or 0; how many contours, points and instruction bytes were read.
 #[repr(C)]
-#[derive(Drop)]
+#[derive(Clone, Copy)]
 pub struct GlyphReadReport {
     pub number: u32,
     pub contours: usize,
@@ -57,7 +57,7 @@ pub extern "C" fn fontcrunch_read_glyph(
 
 // The number of a refusal, or 0; how many bytes were written.
 #[repr(C)]
-#[derive(Drop)]
+#[derive(Clone, Copy)]
 pub struct GlyphWriteReport {
     pub number: u32,
     pub bytes: usize,

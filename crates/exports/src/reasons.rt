@@ -8,7 +8,7 @@ use why::{Explained, Marks};
 
 // The number of a refusal, or 0; a bit for each reason: 1 x, 2 y, 4 before, 8 after, 16 angle.
 #[repr(C)]
-#[derive(Drop)]
+#[derive(Clone, Copy)]
 pub struct WhyReport {
     pub number: u32,
     pub reasons: u32,

@@ -8,7 +8,7 @@ use explicit::Explicit;
 
 // The number of a refusal, or 0; points written.
 #[repr(C)]
-#[derive(Drop)]
+#[derive(Clone, Copy)]
 pub struct ExplicitReport {
     pub number: u32,
     pub points: usize,

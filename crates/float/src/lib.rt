@@ -4,6 +4,7 @@
 // other functions are steps of these: their contracts speak in the words of specs/Steps.antt, and may
 // ask. The steps of the root are public, for the crates quickroot and rootsteps. docs/ROOT.md goes
 // through them on paper.
+#![tactic(auto)]
 ghost use Rattle.std.specs.Prelude.{◌≡◌, ◌+◌, ◌*◌, ◌/◌, ◌^◌, ◌<◌, ◌≤◌};
 ghost use Rattle.std.specs.Float.Ieee as Ieee;
 ghost use Rattle.float.specs.Float.{abs_of, close_to, trunc_of, floor_of, round_of, fract_of, root_of, root_units, root_near};
@@ -142,7 +143,7 @@ pub fn of_bits(b: u64) -> f64
 }
 
 // A whole root with what is left over: root * root + rest is the number whose root this is.
-#[derive(Drop)]
+#[derive(Clone, Copy)]
 pub struct WholeRoot {
     pub root: u64,
     pub rest: u64,
@@ -150,7 +151,7 @@ pub struct WholeRoot {
 
 // A root under way: root * root + rest is what was taken in of a number's digits, and left has the
 // digits that were not, from its top.
-#[derive(Drop)]
+#[derive(Clone, Copy)]
 pub struct Underway {
     pub root: u64,
     pub rest: u64,
@@ -238,7 +239,7 @@ fn root_digits(w: u64) -> u64
 
 // What is left of a root once its x is read: nothing, or the 53 digits of the root of word * 2^42,
 // which count for 2^power times the smallest f64.
-#[derive(Drop)]
+#[derive(Clone, Copy)]
 pub enum Radicand {
     Answer(f64),
     Scaled { word: u64, power: u64 },

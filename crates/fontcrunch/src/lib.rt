@@ -1,5 +1,6 @@
 // The entries for C and Rust programs. A row goes by pointer and length; what each row, room and number
 // means stands in include/fontcrunch.h.
+#![tactic(auto)]
 ghost use Rattle.std.specs.Prelude.{◌≡◌, T};
 ghost use Rattle.std.specs.Float.{binary64};
 ghost use Rattle.std.specs.Float.Ieee.{fits};
@@ -18,7 +19,7 @@ use settings::Settings;
 
 // The number of a refusal, or 0; points written; pairs tried; lookups that fell off the samples in them.
 #[repr(C)]
-#[derive(Drop)]
+#[derive(Clone, Copy)]
 pub struct CrunchReport {
     pub number: u32,
     pub points: usize,
@@ -28,7 +29,7 @@ pub struct CrunchReport {
 
 // The number of a refusal, or 0; pieces written; pairs tried; the score's bits; lookups that fell.
 #[repr(C)]
-#[derive(Drop)]
+#[derive(Clone, Copy)]
 pub struct ChainReport {
     pub number: u32,
     pub pieces: usize,
@@ -39,7 +40,7 @@ pub struct ChainReport {
 
 // The number of a refusal, or 0; 1 where the chain is accepted; lookups that fell in measuring it.
 #[repr(C)]
-#[derive(Drop)]
+#[derive(Clone, Copy)]
 pub struct CheckReport {
     pub number: u32,
     pub accepted: u32,

@@ -1,6 +1,7 @@
 // Contours on standard input, one a line, `x y f x y f ...`; a line out for each: `ok PAIRS x y f ...`,
 // `refused K`, or `malformed`. Streaming: memory does not grow with the lines. `--penalty N` asks for another
 // penalty, in sixteenths; with `--fallen` each answer but `malformed` ends with ` fallen N`, the lookups that fell.
+#![tactic(auto)]
 mod out;
 mod stream;
 

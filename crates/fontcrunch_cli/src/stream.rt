@@ -8,7 +8,7 @@ use crate::out;
 use answering::Order;
 use lines::Fed;
 
-#[derive(Drop)]
+#[derive(Clone, Copy)]
 pub struct Taken {
     // bytes of the line under way, at the start of its buffer
     pub used: usize,

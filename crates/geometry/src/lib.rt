@@ -1,23 +1,24 @@
 // Module 2: points and quads, by value. Each contract equates the result with a definition of
 // specs/Geometry.antt, and asks nothing.
+#![tactic(auto)]
 ghost use Rattle.std.specs.Prelude.{◌≡◌};
 ghost use Rattle.geometry.specs.Geometry.{along_of, lerp_of, is_close, square_distance_of, distance_of, square_norm_of, norm_of, unitize_of, round_point_of};
 ghost use Rattle.geometry.specs.Geometry.{is_int, is_whole, line_quad, is_line, is_smooth, point_at_t, offset_of, crossed_at, intersect_of};
 
-#[derive(Drop)]
+#[derive(Clone, Copy)]
 pub struct Point {
     pub x: f64,
     pub y: f64,
 }
 
-#[derive(Drop)]
+#[derive(Clone, Copy)]
 pub struct Quad {
     pub p0: Point,
     pub p1: Point,
     pub p2: Point,
 }
 
-#[derive(Drop)]
+#[derive(Clone, Copy)]
 pub struct Break {
     pub s: f64,
     pub xy: Point,
@@ -25,7 +26,7 @@ pub struct Break {
 }
 
 // Where two lines cross; no crossing is an answer by itself.
-#[derive(Drop)]
+#[derive(Clone, Copy)]
 pub enum Crossing {
     At(Point),
     Nowhere,

@@ -1,4 +1,5 @@
 // UFO's GLIF, read byte by byte: the open elements, the names, and the points of the contours.
+#![tactic(auto)]
 mod names;
 mod outline;
 mod scan;

@@ -30,7 +30,7 @@ fn offset_of(n: Number) -> usize
 // How many contours, points as they stand, and points as they enter; then of this contour how many points,
 // whether one is on-curve, whether the first is off-curve or a line, and whether the last is off-curve; then
 // what is refused: 19, 20, 14, 21.
-#[derive(Drop)]
+#[derive(Clone, Copy)]
 pub struct Sum {
     pub contours: usize,
     pub points: usize,

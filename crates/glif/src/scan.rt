@@ -7,7 +7,7 @@ use crate::outline::{Sum, keep_point, no_sum, point_met, sum_of};
 use crate::tree::{Tree, no_tree, tree_of};
 use gliftext::{Text, both, class_of, either, fresh_text, is_utf8, move_of, pick, text_of};
 
-#[derive(Drop)]
+#[derive(Clone, Copy)]
 pub struct Scan {
     pub text: Text,
     pub tree: Tree,
@@ -77,7 +77,7 @@ fn number_of(s: Scan, utf8: bool) -> usize
 }
 
 // The number of a refusal, or 0; how many contours, how many points as they stand, and as they enter.
-#[derive(Drop)]
+#[derive(Clone, Copy)]
 pub struct Totals {
     pub number: usize,
     pub contours: usize,

@@ -6,7 +6,7 @@ ghost use Rattle.glif.specs.Tree.{path_word, on_path, entered, left, text_fits, 
 use gliftext::{both, either, less, more, pick};
 
 // `depth` elements are open, the first `level` of them those of the path; the root was met, and an outline.
-#[derive(Drop)]
+#[derive(Clone, Copy)]
 pub struct Tree {
     pub depth: usize,
     pub level: usize,

@@ -64,7 +64,7 @@ fn put(xs: &mut [i16], ys: &mut [i16], flags: &mut [u8], i: usize, x: usize, y: 
 }
 
 // The next place of the rows, and the point before it; before a contour's first point none is off-curve.
-#[derive(Drop)]
+#[derive(Clone, Copy)]
 pub struct Pen {
     pub at: usize,
     pub off: bool,
@@ -165,7 +165,7 @@ fn enter_contour(
 }
 
 // Where a walk over the contours stands: the next place of the points, and of the rows.
-#[derive(Drop)]
+#[derive(Clone, Copy)]
 pub struct Walk {
     pub from: usize,
     pub at: usize,

@@ -1,4 +1,5 @@
 // UFO's GLIF, read into rows.
+#![tactic(auto)]
 mod enter;
 mod place;
 mod read;

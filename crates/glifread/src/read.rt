@@ -11,7 +11,7 @@ use gliftext::pick;
 
 // The number of a refusal, or 0; how many contours and points were read.
 #[repr(C)]
-#[derive(Drop)]
+#[derive(Clone, Copy)]
 pub struct GlifReadReport {
     pub number: u32,
     pub contours: usize,

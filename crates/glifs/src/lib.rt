@@ -1,4 +1,5 @@
 // UFO's GLIF crunched: bytes in, bytes out, each contour by the crunch entry's own definition.
+#![tactic(auto)]
 mod entry;
 mod lent;
 

@@ -8,7 +8,7 @@ use crate::choice::{both, either, more, pick};
 use crate::word::{Number, feed_number, grow, is_char, named_char, narrow, no_number, push};
 
 // A name: its place in the file, and its word.
-#[derive(Drop)]
+#[derive(Clone, Copy)]
 pub struct Name {
     pub at: usize,
     pub word: usize,
@@ -37,7 +37,7 @@ fn refer(r: usize, action: usize, b: u8) -> usize
 }
 
 // The value of an attribute, as a number and as a word.
-#[derive(Drop)]
+#[derive(Clone, Copy)]
 pub struct Value {
     pub number: Number,
     pub word: usize,
@@ -67,7 +67,7 @@ fn value_of(v: Value, action: usize, b: u8, r: usize) -> Value
 }
 
 // What a tag says of a point: x, y, and the type's word.
-#[derive(Drop)]
+#[derive(Clone, Copy)]
 pub struct Point {
     pub x: Number,
     pub y: Number,
@@ -118,7 +118,7 @@ fn say(d: usize, action: usize, name: usize, word: usize) -> usize
 }
 
 // The state of the text, and what is remembered; `attributes` counts those of the tag.
-#[derive(Drop)]
+#[derive(Clone, Copy)]
 pub struct Text {
     pub state: usize,
     pub tag: Name,

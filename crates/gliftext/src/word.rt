@@ -40,7 +40,7 @@ pub fn grow(base: usize, n: usize, b: u8) -> usize
 
 // How far the number is read (0 nothing, 1 a sign, 2 whole digits, 3 a point, 4 digits after it, 5 no number),
 // its size before the point, whether it is below zero, and whether there is a digit but 0 after the point.
-#[derive(Drop)]
+#[derive(Clone, Copy)]
 pub struct Number {
     pub state: usize,
     pub size: usize,

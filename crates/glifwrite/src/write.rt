@@ -13,7 +13,7 @@ use gliftext::{both, either, less, more, pick};
 
 // The file from `from` on is still to be copied; the last `<` stands at `tag`; the next contour is number k;
 // the next place of the output.
-#[derive(Drop)]
+#[derive(Clone, Copy)]
 pub struct Copy {
     pub from: usize,
     pub tag: usize,
@@ -118,7 +118,7 @@ fn refuse(number: usize, contours: usize, ends: &[u16], xs: usize, ys: usize, fl
 
 // The number of a refusal, or 0; how many bytes were written.
 #[repr(C)]
-#[derive(Drop)]
+#[derive(Clone, Copy)]
 pub struct GlifWriteReport {
     pub number: u32,
     pub bytes: usize,

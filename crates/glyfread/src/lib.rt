@@ -1,4 +1,5 @@
 // OpenType's simple glyph descriptions, read into rows.
+#![tactic(auto)]
 mod read;
 mod row;
 mod walk;

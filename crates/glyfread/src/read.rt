@@ -11,7 +11,7 @@ use crate::walk::{Scan, fill_points, points_fit, scan_flags, start};
 use glyf::wide;
 
 // How many contours, points and instruction bytes, or the number of a refusal.
-#[derive(Drop)]
+#[derive(Clone, Copy)]
 pub enum Read {
     Glyph(usize, usize, usize),
     Refused(u8),
@@ -19,7 +19,7 @@ pub enum Read {
 
 // How many contours and points; the instructions' place and how many; the places of flags, x and y
 // differences.
-#[derive(Drop)]
+#[derive(Clone, Copy)]
 pub struct Places {
     pub contours: usize,
     pub points: usize,
@@ -30,7 +30,7 @@ pub struct Places {
     pub ys: usize,
 }
 
-#[derive(Drop)]
+#[derive(Clone, Copy)]
 pub enum Located {
     At(Places),
     Refused(u8),

@@ -9,7 +9,7 @@ ghost use Rattle.glyf.specs.Layout.{laid};
 use crate::row::{bit_of, signed_of, store_i16, store_u8, word_at};
 
 // The next flag: the place after it, how often it is due after this, and the flag.
-#[derive(Drop)]
+#[derive(Clone, Copy)]
 pub enum Flag {
     Is(usize, u8, u8),
     Cut,
@@ -51,7 +51,7 @@ fn width(short: bool, same: bool) -> usize
 }
 
 // One difference, and the place after it.
-#[derive(Drop)]
+#[derive(Clone, Copy)]
 pub enum Delta {
     Is(i32, usize),
     Cut,
@@ -106,7 +106,7 @@ fn delta_at(bytes: &[u8], at: usize, short: bool, same: bool) -> Delta
 }
 
 // A coordinate moved by a difference, in 16 bits or not.
-#[derive(Drop)]
+#[derive(Clone, Copy)]
 pub enum Moved {
     To(i16),
     Outside,
@@ -126,7 +126,7 @@ fn move_by(z: i16, d: i32) -> Moved
 }
 
 // The flags of so many points: where they end, and how many bytes x and y differences take after them.
-#[derive(Drop)]
+#[derive(Clone, Copy)]
 pub enum Scan {
     Is(usize, usize, usize),
     Cut,
@@ -159,7 +159,7 @@ pub fn scan_flags(bytes: &[u8], from: usize, count: usize) -> Scan
 
 // Where the walk stands after a point: the places in flags, x and y differences, how often the flag is due,
 // and the point.
-#[derive(Drop)]
+#[derive(Clone, Copy)]
 pub struct Walk {
     pub flags: usize,
     pub xs: usize,
@@ -170,7 +170,7 @@ pub struct Walk {
     pub y: i16,
 }
 
-#[derive(Drop)]
+#[derive(Clone, Copy)]
 pub enum Step {
     To(Walk),
     Outside,

@@ -7,7 +7,7 @@ ghost use Rattle.glyfwrite.specs.Differences.{difference_of, bits_in, long_by, c
 use crate::put::{put_byte, put_word};
 
 // Whether it goes up, and how far.
-#[derive(Drop)]
+#[derive(Clone, Copy)]
 pub struct Difference {
     pub up: bool,
     pub size: u16,

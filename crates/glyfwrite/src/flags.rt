@@ -37,7 +37,7 @@ fn put_run(out: &mut [u8], at: usize, flag: u8, times: u16) -> usize
 }
 
 // The place after the flags that are put, and the flag that has stood so many times since.
-#[derive(Drop)]
+#[derive(Clone, Copy)]
 pub struct Run {
     pub at: usize,
     pub flag: u8,

@@ -1,4 +1,5 @@
 // OpenType's simple glyph descriptions, written from rows.
+#![tactic(auto)]
 mod bounds;
 mod difference;
 mod flags;

@@ -12,14 +12,14 @@ use crate::put::{put_bytes, put_word, put_words};
 use glyf::{count_of, ends_rise};
 
 // How many bytes, or the number of a refusal.
-#[derive(Drop)]
+#[derive(Clone, Copy)]
 pub enum Wrote {
     Bytes(usize),
     Refused(u8),
 }
 
 // How many points are to be written, or the number of a refusal.
-#[derive(Drop)]
+#[derive(Clone, Copy)]
 pub enum Judged {
     Fine(usize),
     Refused(u8),

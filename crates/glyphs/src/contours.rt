@@ -9,7 +9,7 @@ ghost use Rattle.glyphs.specs.Stands.{Numbers, Part, Adds, Apart, Gathers};
 use crunch::Crunched;
 use settings::Settings;
 
-#[derive(Drop)]
+#[derive(Clone, Copy)]
 pub enum Gathered {
     // the number of a refusal
     Refused(u8),

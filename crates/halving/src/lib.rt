@@ -1,5 +1,6 @@
 // One cubic: halved at 1/2 by midpoints, its third difference, and the control of the quad that replaces it. Each
 // f64 here is exact for cubics of 16-bit points; `nearest` alone rounds.
+#![tactic(auto)]
 ghost use Rattle.std.specs.Prelude.{◌≡◌, ℕ, ℤ};
 ghost use Rattle.halving.specs.Cubic.{nearest};
 ghost use Rattle.float.specs.Dyadic.{Exact};
@@ -7,7 +8,7 @@ ghost use Rattle.halving.specs.Exact.{Roomy, Brought};
 ghost use Rattle.halving.specs.Steps.{mid_of, first_of, second_of, third_of, bent_of, control_of, first_cubic, second_cubic, bent_cubic};
 
 // One coordinate of a cubic's four points.
-#[derive(Drop)]
+#[derive(Clone, Copy)]
 pub struct Axis {
     pub p0: f64,
     pub p1: f64,
@@ -15,14 +16,14 @@ pub struct Axis {
     pub p3: f64,
 }
 
-#[derive(Drop)]
+#[derive(Clone, Copy)]
 pub struct Cubic {
     pub x: Axis,
     pub y: Axis,
 }
 
 // A coordinate rounded, and whether that is outside 16 bits.
-#[derive(Drop)]
+#[derive(Clone, Copy)]
 pub struct Rounded {
     pub value: i16,
     pub far: bool,

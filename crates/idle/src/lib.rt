@@ -2,6 +2,7 @@
 // off-curve point that equals one of its neighbours, going round, is idle: its curve is the line between its ends. It
 // goes, and a list says which place it had and which neighbour it equals: 1 the one before it, 2 the one after it.
 // Whether a place is idle hangs on the upload alone, so that one pass finds them all.
+#![tactic(auto)]
 ghost use Rattle.std.specs.Prelude.{◌≡◌, map, ◌+◌, ◌-◌, ◌<◌, ◌≤◌, length, take};
 ghost use Rattle.refusals.specs.Accepted.{Accepted};
 ghost use Rattle.contour.specs.Output.{outputs};
@@ -17,7 +18,7 @@ use clean::{Cleaned, Restored};
 use refusals::Judged;
 
 // How many points are kept and dropped so far.
-#[derive(Drop)]
+#[derive(Clone, Copy)]
 pub struct Counts {
     pub kept: usize,
     pub dropped: usize,

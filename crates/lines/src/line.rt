@@ -6,14 +6,14 @@ ghost use Rattle.lines.specs.Steps.{as_triple, words_from, onward, Inside};
 use crate::put::put_byte;
 use crate::word::{Coordinate, Flag, end_of, read_coordinate, read_flag};
 
-#[derive(Drop)]
+#[derive(Clone, Copy)]
 pub enum Parsed {
     Points(usize),
     Malformed,
 }
 
 // A point, and the place after the blank that ends it.
-#[derive(Drop)]
+#[derive(Clone, Copy)]
 pub enum Triple {
     Is(i16, i16, u8, usize),
     Not,

@@ -21,7 +21,7 @@ pub fn end_of(bytes: &[u8], from: usize, stop: u8) -> usize
 
 // The number that decimal digits say. What is more than 2^32 counts as that, so that any number of
 // digits can be read: no number that we read has a higher bound.
-#[derive(Drop)]
+#[derive(Clone, Copy)]
 pub enum Size {
     Is(u64),
     Not,
@@ -55,7 +55,7 @@ pub fn read_size(digits: &[u8]) -> Size
     Size::Is(v)
 }
 
-#[derive(Drop)]
+#[derive(Clone, Copy)]
 pub enum Coordinate {
     Is(i16),
     Not,
@@ -104,7 +104,7 @@ pub fn read_coordinate(word: &[u8]) -> Coordinate
     }
 }
 
-#[derive(Drop)]
+#[derive(Clone, Copy)]
 pub enum Flag {
     Is(u8),
     Not,

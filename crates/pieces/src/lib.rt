@@ -1,6 +1,7 @@
 // The pieces of a stored answer. Its links lead from the last piece to the first, so the numbers of the
 // stored answers are written down from the end back; then the pieces are gone through in order, to a chain
 // or to points.
+#![tactic(auto)]
 ghost use Rattle.std.specs.Prelude.{◌≡◌, map, ◌<◌, ◌≤◌, ◌-◌, length, drop};
 ghost use Rattle.breaks.specs.Breaks.{Row};
 ghost use Rattle.contour.specs.Points.{pieces_points};
@@ -76,7 +77,7 @@ fn put_pieces(
 }
 
 // How many pieces are written; or they are more than the shortest chain row: refusal 9.
-#[derive(Drop)]
+#[derive(Clone, Copy)]
 pub enum Put {
     Over,
     Pieces(usize),

@@ -3,6 +3,7 @@
 // 21 speeds serve ten steps, and 20 more the ten after them. Their roots are guessed in a loop of their own, which is
 // compiled to take several at a time, and taken by these guesses in another, where they overlap. Of a straight piece all
 // speeds are one.
+#![tactic(auto)]
 ghost use Rattle.std.specs.Prelude.{true, ◌≡◌, ◌<◌, length, get_or};
 ghost use Rattle.std.specs.Float.{nan};
 ghost use Rattle.arclen.specs.Rk4.{grown_by};

@@ -1,4 +1,5 @@
 // The lookups of module 5, fast: a place and a direction in a row of samples [x, y, direction x, y], both at once.
+#![tactic(auto)]
 ghost use Rattle.std.specs.Prelude.{◌≡◌, ◌^◌, ◌<◌};
 ghost use Rattle.std.specs.Float.Ieee.{to_unsigned};
 ghost use Rattle.float.specs.Float.{fract_of};
@@ -8,13 +9,13 @@ ghost use Rattle.quicklookup.specs.Spots.{spot_between, spot_at};
 use geometry::Point;
 
 // What the samples have at a length: the place and the direction.
-#[derive(Drop)]
+#[derive(Clone, Copy)]
 pub struct Spot {
     pub xy: Point,
     pub dir: Point,
 }
 
-#[derive(Drop)]
+#[derive(Clone, Copy)]
 pub enum Looked {
     At(Spot),
     // At the last stored place: refusal 8.

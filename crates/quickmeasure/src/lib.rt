@@ -1,6 +1,7 @@
 // Module 6, fast: how far a quad is from the samples, by RK4 over two values, the length and the error, in its
 // flat form. The rate of the length looks at the time alone, so that the 40 stages are known before the
 // first lookup, no root is taken twice, and no lookup waits for a term.
+#![tactic(auto)]
 ghost use Rattle.std.specs.Prelude.{true, ◌≡◌, ◌<◌, length, get_or};
 ghost use Rattle.std.specs.Float.{nan};
 ghost use Rattle.quickarclen.specs.Stages.{Written};
@@ -19,7 +20,7 @@ use measure::{Counted, Measure, MeasureFunctor, Measured};
 use quicklookup::Looked;
 
 // A measure that may stop early.
-#[derive(Drop)]
+#[derive(Clone, Copy)]
 pub enum Judged {
     At(Measure, usize),
     Missing,
@@ -28,7 +29,7 @@ pub enum Judged {
 }
 
 // Where a quad is at a time, and its derivative there.
-#[derive(Drop)]
+#[derive(Clone, Copy)]
 struct Node {
     p: Point,
     d: Point,

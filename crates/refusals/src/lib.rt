@@ -1,11 +1,12 @@
 // What a contour is refused for before it is worked: document 01's numbers 1 to 5, each a test of its
 // own, and their order. A contour is three rows: x, y, and flags whose bit 0 means on-curve. Each
 // contract equates the result with a definition of specs/, and asks nothing.
+#![tactic(auto)]
 ghost use Rattle.std.specs.Prelude.{◌≡◌};
 ghost use Rattle.refusals.specs.Refusals.{is_on, both_off, rows_differ, no_point, too_many, first_off, off_neighbours, judged};
 
 // The answer of the five tests: none holds, or the number of the first that does.
-#[derive(Drop)]
+#[derive(Clone, Copy)]
 pub enum Judged {
     Fine,
     Refused(u8),

@@ -3,6 +3,7 @@
 // a contour. A line out for each: `refused N`,
 // `pairs P unchanged`, or `pairs P score S chain C` with START END CX CY of each piece, floats by their bits, and then two
 // verdicts: on this chain, and on it with a score that is one more.
+#![tactic(auto)]
 use chains::Chained;
 use checks::Verdict;
 use libc::{STDIN_FILENO, STDOUT_FILENO};

@@ -1,5 +1,6 @@
 // Reads f64s as bit patterns of 8 bytes, lowest first, and writes for each the patterns of its two
 // roots: the stepped one, then the quick one. A NaN's pattern is 0x7ff8000000000000.
+#![tactic(auto)]
 ghost use Rattle.std.specs.Prelude.{◌+◌, ◌<◌, ◌≤◌, length};
 
 use libc::{STDIN_FILENO, STDOUT_FILENO};

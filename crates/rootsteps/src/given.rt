@@ -1,7 +1,7 @@
 // What a line says.
 ghost use Rattle.std.specs.Prelude.{◌<◌, ◌≤◌};
 
-#[derive(Drop)]
+#[derive(Clone, Copy)]
 pub enum Given {
     Number(f64),
     Malformed,

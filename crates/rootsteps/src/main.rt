@@ -1,6 +1,7 @@
 // Doubles on standard input, one a line; for each the steps of its root, as `float::root` takes them, to
 // be held beside a paper. A line of 16 digits in base 16 is an f64's bits; one of at most 15 decimal
 // digits is a whole number. The first 65,536 bytes of the input are read.
+#![tactic(auto)]
 mod given;
 mod steps;
 mod text;

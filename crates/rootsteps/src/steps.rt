@@ -7,14 +7,14 @@ use crate::text;
 use float::{Radicand, Underway, WholeRoot};
 
 // The place after what was written, and the root.
-#[derive(Drop)]
+#[derive(Clone, Copy)]
 pub struct Stepped {
     pub at: usize,
     pub root: f64,
 }
 
 // The same of the digits alone.
-#[derive(Drop)]
+#[derive(Clone, Copy)]
 pub struct Turns {
     pub at: usize,
     pub whole: WholeRoot,

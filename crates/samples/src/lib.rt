@@ -1,5 +1,6 @@
 // Module 5, the Rust's `Thetas::new`: the samples of a run, a row of [x, y, direction x, y] at each whole arc length, by 100 steps a quad.
 // Each contract equates what is left in the row with a definition of specs/Samples.antt.
+#![tactic(auto)]
 ghost use Rattle.std.specs.Prelude.{◌≡◌, ◌≤◌, length, take};
 ghost use Rattle.float.specs.Numbers.{nought};
 ghost use Rattle.arclen.specs.Arclen.{arclen_functor_of};
@@ -12,7 +13,7 @@ use geometry::{Point, Quad};
 use outline::Seg;
 
 // A step along a quad: the place, the derivative and the length there.
-#[derive(Drop)]
+#[derive(Clone, Copy)]
 pub struct Step {
     pub xy: Point,
     pub d: Point,
@@ -20,7 +21,7 @@ pub struct Step {
 }
 
 // `At(n, ix)`: n places are used, and ix is the next whole length. Full: the row has no place left.
-#[derive(Drop)]
+#[derive(Clone, Copy)]
 pub enum Filled {
     Full,
     At(usize, f64),
@@ -28,7 +29,7 @@ pub enum Filled {
 
 // Where the walk along a run stands: the places used, the next whole length, the last step, and the
 // length so far.
-#[derive(Drop)]
+#[derive(Clone, Copy)]
 pub struct Walk {
     pub n: usize,
     pub ix: f64,
@@ -36,14 +37,14 @@ pub struct Walk {
     pub len: f64,
 }
 
-#[derive(Drop)]
+#[derive(Clone, Copy)]
 pub enum Swept {
     Full,
     At(Walk),
 }
 
 // The places used and the length of the run; Full: refusal 6.
-#[derive(Drop)]
+#[derive(Clone, Copy)]
 pub enum Thetas {
     Full,
     Sampled(usize, f64),

@@ -1,6 +1,7 @@
 // Which segment of its contour holds each break of a run: the sixth number of a break. It is named after
 // the breaks are found and used, so that nothing else can depend on it. Each contract equates the result
 // with a definition of specs/Segments.antt.
+#![tactic(auto)]
 ghost use Rattle.std.specs.Prelude.{◌≡◌, map, ◌-◌, ◌≤◌, length, take};
 ghost use Rattle.float.specs.Numbers.{nought};
 ghost use Rattle.samples.specs.Samples.{length_after, quads_of};

@@ -1,4 +1,5 @@
 // What a caller chooses, handed down by value to whatever works a run; and refusal 16, of that choice.
+#![tactic(auto)]
 ghost use Rattle.std.specs.Prelude.{◌≡◌};
 ghost use Rattle.rows.specs.Lent.{before};
 ghost use Rattle.settings.specs.Settings.{penalty_of, grid_of, crate_settings, settings_fine, judged_for};
@@ -6,7 +7,7 @@ ghost use Rattle.settings.specs.Settings.{penalty_of, grid_of, crate_settings, s
 use breaks::Grid;
 use refusals::Judged;
 
-#[derive(Drop)]
+#[derive(Clone, Copy)]
 pub struct Settings {
     // of a piece, in sixteenths
     pub penalty: u32,

@@ -1,5 +1,6 @@
 // One run surveyed: its samples (module 5), then its breaks (module 7). What is tested of the answer rows
 // is another step: two editions share one survey.
+#![tactic(auto)]
 ghost use Rattle.std.specs.Prelude.{◌≡◌, ◌≤◌, length};
 ghost use Rattle.breaks.specs.Breaks.{breaks_of};
 ghost use Rattle.survey.specs.Survey.{break_room, searched, survey_of, survey_in, samples_used, breaks_used};
@@ -7,7 +8,7 @@ ghost use Rattle.survey.specs.Survey.{break_room, searched, survey_of, survey_in
 use breaks::{Breaks, Grid};
 use samples::Thetas;
 
-#[derive(Drop)]
+#[derive(Clone, Copy)]
 pub enum Surveyed {
     // 6, 7 or 8
     Refused(u8),

@@ -1,5 +1,6 @@
 // Why a run stops where it does: which of the tests that make a segment's start a corner hold there. A contour is
 // three rows: x, y, and flags whose bit 0 means on-curve. No row is written.
+#![tactic(auto)]
 ghost use Rattle.std.specs.Prelude.{◌≡◌};
 ghost use Rattle.rows.specs.Lent.{before, contour};
 ghost use Rattle.outline.specs.Segments.{seg_at, arriving_of, previous};
@@ -11,7 +12,7 @@ use geometry::Point;
 use refusals::Judged;
 
 // Which of the five tests hold: a sign turn in x, in y; a zero tangent before, after; an angle.
-#[derive(Drop)]
+#[derive(Clone, Copy)]
 pub struct Marks {
     pub x: bool,
     pub y: bool,
@@ -21,7 +22,7 @@ pub struct Marks {
 }
 
 // What the entry answers.
-#[derive(Drop)]
+#[derive(Clone, Copy)]
 pub enum Explained {
     // the number of a refusal
     Refused(u8),

@@ -1,5 +1,6 @@
 // The words of a command line, as what they ask for. They stand in one row, each ended by byte 0, which no
 // word has in it. A choice that later words repeat is theirs: the last one counts.
+#![tactic(auto)]
 ghost use Rattle.std.specs.Prelude.{◌≡◌};
 ghost use Rattle.lines.specs.Stream.{ended_by};
 ghost use Rattle.words.specs.Words.{option_of, taken, ended, asked_of};
@@ -8,7 +9,7 @@ ghost use Rattle.words.specs.Steps.{sixteenths_in};
 use lines::Size;
 use settings::{DEFAULT_PENALTY, Settings};
 
-#[derive(Drop)]
+#[derive(Clone, Copy)]
 pub enum Asked {
     // the settings, and whether the lookups that fell are told
     For(Settings, bool),
@@ -17,7 +18,7 @@ pub enum Asked {
 }
 
 // What the words so far ask for.
-#[derive(Drop)]
+#[derive(Clone, Copy)]
 pub enum Reading {
     Has(Settings, bool),
     // the next word is the penalty
