@@ -33,18 +33,24 @@ unfolding lt
 below_whole (fin false p g) n m e v h = absurd (false≢true v.0)
 below_whole (fin true p g) n m e v h =
     lt_of_mul-lt-mul_right (down g) (subst (λ (a : ℕ). a < m * up e * down g) (scaled p g n e v.1) (ltb-true (p * up g * down e) (m * up e * down g) h))
+below_whole nan n m e v h = elim v [ ]
+below_whole (inf _) n m e v h = elim v [ ]
 
 not_below : (z : Float) (n m : ℕ) (e : ℤ) → HasValue z true n 1 → lt (fin true m e) z ≡ false → m * up e ≤ n * down e
 unfolding lt
 not_below (fin false p g) n m e v h = absurd (false≢true v.0)
 not_below (fin true p g) n m e v h =
     le_of_mul-le-mul_right (subst (λ (a : ℕ). m * up e * down g ≤ a) (scaled p g n e v.1) (ltb-false (p * up g * down e) (m * up e * down g) h)) (down_pos g)
+not_below nan n m e v h = elim v [ ]
+not_below (inf _) n m e v h = elim v [ ]
 
 pub positive_below : (z : Float) (n m : ℕ) (e : ℤ) → HasValue z false n 1 → lt (fin false m e) z ≡ true → m * up e < n * down e
 unfolding lt
 positive_below (fin true p g) n m e v h = absurd (true≢false v.0)
 positive_below (fin false p g) n m e v h =
     lt_of_mul-lt-mul_right (down g) (subst (λ (a : ℕ). m * up e * down g < a) (scaled p g n e v.1) (ltb-true (m * up e * down g) (p * up g * down e) h))
+positive_below nan n m e v h = elim v [ ]
+positive_below (inf _) n m e v h = elim v [ ]
 
 -- one less than a negative whole number
 less_one : (z : Float) (n : ℕ) → HasValue z true n 1 → sub binary64 z one ≡ round binary64 true (n + 1) 1
@@ -53,6 +59,8 @@ less_one (fin false p g) n v = absurd (false≢true v.0)
 less_one (fin true p g) n v =
     round_same binary64 true (p * up g * 1 + 1 * down g) (down g * 1) (n + 1) 1 (omega (arith, down_pos g)) (omega arith)
     (omega (arith, v.1, add-mul n 1 (down g)))
+less_one nan n v = elim v [ ]
+less_one (inf _) n v = elim v [ ]
 
 -- ---- the two arms of `floor`
 pub floor_below : (x : Float) → T (fits binary64 x) → lt x (trunc_of x) ≡ true → sub binary64 (trunc_of x) one ≡ floor_of x

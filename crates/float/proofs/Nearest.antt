@@ -126,6 +126,8 @@ units_of (fin t m e) s q f v =
       few = below_prec t m e f;
       is = eq_of_mul-eq-mul_right (down e) (down_pos e) q (m * 2 ^ j) (sym v.1 ∙ mul_assoc m (up e) (2 ^ 1074) ∙ ap (λ (a : ℕ). m * a) pl.1 ∙ sym (mul_assoc m (2 ^ j) (down e)));
     }
+units_of lib.Ieee.nan s q f v = elim v [ ]
+units_of (lib.Ieee.inf _) s q f v = elim v [ ]
 
 side : (a b : ℕ) → (a ≤ b) ⊎ (b < a)
 side a b = go (leb a b) (leb-true a b) (leb-false a b)
@@ -180,6 +182,7 @@ down_sum (suc p) k q l h =
     let u : suc p - 1 ≡ p = omega arith in
     let least : q ≤ p * 2 ^ k = subst (λ (a : ℕ). q ≤ a * 2 ^ k) u h in
     subst (λ (a : ℕ). suc p * 2 ^ k + q ≤ a * 2 ^ k) (sym t) (omega (arith, add-mul (suc p) p (2 ^ k)))
+down_sum zero k q l h = elim l [ ]
 
 module _ {x r : Float} (b : Between-steps x r) where
   abbrev P : ℕ

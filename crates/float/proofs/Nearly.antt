@@ -244,6 +244,8 @@ level_ratio {a = a} {c} (one_sign false m n e d same) (ratio _ _ p v) =
     ∙ ap (λ (k : ℕ). k * down e) v
     ∙ mul_right_comm a (down d) (down e)))
 level_ratio (zeros (is_zero s) (is_zero false)) (ratio _ _ p v) = ratio 0 (pos 0) p v
+level_ratio {a = a} {c = c} (one_sign true m n e d same) x6 = elim x6 [ ]
+level_ratio {a = a} {c = c} (zeros (is_zero s) (is_zero true)) x20 = elim x20 [ ]
 
 -- ---- what is finite has finite parts
 pub add_parts : {x y : Float} → NotNegative x → NotNegative y → T (finite (add binary64 x y)) → T (finite x) × T (finite y)

@@ -41,6 +41,8 @@ itself s m e f = by (round binary64 s (m * up e) (down e)) (round-fits binary64 
     by : (y : Float) → T (fits binary64 y) → HasValue y s (m * up e) (down e) → y ≡ fin s m e
     by (fin t n d) g v =
         ap (λ (u : Bool). fin u n d) v.0 ∙ one_value binary64 s n m d e (subst (λ (u : Bool). T (fits binary64 (fin u n d))) v.0 g) f v.1
+    by nan g v = elim v [ ]
+    by (inf _) g v = elim v [ ]
 
 -- ---- 1 * x
 

@@ -210,6 +210,8 @@ value_cut (fin false m e) a d p v h =
       lt→ltb (m * up e * 1) (2 ^ 64 * down e) (omega (arith, down_pos e)),
       uncapped (cut m e) less ∙ same,
     )
+value_cut nan a d p v h = elim v [ ]
+value_cut (inf _) a d p v h = elim v [ ]
 
 -- the call on 2 * y: what it asks, that its result is below 2 ^ 53, and what half of one more than its result is
 abbrev pub two : Float

@@ -68,6 +68,8 @@ zeros_sub a b = zeros_add a (minus_zero b)
 pub times_zero : (x : Float) {z : Float} → T (finite x) → IsZero z → IsZero (mul binary64 x z)
 unfolding mul
 times_zero (fin s m e) t (is_zero u) = round_zero (unlike s u) (m * up e * 0) (down e * 1) (mul-zero (m * up e)) (mul-pos (down_pos e) (zero-lt-suc 0))
+times_zero nan {z = z} t _ = elim t [ ]
+times_zero (inf _) {z = z} t _ = elim t [ ]
 
 pub zero_finite : {x : Float} → IsZero x → T (finite x)
 zero_finite (is_zero s) = tt
@@ -111,6 +113,8 @@ pub data Level : Float → Float → Type 0 where
 
 pub level_self : (x : Float) → T (finite x) → Level x x
 level_self (fin s m e) t = one_sign s m m e e refl
+level_self nan t = elim t [ ]
+level_self (inf _) t = elim t [ ]
 
 pub level_back : {x y : Float} → Level x y → Level y x
 level_back (one_sign s m n e d h) = one_sign s n m d e (sym h)
@@ -165,6 +169,8 @@ sum_nothing s t a b c p z = by s t
 
 of_value : (x : Float) (s : Bool) (m : ℕ) (e : ℤ) → HasValue x s (m * up e) (down e) → Level x (fin s m e)
 of_value (fin t n d) s m e v = subst (λ (u : Bool). Level (fin u n d) (fin s m e)) (sym v.0) (one_sign s n m d e v.1)
+of_value nan s m e v = elim v [ ]
+of_value (inf _) s m e v = elim v [ ]
 
 -- x + 0
 sum_zero : (s u : Bool) (m : ℕ) (e : ℤ) → add binary64 (fin s (suc m) e) (fin u 0 (pos 0)) ≡ round binary64 s (suc m * up e) (down e)
@@ -176,3 +182,5 @@ sum_zero s u m e =
 pub plus_zero : (x : Float) {z : Float} → T (fits binary64 x) → T (finite x) → IsZero z → Level (add binary64 x z) x
 plus_zero (fin s zero e) f t z = zeros (zeros_add (zero_fits s e f) z) (zero_fits s e f)
 plus_zero (fin s (suc m) e) f t (is_zero u) = rw (sum_zero s u m e) (of_value _ s (suc m) e (own_value s (suc m) e f))
+plus_zero nan f t z = elim t [ ]
+plus_zero (inf _) f t z = elim t [ ]

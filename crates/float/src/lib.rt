@@ -5,6 +5,7 @@
 // ask. The steps of the root are public, for the crates quickroot and rootsteps. docs/ROOT.md goes
 // through them on paper.
 #![tactic(auto)]
+
 ghost use Rattle.std.specs.Prelude.{◌≡◌, ◌+◌, ◌*◌, ◌/◌, ◌^◌, ◌<◌, ◌≤◌};
 ghost use Rattle.std.specs.Float.Ieee as Ieee;
 ghost use Rattle.float.specs.Float.{abs_of, close_to, trunc_of, floor_of, round_of, fract_of, root_of, root_units, root_near};

@@ -1,5 +1,6 @@
 // The text of UFO's GLIF, a small XML: the table of docs/GLIF.md, and what is remembered of names, values and points.
 #![tactic(auto)]
+
 mod choice;
 mod table;
 mod text;

@@ -1,4 +1,5 @@
 -- What was read is written again and says the same; and the box of what is written. Assumes nothing.
+use Rattle.std.specs.Prelude.{◌+ℤ◌}
 use Prim.Native.Nat.{ℕ, zero, suc, ◌+◌, ◌-◌, ◌*◌, ◌%◌, ◌≤◌, ◌<◌}
 use mathlib.Core.Bool.{Bool, true, false, not, ◌&&◌}
 use mathlib.Core.List.{List, [], ◌∷◌, map}
@@ -199,7 +200,7 @@ parts_fit n bs p end h e =
 pub sums_length : (z : ℤ) (ds : List ℤ) → length (sums z ds) ≡ length ds
 unfolding sums
 sums_length z [] = refl
-sums_length z (d ∷ ds) = ap suc (sums_length _ ds)
+sums_length z (d ∷ ds) = ap suc (sums_length (z +ℤ d) ds)
 
 -- a glyph that was read: it can be written, its instructions fit their field, and its flags are 1 or 0
 record Readable (g : Glyph) : Type 0 where

@@ -46,6 +46,8 @@ said fs [] (dx ∷ dxs) dys e h a = absurd (omega arith)
 said fs [] [] (dy ∷ dys) e h a = absurd (omega arith)
 said fs (o ∷ os) [] dys e h a = absurd (omega arith)
 said fs (o ∷ os) (dx ∷ dxs) [] e h a = absurd (omega arith)
+said (f ∷ fs) [] [] [] e h a = elim a [ ]
+said [] (o ∷ os) (dx ∷ dxs) (dy ∷ dys) e h a = elim a [ ]
 
 xs_back : {fs os : List ℕ} {dxs dys : List ℤ} → Saying fs os dxs dys → all16 dxs ≡ true → (rest : List ℕ) →
     differences 2 16 fs (joined (map code_of dxs) ++ rest) ≡ taken dxs rest

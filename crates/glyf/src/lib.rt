@@ -1,5 +1,6 @@
 // OpenType's simple glyph descriptions: the layout (specs/Layout), and what is asked of a row of ends.
 #![tactic(auto)]
+
 ghost use Rattle.std.specs.Prelude.{◌≡◌, ◌<◌, ◌≤◌};
 ghost use Rattle.glyf.specs.Layout.{count_of, rising};
 

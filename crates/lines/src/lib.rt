@@ -1,6 +1,7 @@
 // The text of our programs, on lent slices: a line of whole numbers is read into rows, and numbers are
 // written as text. Each contract equates what is left with a definition of specs/.
 #![tactic(auto)]
+
 mod answer;
 mod line;
 mod put;

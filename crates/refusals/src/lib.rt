@@ -2,6 +2,7 @@
 // own, and their order. A contour is three rows: x, y, and flags whose bit 0 means on-curve. Each
 // contract equates the result with a definition of specs/, and asks nothing.
 #![tactic(auto)]
+
 ghost use Rattle.std.specs.Prelude.{◌≡◌};
 ghost use Rattle.refusals.specs.Refusals.{is_on, both_off, rows_differ, no_point, too_many, first_off, off_neighbours, judged};
 

@@ -1,6 +1,7 @@
 // Rooms and zeros: how many places are there, and scratch rows that are zero throughout. One law serves
 // every type of row.
 #![tactic(auto)]
+
 ghost use Rattle.std.specs.Prelude.{◌≡◌, min, length, replicate};
 ghost use Rattle.rows.specs.Rows.{sample_zero, break_zero, answer_zero, link_zero, point_zero, work, zero_work};
 

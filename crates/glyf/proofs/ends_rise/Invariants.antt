@@ -1,0 +1,14 @@
+-- `glyf::ends_rise` meets its contract. The loop's invariant: whether the ends rise is not settled before place i - 1. Assumes nothing.
+use native.Mathlib.Omega.{arith}
+use Prim.Native.Nat.{◌-◌, ◌≤◌}
+use mathlib.Core.Path.{◌≡◌, refl, sym, ◌∙◌}
+use lib.ListN.{length, drop}
+use Rattle.glyf.specs.Layout.{rising}
+use Rattle.glyf.proofs.Rises.{rise_end, rise_stops, rise_goes}
+use Rattle.glyf.proofs.ends_rise.Given as goal
+
+abbrev pub invariant-loop-i : goal.invariant-loop-i
+invariant-loop-i l = (1 ≤ l.i) × (rising l.ends ≡ rising (drop (l.i - 1) l.ends))
+
+abbrev pub decreases-loop-i : goal.decreases-loop-i
+decreases-loop-i l = length l.ends - l.i

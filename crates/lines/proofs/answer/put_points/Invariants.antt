@@ -1,0 +1,17 @@
+-- `lines::answer::put_points` meets its contract. The loop's invariant: the points that are left, put from here, make the whole. Assumes nothing.
+use Prim.Native.Nat.{◌-◌}
+use native.Mathlib.Numerals.{unary_clauses}
+use native.Mathlib.Omega.{arith}
+use mir.Facts.{to_z-of_z}
+use borrow.Author.Rules.{sfits_of}
+use Rattle.lines.specs.Answer.{points_text}
+use Rattle.lines.proofs.Texts.{Going, begin}
+use Rattle.lines.proofs.Answers.{as_point, next_point, all_points}
+use borrow.Author.Rules.{rules}
+use Rattle.lines.proofs.answer.put_points.Given as goal
+
+abbrev pub invariant-loop-i : goal.invariant-loop-i
+invariant-loop-i l = Going l.initial.out l.at (points_text l.xs l.ys l.flags l.n 0) l.out l.a (points_text l.xs l.ys l.flags (l.n - l.i) l.i)
+
+abbrev pub decreases-loop-i : goal.decreases-loop-i
+decreases-loop-i l = l.n - l.i

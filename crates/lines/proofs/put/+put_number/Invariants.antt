@@ -1,0 +1,5 @@
+-- `lines::put::put_number`, which calls itself: the measure is the number.
+use Rattle.lines.proofs.put.+put_number.Given as goal
+
+abbrev pub decreases-put_number : goal.decreases-put_number
+decreases-put_number l = l.n

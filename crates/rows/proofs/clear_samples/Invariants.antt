@@ -1,0 +1,15 @@
+-- `rows::clear_samples` meets its contract, by the law of proofs/Filled.antt. Assumes nothing.
+use Prim.Native.Nat.{◌-◌}
+use native.Mathlib.Omega.{arith}
+use mathlib.Core.Path.{◌≡◌, refl}
+use borrow.Author.Rules.{rules}
+use lib.ListN.{length, replicate}
+use Rattle.rows.specs.Rows.{sample_zero}
+use Rattle.rows.proofs.Filled.{Filled, blank_start, blank_more, blank_all}
+use Rattle.rows.proofs.clear_samples.Given as goal
+
+abbrev pub invariant-loop-i : goal.invariant-loop-i
+invariant-loop-i l = (l.i-end ≡ length l.initial.samples) × Filled (replicate (length l.initial.samples) sample_zero) l.initial.samples l.samples l.i
+
+abbrev pub decreases-loop-i : goal.decreases-loop-i
+decreases-loop-i l = l.i-end - l.i
