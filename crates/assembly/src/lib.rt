@@ -50,8 +50,8 @@ pub fn step(
     points: &mut [[i16; 3]],
 ) -> Crunching
     requires { FoundBreaks breaks.now × Upto 1024 p.tally }
-    ensures { Adds (added (unchanged_in (before xs) (before ys) (before flags) settings.closed)
-        (edition_of (room answers) (room links) (before samples) (before breaks) (penalty_of settings))) points p result }
+    ensures { Adds (added (unchanged_in xs.now ys.now flags.now settings.closed)
+        (edition_of (room answers) (room links) samples.now breaks.now (penalty_of settings))) points p result }
 {
     let sofar = p.tally;
     match edition::edition(samples, breaks, answers, links, settings.per_piece()) {
@@ -84,8 +84,8 @@ pub fn after_survey(
     points: &mut [[i16; 3]],
 ) -> Crunching
     requires { Sighted samples.now breaks.now s × Upto 1024 p.tally }
-    ensures { Adds (added (unchanged_in (before xs) (before ys) (before flags) settings.closed)
-        (after_survey (room answers) (room links) (penalty_of settings) (survey_in (before samples) (before breaks) s))) points p result }
+    ensures { Adds (added (unchanged_in xs.now ys.now flags.now settings.closed)
+        (after_survey (room answers) (room links) (penalty_of settings) (survey_in samples.now breaks.now s))) points p result }
 {
     match s {
         Surveyed::Refused(k) => Crunching::Refused(k),
@@ -127,9 +127,9 @@ fn work_run(
     points: &mut [[i16; 3]],
 ) -> Crunching
     requires { Upto 1024 p.tally }
-    ensures { Adds (added (unchanged_in (before xs) (before ys) (before flags) settings.closed)
+    ensures { Adds (added (unchanged_in xs.now ys.now flags.now settings.closed)
         (result_of (rooms_in samples breaks answers links) settings
-        (before xs) (before ys) (before flags) (record { first = first; count = count }))) points p result }
+        xs.now ys.now flags.now (record { first = first; count = count }))) points p result }
 {
     let s = quicksurvey::survey(
         xs,
@@ -163,7 +163,7 @@ fn crunch_run(
 ) -> Crunching
     requires { Upto 1024 p.tally }
     ensures { Adds (after_run (rooms_in samples breaks answers links) settings
-        (before xs) (before ys) (before flags) (record { first = first; count = count })) points p result }
+        xs.now ys.now flags.now (record { first = first; count = count })) points p result }
 {
     let a = outline::start_of(flags, first);
     if runs::is_copied_from(xs, ys, flags, a, count) {
@@ -191,8 +191,8 @@ fn crunch_runs(
     points: &mut [[i16; 3]],
 ) -> Crunching
     requires { (length stops.now ≤ 1025) × (from.tally ≡ untried) }
-    ensures { Onward (λ ps tally. crunch_all (rooms_in samples breaks answers links) settings (before xs) (before ys) (before flags)
-        (between (before stops)) (going ps tally)) (before points) (after points) from (room points) result }
+    ensures { Onward (λ ps tally. crunch_all (rooms_in samples breaks answers links) settings xs.now ys.now flags.now
+        (between stops.now) (going ps tally)) (before points) (after points) from (room points) result }
 {
     let mut p = from;
     let mut k = 0;
@@ -248,7 +248,7 @@ fn crunch_round(
 ) -> Crunching
     requires { length stops.now ≤ 1025 }
     ensures { Stands (room points) (after points)
-        (crunch_round (rooms_in samples breaks answers links) settings (before xs) (before ys) (before flags) (before stops)) result }
+        (crunch_round (rooms_in samples breaks answers links) settings xs.now ys.now flags.now stops.now) result }
 {
     if stops.len() == 0 {
         let w = contour::unchanged_in(xs, ys, flags, settings.closed, points);
@@ -298,7 +298,7 @@ fn crunch_listed(
 ) -> Crunching
     requires { (length stops.now ≤ 1025) × (stops.now ≡ stops_of settings.closed xs.now ys.now flags.now) }
     ensures { Stands (room points) (after points)
-        (crunch_runs (rooms_in samples breaks answers links) settings (before xs) (before ys) (before flags)) result }
+        (crunch_runs (rooms_in samples breaks answers links) settings xs.now ys.now flags.now) result }
 {
     if settings.closed {
         return crunch_round(
@@ -341,7 +341,7 @@ fn crunch_few(
 ) -> Crunching
     requires { length flags.now ≤ 32 }
     ensures { Stands (room points) (after points)
-        (crunch_runs (rooms_in samples breaks answers links) settings (before xs) (before ys) (before flags)) result }
+        (crunch_runs (rooms_in samples breaks answers links) settings xs.now ys.now flags.now) result }
 {
     let mut list = [0usize; 33];
     let n = runs::list_few_stops(xs, ys, flags, settings.closed, &mut list);
@@ -372,7 +372,7 @@ pub fn crunch_points(
     points: &mut [[i16; 3]],
 ) -> Crunching
     ensures { Stands (room points) (after points)
-        (crunch_runs (rooms_in samples breaks answers links) settings (before xs) (before ys) (before flags)) result }
+        (crunch_runs (rooms_in samples breaks answers links) settings xs.now ys.now flags.now) result }
 {
     if flags.len() <= 32 {
         return crunch_few(

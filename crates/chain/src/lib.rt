@@ -6,7 +6,7 @@ mod sum;
 mod valid;
 
 ghost use Rattle.std.specs.Prelude.{◌≡◌, ◌<◌, ◌≤◌, length};
-ghost use Rattle.rows.specs.Lent.{before};
+
 ghost use Rattle.chain.specs.Valid.{check_rows};
 ghost use Rattle.chain.specs.Fallen.{fallen_rows};
 
@@ -67,8 +67,8 @@ pub fn check(
     penalty: f64,
 ) -> Checking
     requires { (0 < length breaks.now) × (length breaks.now ≤ 2048) }
-    ensures { (result.said ≡ check_rows (before samples) (before breaks) penalty (before starts) (before ends) (before xs) (before ys) score)
-        × (result.fallen ≡ fallen_rows (before samples) (before breaks) penalty (before starts) (before ends) (before xs) (before ys)) }
+    ensures { (result.said ≡ check_rows samples.now breaks.now penalty starts.now ends.now xs.now ys.now score)
+        × (result.fallen ≡ fallen_rows samples.now breaks.now penalty starts.now ends.now xs.now ys.now) }
 {
     if !shape::are_even(starts, ends, xs, ys) {
         return Checking {

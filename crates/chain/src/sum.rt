@@ -33,8 +33,8 @@ pub fn sum(
 ) -> Total
     requires breaks_nonzero { (0 < length breaks.now) × (even_rows starts.now ends.now xs.now ys.now ≡ true) × (length breaks.now ≤ 2048) }
     requires ys_value { joined (length breaks.now - 1) (chain_in starts.now ends.now xs.now ys.now) ≡ true }
-    ensures { (result.sum ≡ sum_of (before samples) (before breaks) penalty (chain_in (before starts) (before ends) (before xs) (before ys)))
-        × (result.fallen ≡ fallen_of_sum (before samples) (before breaks) penalty (chain_in (before starts) (before ends) (before xs) (before ys))) }
+    ensures { (result.sum ≡ sum_of samples.now breaks.now penalty (chain_in starts.now ends.now xs.now ys.now))
+        × (result.fallen ≡ fallen_of_sum samples.now breaks.now penalty (chain_in starts.now ends.now xs.now ys.now)) }
 {
     let mut before = Before::Start;
     let mut s = 0.0;

@@ -40,7 +40,7 @@ pub enum Chained {
 // The segments of n pieces, of which starts and ends tell the breaks.
 fn put_spans(breaks: &[[f64; 6]], starts: &[u32], ends: &[u32], n: usize, spans: &mut [[u32; 2]])
     requires { (n ≤ length starts.now) × (n ≤ length ends.now) × (n ≤ length spans.old) }
-    ensures { spans.new ≡ front (spans_from (before breaks) (take n (before starts)) (take n (before ends))) (before spans) }
+    ensures { spans.new ≡ front (spans_from breaks.now (take n starts.now) (take n ends.now)) (before spans) }
 {
     let mut i = 0;
     while i < n {
@@ -65,8 +65,8 @@ fn put_solved(
     spans: &mut [[u32; 2]],
 ) -> Chained
     requires { Held answers.now links.now k }
-    ensures { (b : Row) (a : Statelet) → Holds Anywhere b (before answers) (before links) k a →
-        Hands (chain_out (room_in (chain_in starts ends cxs cys spans).entry) (solved a tally)) (before breaks) (chain_in starts ends cxs cys spans) result }
+    ensures { (b : Row) (a : Statelet) → Holds Anywhere b answers.now links.now k a →
+        Hands (chain_out (room_in (chain_in starts ends cxs cys spans).entry) (solved a tally)) breaks.now (chain_in starts ends cxs cys spans) result }
 {
     match pieces::put_chain(answers, links, k, spans.len(), starts, ends, cxs, cys) {
         Put::Over => Chained::Refused(9),
@@ -89,8 +89,8 @@ fn put_worked(
     spans: &mut [[u32; 2]],
 ) -> Chained
     requires { Readable answers.now links.now worked }
-    ensures { (penalty : Float) (b : Row) (x : Result) → Works penalty b (before answers) (before links) x worked →
-        Hands (chain_out (room_in (chain_in starts ends cxs cys spans).entry) x) (before breaks) (chain_in starts ends cxs cys spans) result }
+    ensures { (penalty : Float) (b : Row) (x : Result) → Works penalty b answers.now links.now x worked →
+        Hands (chain_out (room_in (chain_in starts ends cxs cys spans).entry) x) breaks.now (chain_in starts ends cxs cys spans) result }
 {
     match worked {
         Worked::Refused(n) => Chained::Refused(n),
@@ -123,8 +123,8 @@ fn chain_surveyed(
 ) -> Chained
     requires { FoundBreaks breaks.old × (first ≤ 2048) × (count ≤ 2048) }
     ensures { Hands (chain_out (room_in (chain_in starts ends cxs cys spans).entry)
-        (edition_of (room answers) (room links) (before samples) (before breaks) penalty))
-        (carried (before xs) (before ys) (before flags) first count (before breaks)) (chain_in starts ends cxs cys spans) result }
+        (edition_of (room answers) (room links) samples.now (before breaks) penalty))
+        (carried xs.now ys.now flags.now first count (before breaks)) (chain_in starts ends cxs cys spans) result }
 {
     let worked = edition::edition(samples, breaks, answers, links, penalty);
     segments::name(xs, ys, flags, first, count, breaks);
@@ -153,8 +153,8 @@ fn chain_run(
 ) -> Chained
     requires { (first ≤ 2048) × (count ≤ 2048) }
     ensures { Hands (of_run (rooms_in samples breaks answers links) (room_in (chain_in starts ends cxs cys spans).entry) settings
-        (before xs) (before ys) (before flags) (Between first count))
-        (breaks_of (rooms_in samples breaks answers links) settings (before xs) (before ys) (before flags) (Between first count))
+        xs.now ys.now flags.now (Between first count))
+        (breaks_of (rooms_in samples breaks answers links) settings xs.now ys.now flags.now (Between first count))
         (chain_in starts ends cxs cys spans) result }
 {
     let penalty = settings.per_piece();
@@ -214,8 +214,8 @@ fn chain_fine(
 ) -> Chained
     requires { length flags.now ≤ 1024 }
     ensures { Hands (of_run (rooms_in samples breaks answers links) (room_in (chain_in starts ends cxs cys spans).entry) settings
-        (before xs) (before ys) (before flags) (numbered_run settings.closed (before xs) (before ys) (before flags) k))
-        (breaks_at (rooms_in samples breaks answers links) settings (before xs) (before ys) (before flags) k) (chain_in starts ends cxs cys spans) result }
+        xs.now ys.now flags.now (numbered_run settings.closed xs.now ys.now flags.now k))
+        (breaks_at (rooms_in samples breaks answers links) settings xs.now ys.now flags.now k) (chain_in starts ends cxs cys spans) result }
 {
     match runs::numbered_run(xs, ys, flags, settings.closed, k) {
         Run::Nothing => Chained::Refused(10),
@@ -245,8 +245,8 @@ fn chain_judged(
     links: &mut [u32],
 ) -> Chained
     ensures { Hands (chain_of (rooms_in samples breaks answers links) (room_in (chain_in starts ends cxs cys spans).entry) settings
-        (before xs) (before ys) (before flags) k)
-        (breaks_at (rooms_in samples breaks answers links) settings (before xs) (before ys) (before flags) k) (chain_in starts ends cxs cys spans) result }
+        xs.now ys.now flags.now k)
+        (breaks_at (rooms_in samples breaks answers links) settings xs.now ys.now flags.now k) (chain_in starts ends cxs cys spans) result }
 {
     match settings.judge(xs, ys, flags) {
         Judged::Refused(n) => Chained::Refused(n),

@@ -1,7 +1,7 @@
 -- What the checker's entry hands back and leaves in every lent row. Definitions only.
 use Rattle.std.specs.Prelude.{ℕ, Bool, true, false, ◌≡◌, Float}
 use Rattle.rows.specs.Rows.{Work}
-use Rattle.rows.specs.Lent.{Lent, before, Inputs, inputs}
+use Rattle.rows.specs.Lent.{Shared, shared, Inputs, inputs}
 use Rattle.settings.specs.declared.Settings.{Settings}
 use Rattle.rows.specs.Scratch.{Scratch, rooms_of, cleared}
 use Rattle.checks.specs.Checks.{GivenChain, check_of}
@@ -24,8 +24,8 @@ abbrev pub report : Ruling → Report
 report r = report_of r.verdict r.fallen
 
 -- a chain as it is lent, to be read
-abbrev pub chain_given : Lent ℕ → Lent ℕ → Lent Float → Lent Float → Float → GivenChain
-chain_given starts ends cxs cys score = record { starts = before starts; ends = before ends; xs = before cxs; ys = before cys; score = score }
+abbrev pub chain_given : Shared ℕ → Shared ℕ → Shared Float → Shared Float → Float → GivenChain
+chain_given starts ends cxs cys score = record { starts = shared starts; ends = shared ends; xs = shared cxs; ys = shared cys; score = score }
 
 -- a chain for run k of a contour
 abbrev pub whole_of : Inputs → Settings → ℕ → GivenChain → Work → Ruling

@@ -3,7 +3,7 @@
 // rooms alone: the checker has the same rooms as the optimiser.
 #![tactic(auto)]
 ghost use Rattle.std.specs.Prelude.{◌≡◌, ◌<◌, ◌≤◌, length};
-ghost use Rattle.rows.specs.Lent.{before, room, contour};
+ghost use Rattle.rows.specs.Lent.{room, contour};
 ghost use Rattle.runs.specs.Runs.{numbered_run};
 ghost use Rattle.settings.specs.Settings.{grid_of, penalty_of, judged_for};
 ghost use Rattle.survey.specs.Survey.{surveyed, survey_of};
@@ -65,7 +65,7 @@ fn check_surveyed(
 ) -> Ruling
     requires { (0 < length breaks.now) × (length breaks.now ≤ 2048) }
     ensures { result ≡ of_survey half (penalty_of settings) (chain_given starts ends cxs cys score)
-        (surveyed (before samples) (before breaks)) }
+        (surveyed samples.now breaks.now) }
 {
     if half < breaks.len() {
         return refused(7);
@@ -105,7 +105,7 @@ fn check_run(
     breaks: &mut [[f64; 6]],
 ) -> Ruling
     ensures { result ≡ of_survey half (penalty_of settings) (chain_given starts ends cxs cys score)
-        (survey_of (room samples) (room breaks) (before xs) (before ys) (before flags) first count (grid_of settings)) }
+        (survey_of (room samples) (room breaks) xs.now ys.now flags.now first count (grid_of settings)) }
 {
     match survey::survey(
         xs,
@@ -152,7 +152,7 @@ fn check_fine(
     breaks: &mut [[f64; 6]],
 ) -> Ruling
     ensures { result ≡ of_run half settings (chain_given starts ends cxs cys score)
-        (room samples) (room breaks) (before xs) (before ys) (before flags) (numbered_run settings.closed (before xs) (before ys) (before flags) k) }
+        (room samples) (room breaks) xs.now ys.now flags.now (numbered_run settings.closed xs.now ys.now flags.now k) }
 {
     match runs::numbered_run(xs, ys, flags, settings.closed, k) {
         Run::Nothing => refused(10),
@@ -180,8 +180,8 @@ fn check_judged(
     samples: &mut [[f64; 4]],
     breaks: &mut [[f64; 6]],
 ) -> Ruling
-    ensures { result ≡ after_judging (judged_for settings (before xs) (before ys) (before flags)) (of_run half settings (chain_given starts ends cxs cys score)
-        (room samples) (room breaks) (before xs) (before ys) (before flags) (numbered_run settings.closed (before xs) (before ys) (before flags) k)) }
+    ensures { result ≡ after_judging (judged_for settings xs.now ys.now flags.now) (of_run half settings (chain_given starts ends cxs cys score)
+        (room samples) (room breaks) xs.now ys.now flags.now (numbered_run settings.closed xs.now ys.now flags.now k)) }
 {
     match settings.judge(xs, ys, flags) {
         Judged::Refused(n) => refused(n),

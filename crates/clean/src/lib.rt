@@ -43,27 +43,27 @@ pub struct Passed {
 
 // A coordinate by its number, 0 past the end.
 fn coordinate(row: &[i16], i: usize) -> i16
-    ensures { result ≡ get_or (before row) i (pos 0) }
+    ensures { result ≡ get_or row.now i (pos 0) }
 {
     if i < row.len() { row[i] } else { 0 }
 }
 
 fn flag(row: &[u8], i: usize) -> u8
-    ensures { result ≡ get_or (before row) i 0 }
+    ensures { result ≡ get_or row.now i 0 }
 {
     if i < row.len() { row[i] } else { 0 }
 }
 
 // Whether coordinates a and b of a row are equal.
 fn same_in(row: &[i16], a: usize, b: usize) -> bool
-    ensures { result ≡ same (get_or (before row) a (pos 0)) (get_or (before row) b (pos 0)) }
+    ensures { result ≡ same (get_or row.now a (pos 0)) (get_or row.now b (pos 0)) }
 {
     coordinate(row, a) == coordinate(row, b)
 }
 
 // Whether points a and b are equal in x and y.
 pub fn same_place(xs: &[i16], ys: &[i16], a: usize, b: usize) -> bool
-    ensures { result ≡ same_place (before xs) (before ys) a b }
+    ensures { result ≡ same_place xs.now ys.now a b }
 {
     if same_in(xs, a, b) {
         return same_in(ys, a, b);
@@ -72,7 +72,7 @@ pub fn same_place(xs: &[i16], ys: &[i16], a: usize, b: usize) -> bool
 }
 
 pub fn on_place(flags: &[u8], i: usize) -> bool
-    ensures { result ≡ on_place (before flags) i }
+    ensures { result ≡ on_place flags.now i }
 {
     refusals::is_on(flag(flags, i))
 }
@@ -87,7 +87,7 @@ pub fn following(i: usize, n: usize) -> usize
 
 // Why point i goes, for before: on-curve and equal to the on-curve point before it.
 fn is_before(xs: &[i16], ys: &[i16], flags: &[u8], last: usize, i: usize) -> bool
-    ensures { result ≡ is_before (on_place (before flags)) (same_place (before xs) (before ys)) 0 last i }
+    ensures { result ≡ is_before (on_place flags.now) (same_place xs.now ys.now) 0 last i }
 {
     if !on_place(flags, i) {
         return false;
@@ -100,7 +100,7 @@ fn is_before(xs: &[i16], ys: &[i16], flags: &[u8], last: usize, i: usize) -> boo
 
 // For both: off-curve and equal to both neighbours.
 fn is_both(xs: &[i16], ys: &[i16], flags: &[u8], last: usize, i: usize, next: usize) -> bool
-    ensures { result ≡ is_both (on_place (before flags)) (same_place (before xs) (before ys)) 0 last i next }
+    ensures { result ≡ is_both (on_place flags.now) (same_place xs.now ys.now) 0 last i next }
 {
     if on_place(flags, i) {
         return false;
@@ -114,7 +114,7 @@ fn is_both(xs: &[i16], ys: &[i16], flags: &[u8], last: usize, i: usize, next: us
 // Why point i goes after the last point kept, whatever comes at the end: 1 before, 2 both, 0 neither.
 fn repeats(xs: &[i16], ys: &[i16], flags: &[u8], last: usize, i: usize) -> u32
     requires { i < length flags.now }
-    ensures { result ≡ repeats (on_place (before flags)) (same_place (before xs) (before ys)) 0 last i (after_of i (length (before flags))) }
+    ensures { result ≡ repeats (on_place flags.now) (same_place xs.now ys.now) 0 last i (after_of i (length flags.now)) }
 {
     if is_before(xs, ys, flags, last, i) {
         return 1;
@@ -150,8 +150,8 @@ impl Passed {
 // point is written over it.
 fn pass(xs: &[i16], ys: &[i16], flags: &[u8], kept: &mut [u32], gone: &mut [[u32; 2]]) -> Passed
     requires { Roomy (length flags.now) (length kept.old) (length gone.old) }
-    ensures { Stands (length (before flags)) (after kept) (after gone) result
-        (passing (on_place (before flags)) (same_place (before xs) (before ys)) 0 start_of (up_from 1 (length (before flags) - 1))) }
+    ensures { Stands (length flags.now) (after kept) (after gone) result
+        (passing (on_place flags.now) (same_place xs.now ys.now) 0 start_of (up_from 1 (length flags.now - 1))) }
 {
     kept[0] = 0;
     let mut at = Passed {
@@ -174,7 +174,7 @@ fn pass(xs: &[i16], ys: &[i16], flags: &[u8], kept: &mut [u32], gone: &mut [[u32
 
 // Whether the last point kept is on-curve and equal to the first, and is not the first itself.
 fn ends_first(xs: &[i16], ys: &[i16], flags: &[u8], at: Passed) -> bool
-    ensures { result ≡ ends_first (on_place (before flags)) (same_place (before xs) (before ys)) at }
+    ensures { result ≡ ends_first (on_place flags.now) (same_place xs.now ys.now) at }
 {
     if at.kept <= 1 {
         return false;
@@ -188,7 +188,7 @@ fn ends_first(xs: &[i16], ys: &[i16], flags: &[u8], at: Passed) -> bool
 // After the pass: the last point kept may go for first.
 fn close(xs: &[i16], ys: &[i16], flags: &[u8], gone: &mut [[u32; 2]], at: Passed) -> Passed
     requires { (1 ≤ at.kept) × (at.dropped < length gone.old) × (at.last < 1024) }
-    ensures { Closed (ends_first (on_place (before flags)) (same_place (before xs) (before ys)) at) at (before gone) (after gone) result }
+    ensures { Closed (ends_first (on_place flags.now) (same_place xs.now ys.now) at) at (before gone) (after gone) result }
 {
     if ends_first(xs, ys, flags, at) {
         let d = at.dropped;
@@ -205,7 +205,7 @@ fn close(xs: &[i16], ys: &[i16], flags: &[u8], gone: &mut [[u32; 2]], at: Passed
 // The numbers of the points kept, and the drops in their order, in the first places of two rows.
 fn sweep(xs: &[i16], ys: &[i16], flags: &[u8], kept: &mut [u32], gone: &mut [[u32; 2]]) -> Passed
     requires { Accepted xs.now ys.now flags.now × Roomy (length flags.now) (length kept.old) (length gone.old) }
-    ensures { Holds (after kept) (after gone) result (clean_of (before xs) (before ys) (before flags) (length (before flags) - 1)) }
+    ensures { Holds (after kept) (after gone) result (clean_of xs.now ys.now flags.now (length flags.now - 1)) }
 {
     let at = pass(xs, ys, flags, kept, gone);
     close(xs, ys, flags, gone, at)
@@ -216,7 +216,7 @@ fn sweep(xs: &[i16], ys: &[i16], flags: &[u8], kept: &mut [u32], gone: &mut [[u3
 // The coordinates with the first n numbers, to the first n places of a row.
 fn copy_coordinates(row: &[i16], numbers: &[u32], n: usize, out: &mut [i16])
     requires { (n ≤ length numbers.now) × (n ≤ length out.old) }
-    ensures { after out ≡ front (map (coordinate_in (before row)) (take n (before numbers))) (before out) }
+    ensures { after out ≡ front (map (coordinate_in row.now) (take n numbers.now)) (before out) }
 {
     for i in 0..n {
         out[i] = coordinate(row, numbers[i] as usize);
@@ -226,7 +226,7 @@ fn copy_coordinates(row: &[i16], numbers: &[u32], n: usize, out: &mut [i16])
 // Bit 0 of the flags with the first n numbers.
 fn copy_flags(row: &[u8], numbers: &[u32], n: usize, out: &mut [u8])
     requires { (n ≤ length numbers.now) × (n ≤ length out.old) }
-    ensures { after out ≡ front (map (bit_in (before row)) (take n (before numbers))) (before out) }
+    ensures { after out ≡ front (map (bit_in row.now) (take n numbers.now)) (before out) }
 {
     for i in 0..n {
         out[i] = flag(row, numbers[i] as usize) % 2;
@@ -236,7 +236,7 @@ fn copy_flags(row: &[u8], numbers: &[u32], n: usize, out: &mut [u8])
 // The first n drops, to the first n places of the list.
 fn copy_list(gone: &[[u32; 2]], n: usize, list: &mut [[u32; 2]])
     requires { (n ≤ length gone.now) × (n ≤ length list.old) }
-    ensures { after list ≡ front (take n (before gone)) (before list) }
+    ensures { after list ≡ front (take n gone.now) (before list) }
 {
     for i in 0..n {
         list[i] = gone[i];
@@ -256,7 +256,7 @@ fn write_points(
 )
     requires { (n ≤ length numbers.now) × (n ≤ length ox.old) × (n ≤ length oy.old) × (n ≤ length of.old) }
     ensures { outputs (after ox) (after oy) (after of)
-        ≡ points_into (contour xs ys flags) (take n (before numbers)) (outputs (before ox) (before oy) (before of)) }
+        ≡ points_into (contour xs ys flags) (take n numbers.now) (outputs (before ox) (before oy) (before of)) }
 {
     copy_coordinates(xs, numbers, n, ox);
     copy_coordinates(ys, numbers, n, oy);
@@ -278,7 +278,7 @@ pub fn write_cleaned(
     list: &mut [[u32; 2]],
 ) -> Cleaned
     requires { (k ≤ length kept.now) × (d ≤ length gone.now) }
-    ensures { Written (contour xs ys flags) (cleaned (take k (before kept)) (take d (before gone))) (lent ox oy of list) result }
+    ensures { Written (contour xs ys flags) (cleaned (take k kept.now) (take d gone.now)) (lent ox oy of list) result }
 {
     if list.len() < d {
         return Cleaned::Refused(18);
@@ -342,7 +342,7 @@ fn mark(why: u32) -> u32
 // Place i of the first n, or the place past the kept points.
 fn spot_at(spots: &[[u32; 2]], n: usize, i: usize, kept: usize) -> [u32; 2]
     requires { (n ≤ length spots.now) × (kept ≤ 1024) }
-    ensures { result ≡ get_or (take n (before spots)) i (kept_spot kept) }
+    ensures { result ≡ get_or (take n spots.now) i (kept_spot kept) }
 {
     if i < n {
         return spots[i];
@@ -404,8 +404,8 @@ fn put_kept(spots: &mut [[u32; 2]], kept: usize)
 // Every drop of the list, the last first.
 fn put_all(spots: &mut [[u32; 2]], kept: usize, list: &[[u32; 2]])
     requires { (kept + length list.now ≤ length spots.old) × (kept ≤ 1024) }
-    ensures { take (kept + length (before list)) (after spots)
-        ≡ put_back copied_spot (kept_spot kept) 0 (before list) (take kept (before spots)) }
+    ensures { take (kept + length list.now) (after spots)
+        ≡ put_back copied_spot (kept_spot kept) 0 list.now (take kept (before spots)) }
 {
     let mut n = kept;
     let mut j = list.len();
@@ -418,7 +418,7 @@ fn put_all(spots: &mut [[u32; 2]], kept: usize, list: &[[u32; 2]])
 
 fn copy_spots(row: &[i16], spots: &[[u32; 2]], n: usize, out: &mut [i16])
     requires { (n ≤ length spots.now) × (n ≤ length out.old) }
-    ensures { after out ≡ front (map (spot_x (before row)) (take n (before spots))) (before out) }
+    ensures { after out ≡ front (map (spot_x row.now) (take n spots.now)) (before out) }
 {
     for i in 0..n {
         out[i] = coordinate(row, wide(spots[i][0]));
@@ -437,7 +437,7 @@ fn bit_by(mark: u32, own: u8) -> u8
 
 fn copy_bits(row: &[u8], spots: &[[u32; 2]], n: usize, out: &mut [u8])
     requires { (n ≤ length spots.now) × (n ≤ length out.old) }
-    ensures { after out ≡ front (map (spot_bit (before row)) (take n (before spots))) (before out) }
+    ensures { after out ≡ front (map (spot_bit row.now) (take n spots.now)) (before out) }
 {
     for i in 0..n {
         out[i] = bit_by(spots[i][1], flag(row, wide(spots[i][0])) % 2);
@@ -457,7 +457,7 @@ pub fn write_spots(
 )
     requires { (n ≤ length spots.now) × (n ≤ length ox.old) × (n ≤ length oy.old) × (n ≤ length of.old) }
     ensures { outputs (after ox) (after oy) (after of)
-        ≡ spots_into (contour xs ys flags) (take n (before spots)) (outputs (before ox) (before oy) (before of)) }
+        ≡ spots_into (contour xs ys flags) (take n spots.now) (outputs (before ox) (before oy) (before of)) }
 {
     copy_spots(xs, spots, n, ox);
     copy_spots(ys, spots, n, oy);
@@ -477,7 +477,7 @@ fn put_fine(
     requires { (length flags.now + length list.now ≤ 1024) × (length flags.now + length list.now ≤ length ox.old)
         × (length flags.now + length list.now ≤ length oy.old) × (length flags.now + length list.now ≤ length of.old) }
     ensures { outputs (after ox) (after oy) (after of)
-        ≡ spots_into (contour xs ys flags) (spots_of (length (before flags)) (before list)) (outputs (before ox) (before oy) (before of)) }
+        ≡ spots_into (contour xs ys flags) (spots_of (length flags.now) list.now) (outputs (before ox) (before oy) (before of)) }
 {
     let mut spots = [[0u32; 2]; 1024];
     put_kept(&mut spots, flags.len());
@@ -524,7 +524,7 @@ pub fn put_back(
     oy: &mut [i16],
     of: &mut [u8],
 ) -> Restored
-    ensures { PutPromise (contour xs ys flags) (before list) (lent_outputs ox oy of) result }
+    ensures { PutPromise (contour xs ys flags) list.now (lent_outputs ox oy of) result }
 {
     let room = rows::least(rows::least(ox.len(), oy.len()), of.len());
     match judge_back(xs.len(), ys.len(), flags.len(), list.len(), room) {

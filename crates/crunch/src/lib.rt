@@ -64,7 +64,7 @@ pub fn crunch_into(
     points: &mut [[i16; 3]],
 ) -> Crunched
     ensures { Gives (after points)
-        (crunch_of (rooms_in samples breaks answers links) (room points) settings (before xs) (before ys) (before flags)) result }
+        (crunch_of (rooms_in samples breaks answers links) (room points) settings xs.now ys.now flags.now) result }
 {
     match settings.judge(xs, ys, flags) {
         Judged::Refused(k) => Crunched::Refused(k),
@@ -80,7 +80,7 @@ pub fn crunch_into(
 // The first points of the row, to the output rows.
 pub fn put_out(c: Crunched, points: &[[i16; 3]], ox: &mut [i16], oy: &mut [i16], of: &mut [u8])
     requires { Fits points.now (outputs ox.old oy.old of.old) c }
-    ensures { outputs (after ox) (after oy) (after of) ≡ copied c (before points) (outputs (before ox) (before oy) (before of)) }
+    ensures { outputs (after ox) (after oy) (after of) ≡ copied c points.now (outputs (before ox) (before oy) (before of)) }
 {
     match c {
         Crunched::Refused(_) => {}

@@ -110,14 +110,14 @@ fn between(points: &mut [[i16; 3]], m: Made, c: Cubic, left: usize) -> Made
 
 // A coordinate by its place, 0 past the end.
 fn coordinate(row: &[i16], i: usize) -> i16
-    ensures { result ≡ get_or (before row) i (pos 0) }
+    ensures { result ≡ get_or row.now i (pos 0) }
 {
     if i < row.len() { row[i] } else { 0 }
 }
 
 // Whether the point at a place is there and is on-curve.
 fn on_at(flags: &[u8], i: usize) -> bool
-    ensures { result ≡ on_at (before flags) i }
+    ensures { result ≡ on_at flags.now i }
 {
     if i < flags.len() {
         return refusals::is_on(flags[i]);
@@ -134,7 +134,7 @@ fn after_pair(i: usize, n: usize) -> usize
 }
 
 fn float_at(row: &[i16], i: usize) -> f64
-    ensures { Exact result (get_or (before row) i (pos 0)) 0 (2 ^ 15) }
+    ensures { Exact result (get_or row.now i (pos 0)) 0 (2 ^ 15) }
 {
     coordinate(row, i) as f64
 }
@@ -142,7 +142,7 @@ fn float_at(row: &[i16], i: usize) -> f64
 // A coordinate of the cubic whose first control stands at place i: the row has n places.
 fn axis_at(row: &[i16], i: usize, n: usize) -> Axis
     requires { (0 < i) × (i < n) }
-    ensures { ExactAxis result (four_at (before row) n i) 0 (2 ^ 15) }
+    ensures { ExactAxis result (four_at row.now n i) 0 (2 ^ 15) }
 {
     Axis {
         p0: float_at(row, i - 1),
@@ -154,7 +154,7 @@ fn axis_at(row: &[i16], i: usize, n: usize) -> Axis
 
 fn cubic_at(xs: &[i16], ys: &[i16], i: usize, n: usize) -> Cubic
     requires { (0 < i) × (i < n) }
-    ensures { ExactCubic result (curve_at (before xs) (before ys) n i) 0 (2 ^ 15) }
+    ensures { ExactCubic result (curve_at xs.now ys.now n i) 0 (2 ^ 15) }
 {
     Cubic {
         x: axis_at(xs, i, n),
@@ -173,7 +173,7 @@ fn put_place(
     i: usize,
 ) -> Made
     requires { (i < length flags.now) × (m.count ≤ length points.old) }
-    ensures { Makes (before points) m (after points) result (points_at (before xs) (before ys) (before flags) i) }
+    ensures { Makes (before points) m (after points) result (points_at xs.now ys.now flags.now i) }
 {
     if on_at(flags, i) {
         return put(points, m, [coordinate(xs, i), coordinate(ys, i), 1], false);
@@ -188,7 +188,7 @@ fn put_place(
 }
 
 fn replace(xs: &[i16], ys: &[i16], flags: &[u8], points: &mut [[i16; 3]]) -> Made
-    ensures { MadeOf (length (before points)) (after points) result (points_of (before xs) (before ys) (before flags)) }
+    ensures { MadeOf (length (before points)) (after points) result (points_of xs.now ys.now flags.now) }
 {
     let mut m = Made {
         count: 0,
@@ -238,7 +238,7 @@ fn off_after(flag: u8, n: usize) -> usize
 
 // Refusal 5 of cubics: a stretch of off-curve points that is not two long.
 fn off_pairs(flags: &[u8]) -> bool
-    ensures { result ≡ off_pairs (before flags) }
+    ensures { result ≡ off_pairs flags.now }
 {
     let mut n = 0;
     let mut i = 0;
@@ -254,7 +254,7 @@ fn off_pairs(flags: &[u8]) -> bool
 
 // Refusals 1, 2, 4 and 5, in their order.
 fn judge(xs: &[i16], ys: &[i16], flags: &[u8]) -> Judged
-    ensures { result ≡ judged_cubics (before xs) (before ys) (before flags) }
+    ensures { result ≡ judged_cubics xs.now ys.now flags.now }
 {
     if refusals::rows_differ(xs.len(), ys.len(), flags.len()) {
         return Judged::Refused(1);
@@ -282,7 +282,7 @@ fn write_made(
     of: &mut [u8],
 ) -> Replaced
     requires { m.count ≤ length points.now }
-    ensures { (ps : Points) → MadeOf 1024 (before points) m ps → WrittenOut ps (lent ox oy of) result }
+    ensures { (ps : Points) → MadeOf 1024 points.now m ps → WrittenOut ps (lent ox oy of) result }
 {
     if m.over {
         return Replaced::Refused(3);
@@ -306,7 +306,7 @@ fn replace_fine(
     oy: &mut [i16],
     of: &mut [u8],
 ) -> Replaced
-    ensures { WrittenOut (points_of (before xs) (before ys) (before flags)) (lent ox oy of) result }
+    ensures { WrittenOut (points_of xs.now ys.now flags.now) (lent ox oy of) result }
 {
     let mut points = [[0i16; 3]; 1024];
     let m = replace(xs, ys, flags, &mut points);

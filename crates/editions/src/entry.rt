@@ -1,6 +1,6 @@
 // The entry: two editions of a contour.
 ghost use Rattle.std.specs.Prelude.{◌≡◌, min};
-ghost use Rattle.rows.specs.Lent.{before, after, room, contour};
+ghost use Rattle.rows.specs.Lent.{after, room, contour};
 ghost use Rattle.edition.specs.Scratch.{rooms_in};
 ghost use Rattle.crunch.specs.Crunch.{crunch_of};
 ghost use Rattle.crunch.specs.Stands.{Gives};
@@ -34,9 +34,9 @@ fn work_both(
     points_b: &mut [[i16; 3]],
 ) -> Editions
     ensures a { Gives (after points_a) (work_of (rooms_in samples breaks answers_a links_a) (settings_a order)
-        (before xs) (before ys) (before flags) (room points_a)) result.a }
+        xs.now ys.now flags.now (room points_a)) result.a }
     ensures b { Gives (after points_b) (work_of (rooms_in samples breaks answers_b links_b) (settings_b order)
-        (before xs) (before ys) (before flags) (room points_b)) result.b }
+        xs.now ys.now flags.now (room points_b)) result.b }
 {
     let mut list = [0usize; 1025];
     let n = runs::list_stops(xs, ys, flags, order.closed, &mut list);
@@ -85,9 +85,9 @@ fn both_into(
     points_b: &mut [[i16; 3]],
 ) -> Editions
     ensures a { Gives (after points_a) (crunch_of (rooms_in samples breaks answers_a links_a) (room points_a) (settings_a order)
-        (before xs) (before ys) (before flags)) result.a }
+        xs.now ys.now flags.now) result.a }
     ensures b { Gives (after points_b) (crunch_of (rooms_in samples breaks answers_b links_b) (room points_b) (settings_b order)
-        (before xs) (before ys) (before flags)) result.b }
+        xs.now ys.now flags.now) result.b }
 {
     match refusals::judge(xs, ys, flags) {
         Judged::Refused(k) => Editions {

@@ -23,7 +23,7 @@ pub fn begin(
     settings: Settings,
     points: &mut [[i16; 3]],
 ) -> Crunching
-    ensures { Begins (room points) (after points) (begins settings (before xs) (before ys) (before flags) (settings_fine settings) (before stops)) result }
+    ensures { Begins (room points) (after points) (begins settings xs.now ys.now flags.now (settings_fine settings) stops.now) result }
 {
     if settings.is_fine() {
         if settings.closed {
@@ -68,7 +68,7 @@ pub fn end(
     points: &mut [[i16; 3]],
 ) -> Crunched
     requires { Stood points.old c }
-    ensures { Comes (λ x. outcome_of closed (room points) (ends (before xs) (before ys) (before flags) closed (before stops) x))
+    ensures { Comes (λ x. outcome_of closed (room points) (ends xs.now ys.now flags.now closed stops.now x))
         (before points) (after points) c result }
 {
     if closed {

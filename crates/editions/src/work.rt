@@ -102,8 +102,8 @@ fn take_step(
     points: &mut [[i16; 3]],
 ) -> Crunching
     requires { Sighted samples.now breaks.now s × Upto 1024 (tally_in c) }
-    ensures { Moves (while_going (added (unchanged_in (before xs) (before ys) (before flags) settings.closed)
-        (after_survey (room answers) (room links) (penalty_of settings) (survey_in (before samples) (before breaks) s)))) (before points) (after points) c result }
+    ensures { Moves (while_going (added (unchanged_in xs.now ys.now flags.now settings.closed)
+        (after_survey (room answers) (room links) (penalty_of settings) (survey_in samples.now breaks.now s)))) (before points) (after points) c result }
 {
     match c {
         Crunching::Refused(k) => Crunching::Refused(k),
@@ -135,11 +135,11 @@ fn step_both(
     points_b: &mut [[i16; 3]],
 ) -> Both
     requires { Upto 1024 (tally_in c.a) × Upto 1024 (tally_in c.b) }
-    ensures a { Moves (while_going (added (unchanged_in (before xs) (before ys) (before flags) order.closed)
-        (result_of (rooms_in samples breaks answers_a links_a) (settings_a order) (before xs) (before ys) (before flags)
+    ensures a { Moves (while_going (added (unchanged_in xs.now ys.now flags.now order.closed)
+        (result_of (rooms_in samples breaks answers_a links_a) (settings_a order) xs.now ys.now flags.now
         (record { first = first; count = count })))) (before points_a) (after points_a) c.a result.a }
-    ensures b { Moves (while_going (added (unchanged_in (before xs) (before ys) (before flags) order.closed)
-        (result_of (rooms_in samples breaks answers_b links_b) (settings_b order) (before xs) (before ys) (before flags)
+    ensures b { Moves (while_going (added (unchanged_in xs.now ys.now flags.now order.closed)
+        (result_of (rooms_in samples breaks answers_b links_b) (settings_b order) xs.now ys.now flags.now
         (record { first = first; count = count })))) (before points_b) (after points_b) c.b result.b }
 {
     let s = quicksurvey::survey(
@@ -203,9 +203,9 @@ fn run_both(
 ) -> Both
     requires { Upto 1024 (tally_in c.a) × Upto 1024 (tally_in c.b) }
     ensures a { Moves (onward (rooms_in samples breaks answers_a links_a) (settings_a order)
-        (before xs) (before ys) (before flags) (record { first = first; count = count })) (before points_a) (after points_a) c.a result.a }
+        xs.now ys.now flags.now (record { first = first; count = count })) (before points_a) (after points_a) c.a result.a }
     ensures b { Moves (onward (rooms_in samples breaks answers_b links_b) (settings_b order)
-        (before xs) (before ys) (before flags) (record { first = first; count = count })) (before points_b) (after points_b) c.b result.b }
+        xs.now ys.now flags.now (record { first = first; count = count })) (before points_b) (after points_b) c.b result.b }
 {
     let ca = c.a;
     let cb = c.b;
@@ -244,9 +244,9 @@ pub fn crunch_runs(
 ) -> Both
     requires { (length stops.now ≤ 1025) × (tally_in from.a ≡ untried) × (tally_in from.b ≡ untried) }
     ensures a { Carries (crunch_all (rooms_in samples breaks answers_a links_a) (settings_a order)
-        (before xs) (before ys) (before flags) (between (before stops))) (before points_a) (after points_a) from.a result.a }
+        xs.now ys.now flags.now (between stops.now)) (before points_a) (after points_a) from.a result.a }
     ensures b { Carries (crunch_all (rooms_in samples breaks answers_b links_b) (settings_b order)
-        (before xs) (before ys) (before flags) (between (before stops))) (before points_b) (after points_b) from.b result.b }
+        xs.now ys.now flags.now (between stops.now)) (before points_b) (after points_b) from.b result.b }
 {
     let mut c = from;
     let mut k = 0;

@@ -85,7 +85,7 @@ fn put_next(points: &mut [[i16; 3]], w: Written, prev: [i16; 3], p: [i16; 3]) ->
 
 // The place of the first on-curve point, or how many points there are.
 fn first_on(flags: &[u8]) -> usize
-    ensures { result ≡ first_on (before flags) }
+    ensures { result ≡ first_on flags.now }
 {
     let mut i = 0;
     while i < flags.len() {
@@ -111,7 +111,7 @@ fn place_from(start: usize, n: usize, k: usize) -> usize
 
 fn point_at(xs: &[i16], ys: &[i16], flags: &[u8], i: usize) -> [i16; 3]
     requires { i < length flags.now }
-    ensures { result ≡ point_as (on_at (before flags) i) (before xs) (before ys) i }
+    ensures { result ≡ point_as (on_at flags.now i) xs.now ys.now i }
 {
     contour::point_as(refusals::is_on(flags[i]), xs, ys, i)
 }
@@ -138,7 +138,7 @@ fn put_all(xs: &[i16], ys: &[i16], flags: &[u8], start: usize, points: &mut [[i1
 
 // Refusals 1, 2 and 21, in their order.
 fn judge(xs: &[i16], ys: &[i16], flags: &[u8]) -> Judged
-    ensures { result ≡ judged_rows (before xs) (before ys) (before flags) }
+    ensures { result ≡ judged_rows xs.now ys.now flags.now }
 {
     if refusals::rows_differ(xs.len(), ys.len(), flags.len()) {
         return Judged::Refused(1);
@@ -163,7 +163,7 @@ fn write_out(
     of: &mut [u8],
 ) -> Explicit
     requires { w.count ≤ length points.now }
-    ensures { (ps : Points) → Wrote (before points) w (written 1024 ps) → WrittenOut ps (lent ox oy of) result }
+    ensures { (ps : Points) → Wrote points.now w (written 1024 ps) → WrittenOut ps (lent ox oy of) result }
 {
     if w.over {
         return Explicit::Refused(3);
@@ -184,7 +184,7 @@ fn explicit_fine(
     oy: &mut [i16],
     of: &mut [u8],
 ) -> Explicit
-    ensures { WrittenOut (explicit_from (first_on (before flags)) (contour xs ys flags)) (lent ox oy of) result }
+    ensures { WrittenOut (explicit_from (first_on flags.now) (contour xs ys flags)) (lent ox oy of) result }
 {
     let mut points = [[0i16; 3]; 1024];
     let w = put_all(xs, ys, flags, first_on(flags), &mut points);

@@ -1,6 +1,6 @@
 // Cleaning an upload, and putting back what was dropped.
 ghost use Rattle.std.specs.Prelude.{◌≡◌};
-ghost use Rattle.rows.specs.Lent.{before, contour, Shown};
+ghost use Rattle.rows.specs.Lent.{contour, Shown};
 ghost use Rattle.clean.specs.Entry.{lent, Promise, lent_outputs, PutPromise};
 ghost use Rattle.exports.specs.Cleaning.{report, put_report};
 
@@ -77,7 +77,7 @@ pub extern "C" fn fontcrunch_put_back(
     oy: &mut [i16],
     of: &mut [u8],
 ) -> PutReport
-    ensures { Shown put_report (PutPromise (contour xs ys flags) (before list) (lent_outputs ox oy of)) result }
+    ensures { Shown put_report (PutPromise (contour xs ys flags) list.now (lent_outputs ox oy of)) result }
 {
     put_report(clean::put_back(xs, ys, flags, list, ox, oy, of))
 }

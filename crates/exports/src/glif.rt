@@ -1,5 +1,5 @@
 // GLIF read, written and crunched.
-ghost use Rattle.rows.specs.Lent.{before};
+
 ghost use Rattle.settings.specs.Settings.{settings_of};
 ghost use Rattle.edition.specs.Scratch.{scratch};
 ghost use Rattle.glifread.specs.Entry as Reading;
@@ -19,7 +19,7 @@ pub extern "C" fn fontcrunch_read_glif(
     flags: &mut [u8],
     points: &mut [[usize; 3]],
 ) -> GlifReadReport
-    ensures { Reading.Promise (before bytes) (Reading.lent ends xs ys flags points) result }
+    ensures { Reading.Promise bytes.now (Reading.lent ends xs ys flags points) result }
 {
     glifread::read_glif(bytes, ends, xs, ys, flags, points)
 }
@@ -33,7 +33,7 @@ pub extern "C" fn fontcrunch_write_glif(
     flags: &[u8],
     out: &mut [u8],
 ) -> GlifWriteReport
-    ensures { Writing.Promise (before bytes) (Writing.rows_given ends xs ys flags) (Writing.lent out) result }
+    ensures { Writing.Promise bytes.now (Writing.rows_given ends xs ys flags) (Writing.lent out) result }
 {
     glifwrite::write_glif(bytes, ends, xs, ys, flags, out)
 }
@@ -56,7 +56,7 @@ pub extern "C" fn fontcrunch_crunch_glif(
     links: &mut [u32],
     points: &mut [[i16; 3]],
 ) -> GlifWriteReport
-    ensures { Crunching.Promise (before bytes) (settings_of penalty whole_units closed)
+    ensures { Crunching.Promise bytes.now (settings_of penalty whole_units closed)
         (Crunching.rows out (Reading.lent ends xs ys flags marks) (scratch samples breaks answers links) points) result }
 {
     glifs::crunch_glif(

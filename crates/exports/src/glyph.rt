@@ -1,6 +1,6 @@
 // Glyph descriptions read, written and crunched.
 ghost use Rattle.std.specs.Prelude.{◌≡◌};
-ghost use Rattle.rows.specs.Lent.{before, Shown};
+ghost use Rattle.rows.specs.Lent.{Shown};
 ghost use Rattle.settings.specs.Settings.{settings_of};
 ghost use Rattle.edition.specs.Scratch.{scratch};
 ghost use Rattle.glyfread.specs.Entry as Reading;
@@ -50,7 +50,7 @@ pub extern "C" fn fontcrunch_read_glyph(
     flags: &mut [u8],
     instructions: &mut [u8],
 ) -> GlyphReadReport
-    ensures { Shown read_report (Reading.Promise (before bytes) (Reading.filled ends xs ys flags instructions)) result }
+    ensures { Shown read_report (Reading.Promise bytes.now (Reading.filled ends xs ys flags instructions)) result }
 {
     read_report(glyfread::read_glyph(bytes, ends, xs, ys, flags, instructions))
 }
@@ -107,7 +107,7 @@ pub extern "C" fn fontcrunch_crunch_glyph(
     links: &mut [u32],
     points: &mut [[i16; 3]],
 ) -> GlyphWriteReport
-    ensures { Shown write_report (Crunching.Promise (before bytes) (settings_of penalty whole_units closed)
+    ensures { Shown write_report (Crunching.Promise bytes.now (settings_of penalty whole_units closed)
         (Crunching.rows out (Reading.filled ends xs ys flags instructions) (scratch samples breaks answers links) points)) result }
 {
     write_report(glyphs::crunch_glyph(

@@ -1,6 +1,6 @@
 // Idle controls dropped, and put back. The answers are those of cleaning, and so are the reports.
 ghost use Rattle.std.specs.Prelude.{◌≡◌};
-ghost use Rattle.rows.specs.Lent.{before, contour, Shown};
+ghost use Rattle.rows.specs.Lent.{contour, Shown};
 ghost use Rattle.clean.specs.Entry.{lent, lent_outputs};
 ghost use Rattle.idle.specs.Entry.{Promise, PutPromise};
 ghost use Rattle.exports.specs.IdleControls.{report, put_report};
@@ -33,7 +33,7 @@ pub extern "C" fn fontcrunch_put_back_idle(
     oy: &mut [i16],
     of: &mut [u8],
 ) -> PutReport
-    ensures { Shown put_report (PutPromise (contour xs ys flags) (before list) (lent_outputs ox oy of)) result }
+    ensures { Shown put_report (PutPromise (contour xs ys flags) list.now (lent_outputs ox oy of)) result }
 {
     cleaning::put_report(idle::put_back(xs, ys, flags, list, ox, oy, of))
 }

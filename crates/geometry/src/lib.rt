@@ -1,6 +1,7 @@
 // Module 2: points and quads, by value. Each contract equates the result with a definition of
 // specs/Geometry.antt, and asks nothing.
 #![tactic(auto)]
+
 ghost use Rattle.std.specs.Prelude.{◌≡◌};
 ghost use Rattle.geometry.specs.Geometry.{along_of, lerp_of, is_close, square_distance_of, distance_of, square_norm_of, norm_of, unitize_of, round_point_of};
 ghost use Rattle.geometry.specs.Geometry.{is_int, is_whole, line_quad, is_line, is_smooth, point_at_t, offset_of, crossed_at, intersect_of};

@@ -1,5 +1,6 @@
 // UFO's GLIF, read byte by byte: the open elements, the names, and the points of the contours.
 #![tactic(auto)]
+
 mod names;
 mod outline;
 mod scan;

@@ -1,6 +1,6 @@
 // A file into rows: it is judged whole, with its points in the scratch row; then the contours enter the rows.
 ghost use Rattle.std.specs.Prelude.{◌≡◌};
-ghost use Rattle.rows.specs.Lent.{before};
+
 ghost use Rattle.glifread.specs.Reads.{refusal, report_of, numbered};
 ghost use Rattle.glifread.specs.Entry.{lent, Promise};
 
@@ -56,7 +56,7 @@ pub fn read_glif(
     flags: &mut [u8],
     points: &mut [[usize; 3]],
 ) -> GlifReadReport
-    ensures { Promise (before bytes) (lent ends xs ys flags points) result }
+    ensures { Promise bytes.now (lent ends xs ys flags points) result }
 {
     clear(points);
     let f = judge(bytes, points);

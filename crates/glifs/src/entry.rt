@@ -38,7 +38,7 @@ fn crunch_read(
     points: &mut [[i16; 3]],
 ) -> GlifWriteReport
     requires { InRows (length ends.old) (length xs.old) (length ys.old) (length flags.old) contours count }
-    ensures { Writes (before bytes) (before out) (after out)
+    ensures { Writes bytes.now (before out) (after out)
         (renewed_of (rooms_in samples breaks answers links) settings (room xs) (room ys) (room flags) (room points)
         (given (take contours (before ends)) (take count (before xs)) (take count (before ys)) (take count (before flags)))) result }
 {
@@ -76,8 +76,8 @@ fn crunch_bytes(
     links: &mut [u32],
     points: &mut [[i16; 3]],
 ) -> GlifWriteReport
-    ensures writes { Writes (before bytes) (before out) (after out)
-        (whole_of (before bytes) settings (rows out (lent ends xs ys flags marks) (scratch samples breaks answers links) points).entry) result }
+    ensures writes { Writes bytes.now (before out) (after out)
+        (whole_of bytes.now settings (rows out (lent ends xs ys flags marks) (scratch samples breaks answers links) points).entry) result }
     ensures marks_value { after marks ≡ replicate (room marks) no_place }
 {
     clear_rows(ends, xs, ys, flags);
@@ -106,7 +106,7 @@ pub fn crunch_glif(
     links: &mut [u32],
     points: &mut [[i16; 3]],
 ) -> GlifWriteReport
-    ensures { Promise (before bytes) settings (rows out (lent ends xs ys flags marks) (scratch samples breaks answers links) points) result }
+    ensures { Promise bytes.now settings (rows out (lent ends xs ys flags marks) (scratch samples breaks answers links) points) result }
 {
     let r = crunch_bytes(
         bytes, settings, out, ends, xs, ys, flags, marks, samples, breaks, answers, links, points,

@@ -1,6 +1,6 @@
 // The rows that a file is read into.
 ghost use Rattle.std.specs.Prelude.{◌≡◌};
-ghost use Rattle.rows.specs.Lent.{before, after, room};
+ghost use Rattle.rows.specs.Lent.{after, room};
 ghost use Rattle.glifread.specs.Enter.{filled, rows};
 ghost use Rattle.glifs.specs.Glifs.{zero_rows, belong};
 
@@ -16,7 +16,7 @@ pub fn clear_rows(ends: &mut [u16], xs: &mut [i16], ys: &mut [i16], flags: &mut 
 
 // The ends rise, and the last of them says so many points.
 pub fn belongs(ends: &[u16], count: usize) -> bool
-    ensures { result ≡ belong (before ends) count }
+    ensures { result ≡ belong ends.now count }
 {
     if glyf::ends_rise(ends) {
         return count == glyf::count_of(ends);

@@ -1,12 +1,12 @@
 -- What `write_glif` promises, of any bytes and any rows. Definitions only.
 use Rattle.std.specs.Prelude.{ℕ, List, ◌≡◌, ℤ, length}
 use denote.Triple.Both.{Both}
-use Rattle.rows.specs.Lent.{Lent, before, after}
+use Rattle.rows.specs.Lent.{Shared, shared, Lent, before, after}
 use Rattle.glifwrite.specs.Writes.{GivenRows, given, answer_of, left_in}
 use Rattle.glifwrite.specs.declared.write.GlifWriteReport.{GlifWriteReport}
 
-abbrev pub rows_given : Lent ℕ → Lent ℤ → Lent ℤ → Lent ℕ → GivenRows
-rows_given ends xs ys flags = given (before ends) (before xs) (before ys) (before flags)
+abbrev pub rows_given : Shared ℕ → Shared ℤ → Shared ℤ → Shared ℕ → GivenRows
+rows_given ends xs ys flags = given (shared ends) (shared xs) (shared ys) (shared flags)
 
 -- the row as lent and as left
 abbrev pub lent : Lent ℕ → Both (List ℕ) (List ℕ)

@@ -1,6 +1,6 @@
 // A file with the insides of its contours replaced.
 ghost use Rattle.std.specs.Prelude.{◌≡◌, ◌≤◌, length};
-ghost use Rattle.rows.specs.Lent.{before};
+
 ghost use Rattle.glifwrite.specs.Puts.{put};
 ghost use Rattle.glifwrite.specs.Contours.{even, rows_refused};
 ghost use Rattle.glifwrite.specs.Writes.{given, no_copy, copying, copy_on, write_all, report_of};
@@ -47,7 +47,7 @@ fn copy_on(
     out: &mut [u8],
 ) -> Copy
     ensures { copying result out.new
-        ≡ copy_on (before bytes) (given (before ends) (before xs) (before ys) (before flags)) i s t (copying c out.old) }
+        ≡ copy_on bytes.now (given ends.now xs.now ys.now flags.now) i s t (copying c out.old) }
 {
     let old = s.tree;
     let new = t.tree;
@@ -78,7 +78,7 @@ fn write_all(
 ) -> usize
     requires { n ≤ length bytes.now }
     ensures { put result out.new
-        ≡ write_all (before bytes) (given (before ends) (before xs) (before ys) (before flags)) n out.old }
+        ≡ write_all bytes.now (given ends.now xs.now ys.now flags.now) n out.old }
 {
     let mut names = [0; 256];
     let mut none = [[0; 3]; 1];
@@ -96,7 +96,7 @@ fn write_all(
 
 // Whether the rows belong together and to the file; rows without any point are refused by 2.
 fn is_even(contours: usize, ends: &[u16], xs: usize, ys: usize, flags: usize) -> bool
-    ensures { result ≡ even contours (before ends) xs ys flags }
+    ensures { result ≡ even contours ends.now xs ys flags }
 {
     let last = end_at(ends, less(ends.len(), 1));
     both(
@@ -108,7 +108,7 @@ fn is_even(contours: usize, ends: &[u16], xs: usize, ys: usize, flags: usize) ->
 // The number of the file's refusal, else 1 where the rows do not belong together, and 2 where a contour has no
 // point.
 fn refuse(number: usize, contours: usize, ends: &[u16], xs: usize, ys: usize, flags: usize) -> usize
-    ensures { result ≡ rows_refused number contours (before ends) xs ys flags }
+    ensures { result ≡ rows_refused number contours ends.now xs ys flags }
 {
     let even = is_even(contours, ends, xs, ys, flags);
     let empty = either(some_empty(ends), both(xs == 0, 0 < ends.len()));
@@ -142,7 +142,7 @@ pub fn write_glif(
     flags: &[u8],
     out: &mut [u8],
 ) -> GlifWriteReport
-    ensures { Promise (before bytes) (rows_given ends xs ys flags) (lent out) result }
+    ensures { Promise bytes.now (rows_given ends xs ys flags) (lent out) result }
 {
     let mut none = [[0; 3]; 1];
     let f = judge(bytes, &mut none);

@@ -1,5 +1,6 @@
 // OpenType's simple glyph descriptions, read into rows.
 #![tactic(auto)]
+
 mod read;
 mod row;
 mod walk;

@@ -4,7 +4,6 @@ ghost use Rattle.glyf.specs.Layout.{count_of};
 ghost use Rattle.glyfread.specs.Steps.{words_at};
 ghost use Rattle.glyfread.specs.Reads.{Headed, Finds, Stands, Judges, lacking};
 ghost use Rattle.glyfread.specs.Entry.{filled, Promise};
-ghost use Rattle.rows.specs.Lent.{before};
 
 use crate::row::{copy_bytes, copy_words, word_at, words_rise};
 use crate::walk::{Scan, fill_points, points_fit, scan_flags, start};
@@ -145,7 +144,7 @@ pub fn read_glyph(
     flags: &mut [u8],
     instructions: &mut [u8],
 ) -> Read
-    ensures { Promise (before bytes) (filled ends xs ys flags instructions) result }
+    ensures { Promise bytes.now (filled ends xs ys flags instructions) result }
 {
     match judge(bytes) {
         Located::Refused(k) => Read::Refused(k),

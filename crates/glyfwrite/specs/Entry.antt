@@ -1,13 +1,13 @@
 -- What `write_glyph` promises, of any rows. Definitions only.
 use Rattle.std.specs.Prelude.{ℕ, ◌≡◌, ℤ}
-use Rattle.rows.specs.Lent.{Lent, before, after, room}
+use Rattle.rows.specs.Lent.{Shared, shared, Lent, before, after, room}
 use Rattle.glyf.specs.Layout.{Glyph, glyph, laid, left_by, written_of}
 use Rattle.glyfwrite.specs.Writes.{answer_of}
 use Rattle.glyfwrite.specs.declared.write.Wrote.{Wrote}
 
 -- the rows that are read: ends, x, y, flags, instructions
-abbrev pub glyph_given : Lent ℕ → Lent ℤ → Lent ℤ → Lent ℕ → Lent ℕ → Glyph
-glyph_given ends xs ys flags instructions = glyph (before ends) (before xs) (before ys) (before flags) (before instructions)
+abbrev pub glyph_given : Shared ℕ → Shared ℤ → Shared ℤ → Shared ℕ → Shared ℕ → Glyph
+glyph_given ends xs ys flags instructions = glyph (shared ends) (shared xs) (shared ys) (shared flags) (shared instructions)
 
 -- the answer, and what the row of bytes holds: the description at its front, or, where refused, what it held
 pub record Promise (g : Glyph) (out : Lent ℕ) (r : Wrote) : Type 0 where

@@ -1,5 +1,6 @@
 // OpenType's simple glyph descriptions, written from rows.
 #![tactic(auto)]
+
 mod bounds;
 mod difference;
 mod flags;

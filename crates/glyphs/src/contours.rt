@@ -50,7 +50,7 @@ fn crunch_part(
     requires at_in_bounds { at ≤ length points.old }
     ensures adds { Adds (before points) at (after points)
         (crunch_of (rooms_in samples breaks answers links) (room points - at) settings
-        (stretch from to (before xs)) (stretch from to (before ys)) (stretch from to (before flags))) result }
+        (stretch from to xs.now) (stretch from to ys.now) (stretch from to flags.now)) result }
     ensures points_bound { room points < 18446744073709551616 }
 {
     crunch::crunch_into(
@@ -82,7 +82,7 @@ pub fn crunch_contours(
     requires { Apart ends.old (length xs.now) (length ys.now) (length flags.now) }
     ensures { Gathers (after points) (after ends)
         (crunch_each (rooms_in samples breaks answers links) settings (room points)
-        (contours_from 0 (before ends) (before xs) (before ys) (before flags))) result }
+        (contours_from 0 (before ends) xs.now ys.now flags.now)) result }
 {
     let mut from = 0;
     let mut at = 0;

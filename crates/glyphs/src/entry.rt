@@ -70,7 +70,7 @@ fn crunch_bytes(
     points: &mut [[i16; 3]],
 ) -> Wrote
     ensures { Writes
-        (whole_of (before bytes) settings (rows out (filled ends xs ys flags instructions) (scratch samples breaks answers links) points).entry)
+        (whole_of bytes.now settings (rows out (filled ends xs ys flags instructions) (scratch samples breaks answers links) points).entry)
         (before out) (after out) result }
 {
     match glyfread::read_glyph(bytes, ends, xs, ys, flags, instructions) {
@@ -110,7 +110,7 @@ pub fn crunch_glyph(
     links: &mut [u32],
     points: &mut [[i16; 3]],
 ) -> Wrote
-    ensures { Promise (before bytes) settings (rows out (filled ends xs ys flags instructions) (scratch samples breaks answers links) points) result }
+    ensures { Promise bytes.now settings (rows out (filled ends xs ys flags instructions) (scratch samples breaks answers links) points) result }
 {
     let r = crunch_bytes(
         bytes,

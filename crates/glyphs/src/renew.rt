@@ -18,7 +18,7 @@ fn copy_points(
     flags: &mut [u8],
 ) -> Gathered
     requires { Fits (length points.now) (length xs.old) (length ys.old) (length flags.old) n }
-    ensures { Copies settings (before points) n (after xs) (after ys) (after flags) result }
+    ensures { Copies settings points.now n (after xs) (after ys) (after flags) result }
 {
     if !settings.is_fine() {
         return Gathered::Refused(16);
@@ -39,7 +39,7 @@ fn copy_gathered(
     flags: &mut [u8],
 ) -> Gathered
     requires { FitsIn (length points.now) (length xs.old) (length ys.old) (length flags.old) g }
-    ensures { CopiesAll settings (before points) g (after xs) (after ys) (after flags) result }
+    ensures { CopiesAll settings points.now g (after xs) (after ys) (after flags) result }
 {
     match g {
         Gathered::Refused(k) => Gathered::Refused(k),

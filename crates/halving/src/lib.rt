@@ -1,6 +1,7 @@
 // One cubic: halved at 1/2 by midpoints, its third difference, and the control of the quad that replaces it. Each
 // f64 here is exact for cubics of 16-bit points; `nearest` alone rounds.
 #![tactic(auto)]
+
 ghost use Rattle.std.specs.Prelude.{◌≡◌, ℕ, ℤ};
 ghost use Rattle.halving.specs.Cubic.{nearest};
 ghost use Rattle.float.specs.Dyadic.{Exact};

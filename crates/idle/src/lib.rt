@@ -35,7 +35,7 @@ fn preceding(i: usize, n: usize) -> usize
 // Which neighbour point i is idle on: 1 the one before it, 2 the one after it, the first that holds; 0 it is not idle.
 fn beside(xs: &[i16], ys: &[i16], flags: &[u8], i: usize) -> u32
     requires { i < length flags.now }
-    ensures { result ≡ beside_of (before xs) (before ys) (before flags) i }
+    ensures { result ≡ beside_of xs.now ys.now flags.now i }
 {
     if clean::on_place(flags, i) {
         return 0;
@@ -72,7 +72,7 @@ impl Counts {
 // next place; it counts in one of them, and in the other the next point is written over it.
 fn sift(xs: &[i16], ys: &[i16], flags: &[u8], kept: &mut [u32], gone: &mut [[u32; 2]]) -> Counts
     requires { Roomy (length flags.now) (length kept.old) (length gone.old) }
-    ensures { Sifted (after kept) (after gone) result (idle_of (before xs) (before ys) (before flags)) }
+    ensures { Sifted (after kept) (after gone) result (idle_of xs.now ys.now flags.now) }
 {
     let mut at = Counts {
         kept: 0,
@@ -102,7 +102,7 @@ fn drop_fine(
     list: &mut [[u32; 2]],
 ) -> Cleaned
     requires { Accepted xs.now ys.now flags.now }
-    ensures { Written (contour xs ys flags) (idle_of (before xs) (before ys) (before flags)) (lent ox oy of list) result }
+    ensures { Written (contour xs ys flags) (idle_of xs.now ys.now flags.now) (lent ox oy of list) result }
 {
     let mut kept = [0u32; 1024];
     let mut gone = [[0u32; 2]; 1024];
@@ -135,7 +135,7 @@ pub fn drop_idle(
 // Whether place p is that of drop j: the list names it, or no kept point is left.
 fn is_back(list: &[[u32; 2]], kept: usize, p: usize, j: usize) -> bool
     requires { j ≤ p }
-    ensures { result ≡ is_back kept (before list) p j }
+    ensures { result ≡ is_back kept list.now p j }
 {
     if list.len() <= j {
         return false;
@@ -159,7 +159,7 @@ fn beside_kept(which: u32, kept: usize, k: usize) -> usize
 // Place p, with j drops before it: the kept point that stands there, or that a drop copies, and how (`write_spots`).
 fn spot_at(list: &[[u32; 2]], kept: usize, p: usize, j: usize) -> [u32; 2]
     requires { (j ≤ p) × (p < 1024) × (kept ≤ 1024) }
-    ensures { result ≡ spot_at kept (before list) p j }
+    ensures { result ≡ spot_at kept list.now p j }
 {
     if is_back(list, kept, p, j) {
         return [beside_kept(list[j][1], kept, p - j) as u32, 2];
@@ -170,7 +170,7 @@ fn spot_at(list: &[[u32; 2]], kept: usize, p: usize, j: usize) -> [u32; 2]
 // The drops up to place p and at it.
 fn passed(list: &[[u32; 2]], kept: usize, p: usize, j: usize) -> usize
     requires { (j ≤ p) × (p < 1024) }
-    ensures { result ≡ passed_as kept (before list) p j }
+    ensures { result ≡ passed_as kept list.now p j }
 {
     if is_back(list, kept, p, j) { j + 1 } else { j }
 }
@@ -178,7 +178,7 @@ fn passed(list: &[[u32; 2]], kept: usize, p: usize, j: usize) -> usize
 // The first n places.
 fn put_all(list: &[[u32; 2]], kept: usize, n: usize, spots: &mut [[u32; 2]])
     requires { (n ≤ length spots.old) × (n ≤ 1024) × (kept ≤ 1024) }
-    ensures { take n (after spots) ≡ spots_of kept (before list) n }
+    ensures { take n (after spots) ≡ spots_of kept list.now n }
 {
     let mut j = 0;
     let mut p = 0;
@@ -202,7 +202,7 @@ fn put_fine(
     requires { (length flags.now + length list.now ≤ 1024) × (length flags.now + length list.now ≤ length ox.old)
         × (length flags.now + length list.now ≤ length oy.old) × (length flags.now + length list.now ≤ length of.old) }
     ensures { outputs (after ox) (after oy) (after of)
-        ≡ spots_into (contour xs ys flags) (spots_of (length (before flags)) (before list) (length (before flags) + length (before list)))
+        ≡ spots_into (contour xs ys flags) (spots_of (length flags.now) list.now (length flags.now + length list.now))
         (outputs (before ox) (before oy) (before of)) }
 {
     let mut spots = [[0u32; 2]; 1024];
@@ -221,7 +221,7 @@ pub fn put_back(
     oy: &mut [i16],
     of: &mut [u8],
 ) -> Restored
-    ensures { PutPromise (contour xs ys flags) (before list) (lent_outputs ox oy of) result }
+    ensures { PutPromise (contour xs ys flags) list.now (lent_outputs ox oy of) result }
 {
     let room = rows::least(rows::least(ox.len(), oy.len()), of.len());
     match clean::judge_back(xs.len(), ys.len(), flags.len(), list.len(), room) {

@@ -1,10 +1,19 @@
--- Lent rows as an `ensures` has them: what each held when it was lent, and what it holds when it is handed back. Definitions only.
+-- Rows as an `ensures` has them. A row that is read is what it holds; of one that is lent to be written, what it held when it was lent, and what it
+-- holds when it is handed back. Definitions only.
 use Rattle.std.specs.Prelude.{ℕ, List, ◌≡◌, ℤ, length}
-use Rattle.std.specs.Borrow.{Bor}
+use Rattle.std.specs.Borrow.{Bor, MutBor}
 use denote.Triple.Both.{Both}
 
+-- a row that is read
+abbrev pub Shared : Type 0 → Type 0
+Shared X = Both (Bor (List X)) (Bor (List X))
+
+abbrev pub shared : {X : Type 0} → Shared X → List X
+shared row = row.entry.now
+
+-- a row that is lent
 abbrev pub Lent : Type 0 → Type 0
-Lent X = Both (Bor (List X)) (Bor (List X))
+Lent X = Both (MutBor (List X)) (MutBor (List X))
 
 abbrev pub before : {X : Type 0} → Lent X → List X
 before row = row.entry.now
@@ -21,8 +30,8 @@ room row = length (before row)
 pub data Inputs : Type 0 where
   inputs : List ℤ → List ℤ → List ℕ → Inputs
 
-abbrev pub contour : Lent ℤ → Lent ℤ → Lent ℕ → Inputs
-contour xs ys flags = inputs (before xs) (before ys) (before flags)
+abbrev pub contour : Shared ℤ → Shared ℤ → Shared ℕ → Inputs
+contour xs ys flags = inputs (shared xs) (shared ys) (shared flags)
 
 -- ---- an export's contract: its entry's, of an answer that the report shows
 

@@ -38,7 +38,7 @@ fn either(a: bool, b: bool) -> bool
 
 // What step k is compared with, in a round that starts with a state. The place is carried along.
 fn state_at(xs: &[i16], ys: &[i16], flags: &[u8], from: Point, k: usize) -> Point
-    ensures { result ≡ state_at (before xs) (before ys) (before flags) from k }
+    ensures { result ≡ state_at xs.now ys.now flags.now from k }
 {
     let mut s = from;
     let mut a = 0;
@@ -64,7 +64,7 @@ fn previous(m: usize, k: usize) -> usize
 
 // The tangent at the end of segment k.
 fn arriving_at(xs: &[i16], ys: &[i16], flags: &[u8], k: usize) -> Point
-    ensures { result ≡ arriving_of (seg_at (before xs) (before ys) (before flags) k) }
+    ensures { result ≡ arriving_of (seg_at xs.now ys.now flags.now k) }
 {
     outline::read_from(xs, ys, flags, outline::start_of(flags, k)).arriving()
 }
@@ -72,7 +72,7 @@ fn arriving_at(xs: &[i16], ys: &[i16], flags: &[u8], k: usize) -> Point
 // The five tests at index k, of m segments. Both rounds of signs are looked at: the second starts with the state that
 // the first ended with.
 fn reasons(xs: &[i16], ys: &[i16], flags: &[u8], m: usize, k: usize) -> Marks
-    ensures { result ≡ reasons_of (before xs) (before ys) (before flags) m k }
+    ensures { result ≡ reasons_of xs.now ys.now flags.now m k }
 {
     let origin = Point { x: 0.0, y: 0.0 };
     let first = state_at(xs, ys, flags, origin, k);

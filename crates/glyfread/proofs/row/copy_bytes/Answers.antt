@@ -1,0 +1,34 @@
+use native.Mathlib.Omega.{arith}
+use Prim.Native.Nat.{◌-◌, ◌≤◌}
+use lib.ListN.{take, drop}
+use Rattle.glyfread.proofs.Words.{length_part, part_is, laid_all}
+use Rattle.rows.proofs.Filled.{Filled, start, more}
+use Rattle.glyfread.proofs.row.copy_bytes.Goals as goal
+
+pub loop-i-init : goal.loop-i-init
+loop-i-init c = (start _ _, omega arith)
+
+pub overflow_add-row : goal.overflow_add-row
+overflow_add-row c = omega arith
+
+pub bounds-bytes-from : goal.bounds-bytes-from
+bounds-bytes-from c = omega arith
+
+pub bounds-row-i : goal.bounds-row-i
+bounds-row-i c = omega (arith, c.loop-i.invariant.0.same)
+
+pub overflow_add-i : goal.overflow_add-i
+overflow_add-i c = omega arith
+
+pub loop-i-smaller : goal.loop-i-smaller
+loop-i-smaller c = omega arith
+
+pub loop-i-preserved : goal.loop-i-preserved
+loop-i-preserved c = let size = length_part c.args.bytes.now c.args.from c.args.n c.requires.0 in
+    (more 0 _ c.loop-i.invariant.0 (omega (arith, c.loop-i.invariant.0.same)) (omega (arith, size)) (part_is _ _ _ c.requires.0 _ c.loop-i-test.true), omega arith)
+
+pub shape_of-row : goal.shape_of-row
+shape_of-row c = c.loop-i.invariant.0.same
+
+pub returns : goal.returns
+returns c = laid_all c.loop-i.invariant.0 (omega (arith, length_part c.args.bytes.now c.args.from c.args.n c.requires.0))

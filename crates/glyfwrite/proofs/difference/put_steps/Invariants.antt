@@ -1,0 +1,20 @@
+-- `glyfwrite::difference::put_steps` meets its contract. Assumes nothing.
+use borrow.Author.Rules.{sfits_of}
+use Rattle.glyfwrite.proofs.Taking.{copied}
+use native.Mathlib.Omega.{arith}
+use mathlib.Core.List.{map}
+use Prim.Native.Nat.{◌+◌, ◌-◌, ◌*◌, ◌≤◌}
+use lib.IntN.{pos}
+use lib.ListN.{length, drop}
+use mir.Syntax.{w16}
+use mir.Val.{to_z}
+use Rattle.glyf.specs.Layout.{steps, code_of, joined}
+use Rattle.glyfwrite.proofs.Putting.{Going, begin, more, all}
+use Rattle.glyfwrite.proofs.Coding.{next_code, no_codes}
+use Rattle.glyfwrite.proofs.difference.put_steps.Given as goal
+
+abbrev pub invariant-loop-i : goal.invariant-loop-i
+invariant-loop-i l = Going l.initial.out l.from (joined (map code_of (steps (pos 0) l.row))) l.out l.at (joined (map code_of (steps l.last (drop l.i l.row)))) × (l.i ≤ length l.row) × (l.at ≤ l.from + 2 * l.i)
+
+abbrev pub decreases-loop-i : goal.decreases-loop-i
+decreases-loop-i l = length l.row - l.i

@@ -1,0 +1,19 @@
+-- `glyfwrite::difference::steps_fit` meets its contract. Assumes nothing.
+use borrow.Author.Rules.{sfits_of}
+use Rattle.glyfwrite.proofs.Taking.{copied}
+use native.Mathlib.Omega.{arith}
+use mathlib.Core.Path.{◌≡◌, refl, sym, ◌∙◌}
+use Prim.Native.Nat.{◌-◌}
+use lib.IntN.{pos}
+use lib.ListN.{length, drop}
+use mir.Syntax.{w16}
+use mir.Val.{to_z}
+use Rattle.glyf.specs.Layout.{all16, steps}
+use Rattle.glyfwrite.proofs.Coding.{next_fits, no_steps}
+use Rattle.glyfwrite.proofs.difference.steps_fit.Given as goal
+
+abbrev pub invariant-loop-i : goal.invariant-loop-i
+invariant-loop-i l = all16 (steps (pos 0) l.row) ≡ all16 (steps l.last (drop l.i l.row))
+
+abbrev pub decreases-loop-i : goal.decreases-loop-i
+decreases-loop-i l = length l.row - l.i

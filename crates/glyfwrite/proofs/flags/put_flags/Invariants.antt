@@ -1,0 +1,23 @@
+-- `glyfwrite::flags::put_flags` meets its contract. Assumes nothing.
+use native.Mathlib.Omega.{arith}
+use borrow.Author.Rules.{sfits_of}
+use mathlib.Core.Path.{ap, ◌∙◌}
+use mathlib.Core.List.{List}
+use Prim.Native.Nat.{ℕ, ◌+◌, ◌-◌, ◌*◌, ◌<◌, ◌≤◌}
+use lib.IntN.{pos}
+use lib.ListN.{length, drop}
+use mir.Syntax.{w16}
+use mir.Val.{to_z}
+use Rattle.glyf.specs.Layout.{steps, packed, packed_flags, coded_flags}
+use Rattle.glyfwrite.proofs.Putting.{Going, begin, more, same_row}
+use Rattle.glyfwrite.proofs.Taking.{copied}
+use Rattle.glyfwrite.proofs.Running.{starts, next_flag_lem, no_flag, last_run}
+use Rattle.glyfwrite.proofs.flags.put_flags.Given as goal
+
+abbrev pub invariant-loop-i : goal.invariant-loop-i
+invariant-loop-i l = Going l.initial.out l.from (packed_flags (coded_flags l.flags (steps (pos 0) l.xs) (steps (pos 0) l.ys))) l.out l.run.at
+    (packed (coded_flags (drop l.i l.flags) (steps l.last_x (drop l.i l.xs)) (steps l.last_y (drop l.i l.ys))) l.run.flag l.run.times) ×
+    (l.i ≤ length l.flags) × (l.run.at ≤ l.from + 2 * l.i) × (l.run.flag < 64) × (l.run.times ≤ 256)
+
+abbrev pub decreases-loop-i : goal.decreases-loop-i
+decreases-loop-i l = length l.flags - l.i
