@@ -18,7 +18,7 @@ pub store_point-requires : goal.store_point-requires
 store_point-requires c = tt
 
 pub shape_of-points : goal.shape_of-points
-shape_of-points c = c.store_point.auto.0
+shape_of-points c = c.store_point.auto.points
 
 pub returns : goal.returns
 unfolding kept_point

@@ -16,7 +16,7 @@ pub totals_in-requires : goal.totals_in-requires
 totals_in-requires c = tt
 
 pub shape_of-points : goal.shape_of-points
-shape_of-points c = c.scan_bytes-s.auto.1.1.0
+shape_of-points c = c.scan_bytes-s.auto.points
 
 pub returns : goal.returns
 returns c = judge_is _ _ c.scan_bytes-s.ensures c.is_utf8.ensures c.totals_in.ensures

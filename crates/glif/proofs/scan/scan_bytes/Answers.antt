@@ -26,8 +26,8 @@ loop-i-preserved c = (
   omega
       arith,
   scan_more _ _ _ _ c.loop-i.invariant.1 c.turn-s.ensures,
-  c.turn-s.auto.1.1.1.0 ∙ c.loop-i.invariant.2,
-  c.turn-s.auto.1.1.1.1.0 ∙ c.loop-i.invariant.3,
+  c.turn-s.auto.names ∙ c.loop-i.invariant.2,
+  c.turn-s.auto.points ∙ c.loop-i.invariant.3,
 )
 
 pub shape_of-names : goal.shape_of-names

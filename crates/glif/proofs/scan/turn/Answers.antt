@@ -34,10 +34,10 @@ pub sum_of-requires : goal.sum_of-requires
 sum_of-requires c = tt
 
 pub shape_of-names : goal.shape_of-names
-shape_of-names c = c.keep_name.auto.0
+shape_of-names c = c.keep_name.auto.names
 
 pub shape_of-points : goal.shape_of-points
-shape_of-points c = c.keep_point.auto.0
+shape_of-points c = c.keep_point.auto.points
 
 pub returns : goal.returns
 returns c = turn_is c.args.bytes.now _ _ _ _ c.class_of.ensures c.move_of-m.ensures c.text_of-text.ensures c.wrong_names-wrong.ensures c.keep_name.ensures c.point_met.ensures c.keep_point.ensures c.tree_of.ensures c.sum_of.ensures

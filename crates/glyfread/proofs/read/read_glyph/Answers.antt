@@ -55,6 +55,6 @@ pub returns-else-lacks_room : goal.returns-else-lacks_room
 returns-else-lacks_room c = let j = subst (Judges _) c.in-At.is c.judge.ensures in
     let n =
     leaves_filled c.args.bytes.now (glyph c.args.ends.now c.args.xs.now c.args.ys.now c.args.flags.now c.args.instructions.now) _ j c.lacks_room.ensures c.if-lacks_room.false c.start.ensures
-    c.copy_words.ensures c.copy_bytes.ensures c.fill_points.ensures.xs_after c.fill_points.ensures.ys_after.0 c.fill_points.ensures.ys_after.1
+    c.copy_words.ensures c.copy_bytes.ensures c.fill_points.ensures.xs_after c.fill_points.ensures.ys_after c.fill_points.ensures.flags_after
     in
     record { answer = n.answer; left = n.left }

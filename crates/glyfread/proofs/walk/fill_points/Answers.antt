@@ -15,4 +15,8 @@ pub shape_of-flags : goal.shape_of-flags
 shape_of-flags c = search rules
 
 pub returns : goal.returns
-returns c = (c.walk_points.ensures.walked.in_xs c.requires.from_value c.requires.roomy, (c.walk_points.ensures.walked.in_ys c.requires.from_value c.requires.roomy, c.walk_points.ensures.walked.in_fs c.requires.from_value c.requires.roomy))
+returns c = record {
+  xs_after = c.walk_points.ensures.walked.in_xs c.requires.from_value c.requires.roomy;
+  ys_after = c.walk_points.ensures.walked.in_ys c.requires.from_value c.requires.roomy;
+  flags_after = c.walk_points.ensures.walked.in_fs c.requires.from_value c.requires.roomy;
+}

@@ -34,11 +34,11 @@ loop-i-smaller c = omega arith
 
 pub loop-i-preserved : goal.loop-i-preserved
 loop-i-preserved c = c.loop-i.invariant ∙ next_fits _ _ _ c.loop-i-test.true (copied (sfits_of c.z-1.given))
-    c.between.ensures c.before.fits2.ensures ∙ rw c.if-fits.true
+    c.between.ensures c.fits.ensures ∙ rw c.if-fits.true
 
 pub returns-else-fits : goal.returns-else-fits
 returns-else-fits c = sym (c.loop-i.invariant ∙ next_fits _ _ _ c.loop-i-test.true (copied (sfits_of c.z-1.given))
-    c.between.ensures c.before.fits2.ensures ∙ rw c.if-fits.false)
+    c.between.ensures c.fits.ensures ∙ rw c.if-fits.false)
 
 pub returns : goal.returns
 returns c = sym (c.loop-i.invariant ∙ no_steps _ _ _ c.loop-i-test.false)
