@@ -20,6 +20,6 @@ shape_of-points c = search rules
 
 pub returns : goal.returns
 returns c = λ n e b room v.
-    c.put_rounded.ensures (control n.x-1) (control n.y-1) (e + 2) (8 * b) room
-    (rw c.control.ensures (control_exact (roomy_less room) v.x-1))
-    (rw c.control-2.ensures (control_exact (roomy_less room) v.y-1)) refl
+    c.put_rounded.ensures (control n.x) (control n.y) (e + 2) (8 * b) room
+    (rw c.control.ensures (control_exact (roomy_less room) v.x))
+    (rw c.control-2.ensures (control_exact (roomy_less room) v.y)) refl

@@ -10,4 +10,4 @@ pub shape_of-points : goal.shape_of-points
 shape_of-points c = search rules
 
 pub returns : goal.returns
-returns c = λ n e b room v. c.put_rounded.ensures n.x-1.p0 n.y-1.p0 e b room v.x-1.p0 v.y-1.p0 refl
+returns c = λ n e b room v. c.put_rounded.ensures n.x.p0 n.y.p0 e b room v.x.p0 v.y.p0 refl

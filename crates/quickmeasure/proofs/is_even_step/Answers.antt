@@ -4,7 +4,7 @@ use Rattle.quickmeasure.proofs.is_even_step.Goals as goal
 
 pub returns-then-b : goal.returns-then-b
 returns-then-b c h =
-    record { first = c.if-a-b.true; c.before = c.if-b-ends.true; least = c.if-b.true; most = h }
+    record { first = c.if-a-b.true; middle = c.if-b-ends.true; least = c.if-b.true; most = h }
 
 pub returns-else-b : goal.returns-else-b
 returns-else-b c h = absurd (false≢true h)

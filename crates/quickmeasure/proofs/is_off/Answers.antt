@@ -28,14 +28,14 @@ whole c = subst T (sym c.well_formed.1.1.1.0.1) tt
 pub returns-then-w-2 : goal.returns-then-w-2
 returns-then-w-2 c h =
     record {
-      from = from c.before.before.before.before.before.before.before.before.before.before.before.before.before.before;
-      whole = whole c.before.before.before.before.before.before.before.before.before.before.before.before.before.before;
-      c.before.before.before.before.before.before.before.before.before.before.before = _;
+      from = from c.before.before.before.before.before.before.before.before.before.before.before.before;
+      whole = whole c.before.before.before.before.before.before.before.before.before.before.before.before;
+      spot = _;
       is = sym c.lookup.ensures ∙ c.in-At.is;
       most = c.if-base-h.false;
-      c.before.before.before = c.if-base.true;
-      c.before.before = c.if-w.true;
-      c.before = c.if-w-2.true;
+      above = c.if-base.true;
+      some = c.if-w.true;
+      few = c.if-w-2.true;
       wide = rw c.square_norm.ensures at h;
     }
 
