@@ -1,5 +1,6 @@
 // Module 8: one attempt, by value: what a piece from one break to another makes of the answer that stands where it ends.
 #![tactic(auto)]
+
 pub mod answer;
 
 ghost use Rattle.std.specs.Prelude.{◌≡◌, true};

@@ -2,6 +2,7 @@
 // scratch rows, which are left zero throughout whatever they held. Answers and links are lent for their
 // rooms alone: the checker has the same rooms as the optimiser.
 #![tactic(auto)]
+
 ghost use Rattle.std.specs.Prelude.{◌≡◌, ◌<◌, ◌≤◌, length};
 ghost use Rattle.rows.specs.Lent.{room, contour};
 ghost use Rattle.runs.specs.Runs.{numbered_run};

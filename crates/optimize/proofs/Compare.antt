@@ -15,6 +15,7 @@ use Rattle.float.proofs.Less.{not_less}
 
 or_left : (a b : Bool) → T a → T (a || b)
 or_left true b t = tt
+or_left false b t = elim t [ ]
 
 or_right : (a b : Bool) → T b → T (a || b)
 or_right true b t = tt

@@ -88,6 +88,8 @@ unfolding add is_nan
 plus_number (fin s m e) nan f n = absurd (false≢true (sym n))
 plus_number (fin s m e) (inf t) f n = refl
 plus_number (fin s m e) (fin t k d) f n = sum_number s (m * up e * down d) t (k * up d * down e) (down e * down d)
+plus_number nan y f n = elim f [ ]
+plus_number (inf _) y f n = elim f [ ]
 
 -- what is no NaN, less a finite number
 minus_number : (x y : Float) → is_nan x ≡ false → T (finite y) → is_nan (sub binary64 x y) ≡ false
@@ -95,6 +97,12 @@ unfolding sub add neg is_nan
 minus_number nan (fin t k d) n f = absurd (false≢true (sym n))
 minus_number (inf s) (fin t k d) n f = refl
 minus_number (fin s m e) (fin t k d) n f = plus_number (fin s m e) (fin (not t) k d) tt refl
+minus_number nan nan n f = elim f [ ]
+minus_number nan (inf _) n f = elim f [ ]
+minus_number (inf s) nan n f = elim f [ ]
+minus_number (inf s) (inf _) n f = elim f [ ]
+minus_number (fin s m e) nan n f = elim f [ ]
+minus_number (fin s m e) (inf _) n f = elim f [ ]
 
 half_number : (y : Float) → is_nan y ≡ false → is_nan (mul binary64 half y) ≡ false
 unfolding mul is_nan of_bits
@@ -161,6 +169,8 @@ from_whole t q h ok = by (is_whole q.p0) (not (is_line q)) (subst (λ (b : Bool)
 finite_number : (x : Float) → T (finite x) → is_nan x ≡ false
 unfolding is_nan
 finite_number (fin s m e) f = refl
+finite_number nan f = elim f [ ]
+finite_number (inf _) f = elim f [ ]
 
 finite_has : (p : Point) → Finite p → has_nan p ≡ false
 finite_has p f = or-false _ _ (finite_number p.x f.0) (finite_number p.y f.1)

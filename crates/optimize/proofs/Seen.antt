@@ -378,6 +378,7 @@ one_score : {ss : List Float} {x : Best} → Good ss x → length ss ≤ 1 → s
 one_score nothing h = refl
 one_score (stands {s} {ss = []} f now) h = refl
 one_score (stands {s} {ss = t ∷ ss} f i) h = absurd (omega arith)
+one_score (stands {s = s} {ss = []} {a = a} f (later x6)) h = elim x6 [ ]
 
 module _ (measure : Measure) (breaks : Row) (penalty : Float) (some : 0 < length breaks) where
   abbrev end_break : ℕ

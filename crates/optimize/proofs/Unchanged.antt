@@ -27,6 +27,7 @@ module _ (measure : Measure) (breaks : Row) (penalty : Float) (some : 0 < length
   -- where an attempt into the last break got a score, an answer stands there
   end_answers : (p : ℕ) (x : Best) {s : Float} {ss : List Float} → Good (s ∷ ss) x → Answers (ended measure breaks penalty p x)
   end_answers p (best a) g = one a p
+  end_answers p none {s = s} {ss = ss} g = elim g [ ]
 
   go_answers : (limit : Float) (p : ℕ) (x : Best) (next : Optimised) {s : Float} {ss : List Float} → Good (s ∷ ss) x → Answers next → Answers (go_on measure breaks penalty limit p x next)
   go_answers limit p (best a) next g n = chosen (lt limit (score_of a))
@@ -34,6 +35,7 @@ module _ (measure : Measure) (breaks : Row) (penalty : Float) (some : 0 < length
       chosen : (above : Bool) → Answers (chosen_if measure breaks penalty above next (solved a p))
       chosen true = n
       chosen false = one a p
+  go_answers limit p none next {s = s} {ss = ss} g n = elim g [ ]
 
   search_answers : (s : States) {t : Float} {ss : List Float} → Carried (length breaks) last (t ∷ ss) s → Answers (searched measure breaks penalty s)
   search_answers refused c = none_measured

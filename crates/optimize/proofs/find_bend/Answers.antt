@@ -1,0 +1,74 @@
+-- `optimize::find_bend` meets its contract. Assumes nothing.
+-- once it is known whether the bent piece is allowed
+use borrow.Author.Rules.{rules}
+use mathlib.Core.Bool.{Bool, true, false}
+use mathlib.Core.List.{List}
+use mathlib.Core.Path.{◌≡◌, refl, sym, ◌∙◌}
+use Prim.Native.Nat.{ℕ, ◌≤◌}
+use Rattle.geometry.specs.Geometry.{round_point_of, intersect_of}
+use Rattle.geometry.specs.declared.Crossing.TheVariants as Crossing
+use Rattle.geometry.specs.declared.Point.{Point}
+use Rattle.geometry.specs.declared.Quad.{Quad}
+use Rattle.breaks.specs.Breaks.{Row, break_at}
+use Rattle.attempt.specs.Answers.{Best, ok_for_half}
+use Rattle.optimize.specs.Optimize.{best_at}
+use Rattle.optimize.specs.Stored.{Phase, Rep}
+use Rattle.optimize.proofs.Attempt.{stands_half}
+use Rattle.optimize.proofs.Trying.{crossing_of, quad_of_lem, half_of, bend_nowhere, bend_allowed, bend_not_allowed}
+use Rattle.optimize.proofs.find_bend.Goals as goal
+use Rattle.optimize.proofs.find_bend.Goals.{After-ok_for_half, After-read-b, Start}
+
+module _ (c : After-ok_for_half) where
+  abbrev start : Start
+  start = c.before.before.before.before.before.before.before.before.before.before.before.before.before
+
+  abbrev bs : Row
+  bs = start.args.breaks.now
+
+  abbrev reading : After-read-b
+  reading = c.before.before.before.before.before.before.before.before.before.before.before
+
+  abbrev p : Point
+  p = c.in-At.p
+
+  crosses : Crossing.At p ≡ intersect_of (break_at bs start.args.i).xy (break_at bs start.args.i).dir (break_at bs start.args.j).xy (break_at bs start.args.j).dir
+  crosses = sym c.in-At.is ∙ c.intersect.ensures ∙ crossing_of reading.before.read.ensures reading.read2.ensures
+
+  abbrev quad : Quad
+  quad = record { p0 = reading.before.read.result.xy; p1 = c.round-p1.result; p2 = reading.read2.result.xy }
+
+  bends : quad ≡ record { p0 = (break_at bs start.args.i).xy; p1 = round_point_of p; p2 = (break_at bs start.args.j).xy }
+  bends = quad_of_lem reading.before.read.ensures c.round-p1.ensures reading.read2.ensures
+
+  -- whether it is allowed, of the states
+  allows : {f : Phase} {n : ℕ} {st : List Best} (b : Bool) → start.args.i ≤ n → Rep f n bs start.args.answers.now start.args.links.now st →
+      c.ok_for_half.result ≡ b → ok_for_half (best_at st start.args.i) quad ≡ b
+  allows b upto rep e = sym (stands_half quad (rep.stands start.args.i upto)) ∙ sym (half_of {q = quad} c.standing-previous.ensures refl) ∙ sym c.ok_for_half.ensures ∙ e
+
+pub read-a-requires : goal.read-a-requires
+read-a-requires c = c.requires.from
+
+pub read-b-requires : goal.read-b-requires
+read-b-requires c = c.requires.to
+
+pub intersect-requires : goal.intersect-requires
+intersect-requires c = search rules
+
+pub returns-in_default : goal.returns-in_default
+returns-in_default c = λ f n st upto rep.
+    bend_nowhere _ _ _ _ (sym c.in_default.is ∙ c.intersect.ensures ∙ crossing_of c.read-a.ensures c.read-b.ensures)
+
+pub round-p1-requires : goal.round-p1-requires
+round-p1-requires c = search rules
+
+pub standing-previous-requires : goal.standing-previous-requires
+standing-previous-requires c = (c.requires.links_of, c.requires.stands)
+
+pub ok_for_half-requires : goal.ok_for_half-requires
+ok_for_half-requires c = search rules
+
+pub returns-then-ok_for_half : goal.returns-then-ok_for_half
+returns-then-ok_for_half c = λ f n st upto rep. bend_allowed _ _ _ _ (p c.before.before.before) (quad c.before) (crosses c.before) (bends c.before) (allows c.before true upto rep c.if-ok_for_half.true)
+
+pub returns : goal.returns
+returns c = λ f n st upto rep. bend_not_allowed _ _ _ _ (p c.before.before.before) (quad c.before) (crosses c.before) (bends c.before) (allows c.before false upto rep c.if-ok_for_half.false)
