@@ -2,6 +2,7 @@
 // each root is taken by its digits. That this is the RK4 of the definitions is a law over lists of any length, cited for one value here
 // and for two in `measure`.
 #![tactic(auto)]
+
 ghost use Rattle.std.specs.Prelude.{◌≡◌};
 ghost use Rattle.arclen.specs.Rk4.{moved_by, grown_by};
 ghost use Rattle.arclen.specs.Arclen.{arclen_functor_of, deriv_of, speed_of, arclen_of};

@@ -1,6 +1,7 @@
 // Module 7: the breaks of a run, a row of [s, x, y, dx, dy]. Each contract equates the result, and what
 // is left in the row, with a definition of specs/Breaks.antt.
 #![tactic(auto)]
+
 ghost use Rattle.std.specs.Prelude.{◌≡◌, ◌≤◌, ◌<◌, length, take};
 ghost use Rattle.breaks.specs.Breaks.{half_grid, whole_grid, on_grid, grid_point, packed_of, break_at, places_of, place_at, opens, opened};
 ghost use Rattle.breaks.specs.Breaks.{join_of, so, stepped, breaks_of, joined_in, count_joined, breaks_in, count_found};

@@ -1,6 +1,7 @@
 // Module 9: the points of a contour, written to a row of [x, y, flag]; then reversed, with implied points
 // dropped. Each contract equates what is left in the row with a definition of specs/.
 #![tactic(auto)]
+
 ghost use Rattle.std.specs.Prelude.{◌≡◌, false, [], ◌∷◌, ◌++◌, reverse, ◌-◌, ◌<◌, ◌≤◌, pos, ◌+ℤ◌, length, take, drop, get_or, set};
 ghost use Rattle.outline.specs.Segments.{previous};
 ghost use Rattle.contour.specs.Points.{on_point, off_point, point_as, start_point, points_of, piece_points, unchanged_points, came_to, unchanged_in};

@@ -41,6 +41,8 @@ square (fin s m e) t a v small = by s
   where
     p : m * up e ≡ a * down e
     p = plain m e a v.1
+square lib.Ieee.nan t a v small = elim v [ ]
+square (lib.Ieee.inf _) t a v small = elim v [ ]
 
     h : m * up e * (m * up e) ≡ a * a * (down e * down e)
     h = rw p (mul-mul-mul_comm a (down e) a (down e))
@@ -56,6 +58,12 @@ total (fin false m e) (fin true n d) a b v w small = absurd (true≢false w.0)
 total (fin false m e) (fin false n d) a b v w small =
     round_unit 0 false _ _ (a + b) (lit≤ tt) (mul-pos (down_pos e) (down_pos d)) small
     (add-mul (m * up e * down d) (n * up d * down e) 1 ∙ rw (left m n a b 1 e d v.1 w.1, right m n a b 1 e d v.1 w.1) (sym (add-mul a b (down e * down d))))
+total lib.Ieee.nan y a b v w small = elim v [ ]
+total (lib.Ieee.inf _) y a b v w small = elim v [ ]
+total (fin false m e) lib.Ieee.nan a b v w small = elim w [ ]
+total (fin false m e) (lib.Ieee.inf _) a b v w small = elim w [ ]
+total (fin true m e) lib.Ieee.nan a b v w small = elim w [ ]
+total (fin true m e) (lib.Ieee.inf _) a b v w small = elim w [ ]
 
 -- ---- a step: the difference of two coordinates
 

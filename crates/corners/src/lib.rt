@@ -1,5 +1,6 @@
 // Module 3: the corners among the segments of a contour. Each contract equates the result with a definition of specs/, and asks nothing.
 #![tactic(auto)]
+
 ghost use Rattle.std.specs.Prelude.{◌≡◌, ◌-◌, length};
 ghost use Rattle.outline.specs.Segments.{count_of, seg_at, arriving_of};
 ghost use Rattle.corners.specs.Corners.{turns_x, turns_y, turns, kept_of, after_turn, zero_tangent, angle_corner, tangent_corner};

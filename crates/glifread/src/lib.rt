@@ -1,5 +1,6 @@
 // UFO's GLIF, read into rows.
 #![tactic(auto)]
+
 mod enter;
 mod place;
 mod read;

@@ -1,6 +1,5 @@
 // A file into rows: it is judged whole, with its points in the scratch row; then the contours enter the rows.
 ghost use Rattle.std.specs.Prelude.{◌≡◌};
-
 ghost use Rattle.glifread.specs.Reads.{refusal, report_of, numbered};
 ghost use Rattle.glifread.specs.Entry.{lent, Promise};
 

@@ -1,5 +1,6 @@
 // UFO's GLIF, written: a file with other points in its contours.
 #![tactic(auto)]
+
 mod contours;
 mod put;
 mod write;

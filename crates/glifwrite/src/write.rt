@@ -1,6 +1,5 @@
 // A file with the insides of its contours replaced.
 ghost use Rattle.std.specs.Prelude.{◌≡◌, ◌≤◌, length};
-
 ghost use Rattle.glifwrite.specs.Puts.{put};
 ghost use Rattle.glifwrite.specs.Contours.{even, rows_refused};
 ghost use Rattle.glifwrite.specs.Writes.{given, no_copy, copying, copy_on, write_all, report_of};

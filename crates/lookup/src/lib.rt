@@ -1,6 +1,7 @@
 // The lookups of module 5, the Rust's `Thetas::xy` and `Thetas::dir`: a place and a direction in a row of samples [x, y, direction x, y],
 // each looked up by itself.
 #![tactic(auto)]
+
 ghost use Rattle.std.specs.Prelude.{◌≡◌, ◌<◌};
 ghost use Rattle.lookup.specs.Lookup.{point_from, looked_up, xy_at, dir_at, found_in, Falls};
 

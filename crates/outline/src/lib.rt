@@ -1,6 +1,7 @@
 // Module 3: the segments of a contour. A contour is three rows: x, y, and flags whose bit 0 means on-curve. Each contract equates the
 // result with a definition of specs/, and asks nothing.
 #![tactic(auto)]
+
 ghost use Rattle.std.specs.Prelude.{◌≡◌};
 ghost use Rattle.outline.specs.Segments.{coordinate, on_at, count_of, next_of, end_of, place_after, start_of, line_from, quad_from, seg_from};
 ghost use Rattle.outline.specs.Segments.{is_quad_of, chord_of, leaving_of, arriving_of};

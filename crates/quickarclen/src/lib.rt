@@ -4,6 +4,7 @@
 // compiled to take several at a time, and taken by these guesses in another, where they overlap. Of a straight piece all
 // speeds are one.
 #![tactic(auto)]
+
 ghost use Rattle.std.specs.Prelude.{true, ◌≡◌, ◌<◌, length, get_or};
 ghost use Rattle.std.specs.Float.{nan};
 ghost use Rattle.arclen.specs.Rk4.{grown_by};

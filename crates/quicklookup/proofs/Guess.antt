@@ -17,6 +17,8 @@ unfolding lt
 above (fin true p g) n m e v h = absurd (true≢false v.0)
 above (fin false p g) n m e v h =
     lt_of_mul-lt-mul_right (down g) (subst (λ (a : ℕ). a < m * up e * down g) (scaled p g n e v.1) (ltb-true (p * up g * down e) (m * up e * down g) h))
+above nan n m e v h = elim v [ ]
+above (inf _) n m e v h = elim v [ ]
 
 -- what the two tests say of s
 pub record Within (b : ℕ) (s : Float) : Type 0 where
@@ -41,6 +43,10 @@ within (fin false p g) w (fin false m e) b v u less h k =
       place = cut_is (m * up e) (down e) b low (positive_below w (b + 1) m e u k) less;
       positive = lt-ltb (0 * down e) (m * up e * 1) (omega arith);
     }
+within nan w s b v u less h k = elim v [ ]
+within (inf _) w s b v u less h k = elim v [ ]
+within (fin t p g) nan (inf false) b v u less h k = elim u [ ]
+within (fin t p g) (inf _) (inf false) b v u less h k = elim u [ ]
 
 pub guessed : (s : Float) (b : ℕ) → b < 2 ^ 53 → lt (of_int binary64 (pos b)) s ≡ true → lt s (of_int binary64 (pos (b + 1))) ≡ true → Within b s
 unfolding of_int

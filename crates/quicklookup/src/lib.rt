@@ -1,5 +1,6 @@
 // The lookups of module 5, fast: a place and a direction in a row of samples [x, y, direction x, y], both at once.
 #![tactic(auto)]
+
 ghost use Rattle.std.specs.Prelude.{◌≡◌, ◌^◌, ◌<◌};
 ghost use Rattle.std.specs.Float.Ieee.{to_unsigned};
 ghost use Rattle.float.specs.Float.{fract_of};

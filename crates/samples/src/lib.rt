@@ -1,6 +1,7 @@
 // Module 5, the Rust's `Thetas::new`: the samples of a run, a row of [x, y, direction x, y] at each whole arc length, by 100 steps a quad.
 // Each contract equates what is left in the row with a definition of specs/Samples.antt.
 #![tactic(auto)]
+
 ghost use Rattle.std.specs.Prelude.{◌≡◌, ◌≤◌, length, take};
 ghost use Rattle.float.specs.Numbers.{nought};
 ghost use Rattle.arclen.specs.Arclen.{arclen_functor_of};

@@ -1,0 +1,8 @@
+-- `arclen::ArclenFunctor::new` meets its contract. Assumes nothing.
+use mathlib.Core.Path.{refl}
+use Rattle.arclen.specs.Arclen.{arclen_functor_of}
+use Rattle.arclen.proofs.ArclenFunctor.new.Goals as goal
+
+pub returns : goal.returns
+unfolding arclen_functor_of
+returns c = refl

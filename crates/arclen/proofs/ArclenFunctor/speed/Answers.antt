@@ -1,0 +1,13 @@
+-- `arclen::ArclenFunctor::speed` meets its contract. Assumes nothing.
+use Rattle.arclen.specs.Arclen.{speed_of}
+use Rattle.arclen.proofs.ArclenFunctor.speed.Goals as goal
+
+pub deriv-requires : goal.deriv-requires
+deriv-requires c = tt
+
+pub norm-requires : goal.norm-requires
+norm-requires c = tt
+
+pub returns : goal.returns
+unfolding speed_of
+returns c = rw (c.norm.ensures, c.deriv.ensures)

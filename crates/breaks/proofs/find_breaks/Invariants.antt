@@ -1,0 +1,16 @@
+-- `breaks::find_breaks` meets its contract. The loop's invariant is `Seeking`; the measure is what is left of the places. Assumes nothing.
+use Prim.Native.Nat.{ℕ, suc, ◌-◌, ◌^◌, ◌≤◌}
+use native.Mathlib.Omega.{arith}
+use mathlib.Core.Path.{refl, ◌∙◌}
+use lib.Dec.{T, le→leb}
+use lib.IntN.{pos}
+use lib.Ieee.{binary64, in_float}
+use Rattle.breaks.specs.Breaks.{full, last, past}
+use Rattle.breaks.proofs.Laws.{capped, Seeking, seek, seeks, seeks_no_more, sought}
+use Rattle.breaks.proofs.find_breaks.Given as goal
+
+abbrev pub invariant-loop-i : goal.invariant-loop-i
+invariant-loop-i l = Seeking l.samples l.len l.g l.n l.initial.row l.row l.p.count l.p.opened l.i
+
+abbrev pub decreases-loop-i : goal.decreases-loop-i
+decreases-loop-i l = suc l.n - l.i

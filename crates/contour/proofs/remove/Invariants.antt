@@ -1,0 +1,11 @@
+-- `contour::remove` meets its contract. The loop's invariant is `Moving`. Assumes nothing.
+use Prim.Native.Nat.{◌-◌}
+use native.Mathlib.Omega.{arith}
+use Rattle.contour.proofs.Dropping.{Moving, move_start, move_more, move_all}
+use Rattle.contour.proofs.remove.Given as goal
+
+abbrev pub invariant-loop-i : goal.invariant-loop-i
+invariant-loop-i l = Moving l.initial.points l.points l.at l.n l.i
+
+abbrev pub decreases-loop-i : goal.decreases-loop-i
+decreases-loop-i l = l.n - l.i

@@ -1,0 +1,15 @@
+-- `corners::is_zero` meets its contract. Assumes nothing.
+use borrow.Author.Rules.{rules}
+use Rattle.corners.proofs.is_zero.Goals as goal
+
+pub is_close-requires : goal.is_close-requires
+is_close-requires c = search rules
+
+pub is_close-requires-then-is_close : goal.is_close-requires-then-is_close
+is_close-requires-then-is_close c = search rules
+
+pub returns-then-is_close : goal.returns-then-is_close
+returns-then-is_close c = rw (← c.is_close.ensures, c.if-is_close.true) c.is_close-then-is_close.ensures
+
+pub returns-else-is_close : goal.returns-else-is_close
+returns-else-is_close c = rw (← c.is_close.ensures, c.if-is_close.false)

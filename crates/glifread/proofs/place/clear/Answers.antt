@@ -1,0 +1,32 @@
+use Prim.Native.Nat.{◌-◌}
+use mathlib.Core.Path.{◌≡◌, refl}
+use native.Mathlib.Omega.{arith}
+use borrow.Author.Rules.{rules}
+use lib.ListN.{length, replicate}
+use Rattle.rows.proofs.Filled.{Filled, blank_start, blank_more, blank_all}
+use Rattle.glifread.specs.Enter.{no_place}
+use Rattle.glifread.proofs.place.clear.Goals as goal
+
+pub loop-i-init : goal.loop-i-init
+loop-i-init c = (refl, blank_start no_place _)
+
+pub offset_bounds-points-i : goal.offset_bounds-points-i
+offset_bounds-points-i c = omega arith
+
+pub bounds-points-i : goal.bounds-points-i
+bounds-points-i c = search rules
+
+pub overflow_step-i : goal.overflow_step-i
+overflow_step-i c = omega arith
+
+pub loop-i-smaller : goal.loop-i-smaller
+loop-i-smaller c = omega arith
+
+pub loop-i-preserved : goal.loop-i-preserved
+loop-i-preserved c = (c.loop-i.invariant.0, blank_more no_place c.loop-i.invariant.1 (omega arith))
+
+pub shape_of-points : goal.shape_of-points
+shape_of-points c = c.loop-i.invariant.1.same
+
+pub returns : goal.returns
+returns c = blank_all no_place c.loop-i.invariant.1 (omega arith)

@@ -1,0 +1,20 @@
+-- `glifread::place::store_i16` meets its contract. Assumes nothing.
+use borrow.Author.Rules.{rules}
+use lib.Seq.{set_out}
+use mathlib.Core.Path.{sym}
+use Rattle.glifread.proofs.place.store_i16.Goals as goal
+
+pub offset_bounds-row-i : goal.offset_bounds-row-i
+offset_bounds-row-i c = search rules
+
+pub bounds-row-i : goal.bounds-row-i
+bounds-row-i c = search rules
+
+pub shape_of-row : goal.shape_of-row
+shape_of-row c = search rules
+
+pub returns-then-i-row : goal.returns-then-i-row
+returns-then-i-row c = search rules
+
+pub returns-else-i-row : goal.returns-else-i-row
+returns-else-i-row c = sym (set_out _ _ _ c.if-i-row.false)

@@ -1,0 +1,46 @@
+-- `glifread::read::read_glif` meets its contract. Assumes nothing.
+use mathlib.Core.Path.{◌∙◌}
+use Rattle.glifread.proofs.Leaving.{read_answer, read_left}
+use Rattle.glifread.proofs.read.read_glif.Goals as goal
+
+pub clear-requires : goal.clear-requires
+clear-requires c = tt
+
+pub judge-f-requires : goal.judge-f-requires
+judge-f-requires c = tt
+
+pub refuse-k-requires : goal.refuse-k-requires
+refuse-k-requires c = tt
+
+pub pick-requires : goal.pick-requires
+pick-requires c = tt
+
+pub enter_all-requires : goal.enter_all-requires
+enter_all-requires c = tt
+
+pub clear-requires-2 : goal.clear-requires-2
+clear-requires-2 c = tt
+
+pub report_of-requires : goal.report_of-requires
+report_of-requires c = tt
+
+pub shape_of-ends : goal.shape_of-ends
+shape_of-ends c = c.enter_all.auto.ends
+
+pub shape_of-xs : goal.shape_of-xs
+shape_of-xs c = c.enter_all.auto.xs
+
+pub shape_of-ys : goal.shape_of-ys
+shape_of-ys c = c.enter_all.auto.ys
+
+pub shape_of-flags : goal.shape_of-flags
+shape_of-flags c = c.enter_all.auto.flags
+
+pub shape_of-points : goal.shape_of-points
+shape_of-points c = c.clear-2.auto.points ∙ c.judge-f.auto.points ∙ c.clear.auto.points
+
+pub returns : goal.returns
+returns c = record {
+  answer = read_answer c.args.bytes.now c.args.ends.now c.args.xs.now c.args.ys.now c.args.flags.now c.args.points.now c.clear.ensures c.judge-f.ensures (c.judge-f.auto.points ∙ c.clear.auto.points) c.refuse-k.ensures c.pick.ensures c.enter_all.ensures c.clear-2.ensures c.report_of.ensures;
+  left = read_left c.args.bytes.now c.args.ends.now c.args.xs.now c.args.ys.now c.args.flags.now c.args.points.now c.clear.ensures c.judge-f.ensures (c.judge-f.auto.points ∙ c.clear.auto.points) c.refuse-k.ensures c.pick.ensures c.enter_all.ensures c.clear-2.ensures c.report_of.ensures;
+}

@@ -1,0 +1,14 @@
+-- `glifwrite::put::put_range` meets its contract. Assumes nothing.
+use native.Mathlib.Omega.{arith}
+use Prim.Native.Nat.{◌-◌, ◌≤◌}
+use mathlib.Core.Path.{◌≡◌, refl, ◌∙◌}
+use lib.ListN.{length}
+use Rattle.glifwrite.specs.Puts.{put, put_range}
+use Rattle.glifwrite.proofs.Putting.{range_start, range_more, range_all}
+use Rattle.glifwrite.proofs.put.put_range.Given as goal
+
+abbrev pub invariant-loop-k : goal.invariant-loop-k
+invariant-loop-k l = (l.n ≡ l.to - l.from) × (l.k ≤ l.n) × (put l.a l.out ≡ put_range l.bytes l.from l.k (put l.initial.a l.initial.out)) × (length l.out ≡ length l.initial.out)
+
+abbrev pub decreases-loop-k : goal.decreases-loop-k
+decreases-loop-k l = l.n - l.k
