@@ -4,6 +4,7 @@
 // `pairs P unchanged`, or `pairs P score S chain C` with START END CX CY of each piece, floats by their bits, and then two
 // verdicts: on this chain, and on it with a score that is one more.
 #![tactic(auto)]
+
 ghost use Rattle.std.specs.Io.{ReadsAtMost};
 
 use chains::Chained;

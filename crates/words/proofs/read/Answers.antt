@@ -17,9 +17,6 @@ end_of-e-requires c = omega arith
 pub slice_bounds-take-count : goal.slice_bounds-take-count
 slice_bounds-take-count c = omega (arith, c.end_of-e.ensures.lower_bound)
 
-pub take-r-requires : goal.take-r-requires
-take-r-requires c = tt
-
 pub overflow_add-at : goal.overflow_add-at
 overflow_add-at c = omega (arith, c.end_of-e.ensures.lower_bound)
 
@@ -31,9 +28,6 @@ loop-at-preserved c =
     c.loop-at.invariant
     ∙ next_word c.loop-at.r c.args.words.now c.loop-at.at c.end_of-e.result c.loop-at-test.true c.end_of-e.ensures.value
     ∙ ap (λ (r : R.Reading). all_taken r (ended_by 0 (drop (c.end_of-e.result + 1) c.args.words.now))) (sym c.take-r.ensures)
-
-pub end-requires : goal.end-requires
-end-requires c = tt
 
 pub returns : goal.returns
 unfolding asked_of

@@ -6,15 +6,6 @@ use Rattle.words.specs.Steps.{sixteenths_in}
 use Rattle.words.proofs.Taking.{capped}
 use Rattle.words.proofs.take.Goals as goal
 
-pub option_of-requires : goal.option_of-requires
-option_of-requires c = tt
-
-pub read_size-requires : goal.read_size-requires
-read_size-requires c = tt
-
-pub sixteenths-requires : goal.sixteenths-requires
-sixteenths-requires c = tt
-
 pub returns-in-Has : goal.returns-in-Has
 unfolding taken
 returns-in-Has c = rw c.in-Has.is c.option_of.ensures

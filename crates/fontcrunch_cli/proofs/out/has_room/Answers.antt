@@ -1,5 +1,3 @@
--- `fontcrunch_cli::out::has_room` meets its contract. Assumes nothing.
--- the test without a sum, which could overflow
 use Prim.Native.Nat.{ℕ, ◌+◌, ◌-◌, ◌≤◌}
 use mathlib.Core.Bool.{Bool, true, false}
 use mathlib.Core.Path.{◌≡◌, refl, sym, ◌∙◌}
@@ -8,6 +6,7 @@ use borrow.Author.Tests.{leb-true, leb-false, le-leb, lt-leb}
 use lib.Dec.{leb}
 use Rattle.fontcrunch_cli.proofs.out.has_room.Goals as goal
 
+-- the test without a sum, which could overflow
 same_test : (n at : ℕ) → 300000 ≤ n → leb at (n - 300000) ≡ leb (at + 300000) n
 same_test n at enough = by (leb at (n - 300000)) refl
   where
