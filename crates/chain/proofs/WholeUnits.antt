@@ -37,16 +37,19 @@ fine_whole {before} a b c g f = by f.on_grid_lem
 leads_inside : {n at : ℕ} {ps : List Piece} → Leads n at ps → (p : Piece) → Memᴰ p ps → p.from < n
 leads_inside (onward less most rest) p (Memᴰ.head e) = rw e (omega arith)
 leads_inside (onward less most rest) p (Memᴰ.tail m) = leads_inside rest p m
+leads_inside {n = n} Rattle.chain.specs.Rule.arrived p x4 = elim x4 [ ]
 
 inside : {n : ℕ} {ps : List Piece} → Joined n ps → (p : Piece) → Memᴰ p ps → p.from ≤ n
 inside (staying from to) p (Memᴰ.head e) = rw e (omega arith)
 inside (leading l) p m = omega (arith, leads_inside l p m)
+inside (staying from to) p (mathlib.Core.List.Memᴰ.tail x8) = elim x8 [ ]
 
 module _ (breaks : Row) (brought : (i : ℕ) → i < length breaks → Brought whole_grid (break_at breaks i).xy) where
   whole_in : {before : Before} {ps : List Piece} → Each breaks before ps → (p : Piece) → Memᴰ p ps → p.from < length breaks →
       OnWhole (break_at breaks p.from)
   whole_in (and fine rest) p (Memᴰ.head e) h = rw e (fine_whole _ _ _ (brought _ (rw (sym e) h)) fine)
   whole_in (and fine rest) p (Memᴰ.tail m) h = whole_in rest p m h
+  whole_in (Rattle.chain.specs.Rule.all {before = before}) p x7 h = elim x7 [ ]
 
 pub starts_on_units : StartsOnUnits
 starts_on_units room samples len breaks found penalty starts ends xs ys score accepted p m =

@@ -1,12 +1,12 @@
 // Demand 3: the checker. A chain stands in four rows: start break, end break, control x, control y. Each
 // contract equates the result with a definition of specs/Valid.antt.
 #![tactic(auto)]
+
 mod shape;
 mod sum;
 mod valid;
 
 ghost use Rattle.std.specs.Prelude.{◌≡◌, ◌<◌, ◌≤◌, length};
-
 ghost use Rattle.chain.specs.Valid.{check_rows};
 ghost use Rattle.chain.specs.Fallen.{fallen_rows};
 

@@ -3,7 +3,7 @@
 use Prim.Native.Nat.{ℕ, zero, suc, ◌+◌, ◌-◌, ◌%◌, ◌≤◌}
 use mathlib.Core.Bool.{Bool, true, false, not, ◌&&◌}
 use mathlib.Core.List.{List, [], ◌∷◌, ◌++◌, map}
-use mathlib.Core.Path.{◌≡◌, refl, sym, ap, ◌∙◌}
+use mathlib.Core.Path.{subst, ◌≡◌, refl, sym, ap, ◌∙◌}
 use native.Mathlib.Nat.{le_refl}
 use native.Mathlib.Omega.{arith}
 use lib.IntN.{ℤ, pos}
@@ -95,8 +95,9 @@ pub up_of : (past k : ℕ) (pre row : List ℕ) → length pre ≡ k → map (λ
 unfolding up_from
 up_of past k pre [] e = refl
 up_of past k pre (p ∷ row) e =
-    rw (get_or_at pre p row past k e, ← (append_snoc pre p row))
-    (ap (◌∷◌ p) (up_of past (k + 1) (pre ++ (p ∷ [])) row (rw length-append (omega arith))))
+    rw (get_or_at pre p row past k e)
+    (ap (◌∷◌ p) (subst (λ (xs : List ℕ). map (λ (i : ℕ). get_or xs i past) (up_from (k + 1) (length row)) ≡ row) (append_snoc pre p row)
+    (up_of past (k + 1) (pre ++ (p ∷ [])) row (rw length-append (omega arith)))))
 
 -- ---- what is left
 

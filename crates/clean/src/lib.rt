@@ -2,6 +2,7 @@
 // be put back. A contour is three rows: x, y, and flags whose bit 0 means on-curve. Inside, a point goes by its
 // number in the upload, and why it goes by a number too: 0 it stays, 1 before, 2 both, 3 first.
 #![tactic(auto)]
+
 ghost use Rattle.std.specs.Prelude.{◌≡◌, map, ◌+◌, ◌-◌, ◌<◌, ◌≤◌, eqb, ltb, pos, length, take, get_or};
 ghost use Rattle.refusals.specs.Accepted.{Accepted};
 ghost use Rattle.contour.specs.Implied.{same};

@@ -41,8 +41,6 @@ square (fin s m e) t a v small = by s
   where
     p : m * up e ≡ a * down e
     p = plain m e a v.1
-square lib.Ieee.nan t a v small = elim v [ ]
-square (lib.Ieee.inf _) t a v small = elim v [ ]
 
     h : m * up e * (m * up e) ≡ a * a * (down e * down e)
     h = rw p (mul-mul-mul_comm a (down e) a (down e))
@@ -50,6 +48,8 @@ square (lib.Ieee.inf _) t a v small = elim v [ ]
     by : (s : Bool) → HasValue (round binary64 (unlike s s) (m * up e * (m * up e)) (down e * down e)) false (a * a) 1
     by true = round_unit 0 false _ _ (a * a) (lit≤ tt) (mul-pos (down_pos e) (down_pos e)) small (mul-one (m * up e * (m * up e)) ∙ h)
     by false = round_unit 0 false _ _ (a * a) (lit≤ tt) (mul-pos (down_pos e) (down_pos e)) small (mul-one (m * up e * (m * up e)) ∙ h)
+square lib.Ieee.nan t a v small = elim v [ ]
+square (lib.Ieee.inf _) t a v small = elim v [ ]
 
 total : (x y : Float) (a b : ℕ) → HasValue x false a 1 → HasValue y false b 1 → a + b < 2 ^ 53 → HasValue (add binary64 x y) false (a + b) 1
 unfolding add sum

@@ -3,6 +3,7 @@
 // coordinate of its third difference is at most 8 in size; then it is the quad with the control that document 02
 // names. Each f64 here is exact; only a point that is written is rounded.
 #![tactic(auto)]
+
 ghost use Rattle.std.specs.Prelude.{◌≡◌, false, ◌&&◌, ◌||◌, List, [], ◌∷◌, ℕ, ◌+◌, ◌*◌, ◌^◌, ◌<◌, ◌≤◌, ℤ, pos, length, get_or};
 ghost use Rattle.refusals.specs.Refusals.{is_on};
 ghost use Rattle.rows.specs.Lent.{before, after, contour};

@@ -2,6 +2,7 @@
 // its first on-curve point, and between two off-curve points that follow each other their middle is put in,
 // on-curve, each coordinate rounded with halves away from zero.
 #![tactic(auto)]
+
 ghost use Rattle.std.specs.Prelude.{◌≡◌, [], ◌∷◌, ◌++◌, ◌<◌, ◌≤◌, ◌+ℤ◌, length};
 ghost use Rattle.std.specs.Int.Signed.{mag};
 ghost use Rattle.outline.specs.Segments.{on_at};

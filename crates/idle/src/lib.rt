@@ -3,6 +3,7 @@
 // goes, and a list says which place it had and which neighbour it equals: 1 the one before it, 2 the one after it.
 // Whether a place is idle hangs on the upload alone, so that one pass finds them all.
 #![tactic(auto)]
+
 ghost use Rattle.std.specs.Prelude.{◌≡◌, map, ◌+◌, ◌-◌, ◌<◌, ◌≤◌, length, take};
 ghost use Rattle.refusals.specs.Accepted.{Accepted};
 ghost use Rattle.contour.specs.Output.{outputs};

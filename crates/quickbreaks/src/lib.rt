@@ -1,6 +1,7 @@
 // Module 7, fast: the breaks of a run. Distances to the grid are held by their squares, and a root is taken only where two squares are
 // close. Each contract equates the result, and what is left in the row, with a definition of breaks/specs/Breaks.antt.
 #![tactic(auto)]
+
 ghost use Rattle.std.specs.Prelude.{◌≡◌, true, ◌≤◌, length, take};
 ghost use Rattle.std.specs.Float.Ieee.{lt};
 ghost use Rattle.float.specs.Float.{root_of};

@@ -600,6 +600,7 @@ zero_le_gap k w =
 blank_short : {E : ℕ} {factor p w : Float} → Factor E factor → IsBlank p → NotNegative p → Gap w → Short p (mul binary64 factor w)
 blank_short k blank_nan n w = inl refl
 blank_short k (blank (is_zero false)) n w = inr (zero_le_gap k w)
+blank_short {E = E} {factor = factor} k (blank (is_zero true)) n w = elim n [ ]
 
 -- the length z and a stage x, where the length is a number
 record Ends (E : ℕ) (x z : Float) : Type 0 where
@@ -718,6 +719,7 @@ listed_at g k (suc n) zero less =
 listed_at g k (suc n) (suc j) less =
     let one : k + suc j ≡ suc k + j = omega arith in
     rw one (listed_at g (suc k) n j (omega arith))
+listed_at g k zero j less = elim less [ ]
 
 abbrev stages_of : ArclenFunctor → List (List Float)
 stages_of f = listed (stage_at f) 0 40

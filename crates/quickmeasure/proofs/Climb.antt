@@ -100,6 +100,8 @@ level_le (zeros (is_zero s) (is_zero false)) (number _ _) no_number h = absurd h
 level_le (zeros (is_zero s) (is_zero false)) (number _ _) endless h = tt
 level_le (zeros (is_zero s) (is_zero false)) (number _ _) (number c g) h =
     le_of_values (fin false 0 (pos 0)) (fin false c g) 0 1 (c * up g) (down g) (omega arith) (down_pos g) (refl, refl) (refl, refl) (omega arith)
+level_le {r = r} (one_sign true a b e d same) x13 _ h = elim x13 [ ]
+level_le {r = r} (zeros (is_zero s) (is_zero true)) x28 _ h = elim x28 [ ]
 
 pub own : (m n : ℕ) (e d : ℤ) → T (fits binary64 (fin false m e)) → T (le (fin false m e) (add binary64 (fin false m e) (fin false n d)))
 unfolding add sum

@@ -40,6 +40,8 @@ place_below (fin t p g) (fin true m e) n v h less = h
 place_below (fin t p g) (fin false m e) n v h less =
     let cut : m * up e / down e < n = (div-lt_iff_lt-mul (down_pos e)).1 (positive_below (fin t p g) n m e v less) in
     omega arith
+place_below nan s n v h less = elim v [ ]
+place_below (inf _) s n v h less = elim v [ ]
 
 -- the lookups are answered, at places before the last stored one: what is seen, as it would be written
 module _ (row : List (List Float)) (m : MeasureFunctor) (stages : List (List Float))

@@ -94,6 +94,8 @@ signed_of (fin true m e) true h r = signed true m e r
 signed_of (fin true m e) false h r = absurd (false≢true h)
 signed_of (fin false m e) true h r = absurd (true≢false h)
 signed_of (fin false m e) false h r = signed false m e r
+signed_of nan s {a = a} {c = c} h r = elim r [ ]
+signed_of (inf _) s {a = a} {c = c} h r = elim r [ ]
 
 -- any f64 is a number of smallest ones, with a sign
 record Whole (x : Float) : Type 0 where
@@ -105,6 +107,8 @@ whole : (x : Float) → T (fits binary64 x) → T (finite x) → Whole x
 whole (fin s m e) f h =
     let own = sized m e (sign_fits s m e f) in
     record { sign = s; size = own.size; value = signed s m e own.value }
+whole nan f h = elim h [ ]
+whole (inf _) f h = elim h [ ]
 
 -- ---- what is finite has finite parts, whatever their signs
 add_whole : (x y : Float) → T (finite (add binary64 x y)) → T (finite x) × T (finite y)
@@ -129,6 +133,8 @@ mul_whole (fin t n d) (ratio m e p v) h = tt
 abs_finite : (x : Float) → T (finite x) → T (finite (abs_of x))
 unfolding abs_of
 abs_finite (fin s m e) h = tt
+abs_finite nan h = elim h [ ]
+abs_finite (inf _) h = elim h [ ]
 
 -- ---- a coordinate starts at d, and in the time t it goes by t times g
 pub record Line (d g : Float) : Type 0 where

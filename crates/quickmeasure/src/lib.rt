@@ -2,6 +2,7 @@
 // flat form. The rate of the length looks at the time alone, so that the 40 stages are known before the
 // first lookup, no root is taken twice, and no lookup waits for a term.
 #![tactic(auto)]
+
 ghost use Rattle.std.specs.Prelude.{true, ◌≡◌, ◌<◌, length, get_or};
 ghost use Rattle.std.specs.Float.{nan};
 ghost use Rattle.quickarclen.specs.Stages.{Written};

@@ -1,6 +1,7 @@
 // Module 5, fast: the samples of a run, by ten steps at a time. Each contract equates what is left in the row with a definition of
 // samples/specs/Samples.antt.
 #![tactic(auto)]
+
 ghost use Rattle.std.specs.Prelude.{◌≡◌, ◌≤◌, false, length, take};
 ghost use Rattle.float.specs.Numbers.{nought};
 ghost use Rattle.geometry.specs.Geometry.{unitize_of};

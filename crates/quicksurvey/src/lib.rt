@@ -1,5 +1,6 @@
 // One run surveyed, fast: its samples (module 5), then its breaks (module 7), for the optimiser.
 #![tactic(auto)]
+
 ghost use Rattle.std.specs.Prelude.{◌≡◌, ◌≤◌, length};
 ghost use Rattle.breaks.specs.Breaks.{breaks_of};
 ghost use Rattle.survey.specs.Survey.{break_room, searched, survey_of, survey_in, samples_used, breaks_used};

@@ -1,6 +1,7 @@
 // The runs of a contour. Its corners are listed once, upward; run k lies between places k and k + 1 of the
 // list.
 #![tactic(auto)]
+
 ghost use Rattle.std.specs.Prelude.{◌≡◌, ◌-◌, ◌≤◌, ◌<◌, min, length, get_or};
 ghost use Rattle.runs.specs.Runs.{marks_from, corner_list, stops_of, between, run_at, copied_from, is_copied, workable, numbered_run, Listed};
 

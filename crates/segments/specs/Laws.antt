@@ -7,7 +7,7 @@ use Rattle.std.proofs.lemmas.List.{length-map}
 use Rattle.std.specs.Float.{nan, binary64}
 use Rattle.std.specs.Float.Ieee.{is_nan, le, in_float}
 use Rattle.std.specs.Float.Ieee.Back.{unsigned_back}
-use Rattle.outline.specs.Segments.{count_of}
+use Rattle.outline.specs.Segments.{count_of, end_of}
 use Rattle.geometry.specs.declared.Quad.{Quad}
 use Rattle.samples.specs.Samples.{length_after, quads_from, quads_of}
 use Rattle.breaks.specs.Breaks.{Row, break_at}
@@ -78,7 +78,7 @@ number_few total n = by (ltb n total)
 quads_many : (xs ys : List ℤ) (fs : List ℕ) (a n : ℕ) → length (quads_from xs ys fs a n) ≡ n
 unfolding quads_from
 quads_many xs ys fs a zero = refl
-quads_many xs ys fs a (suc n) = ap suc (quads_many xs ys fs _ n)
+quads_many xs ys fs a (suc n) = ap suc (quads_many xs ys fs (end_of fs a) n)
 
 ends_many : (qs : List Quad) (y : Float) → length (ends_from qs y) ≡ length qs
 unfolding ends_from

@@ -2,6 +2,7 @@
 // the breaks are found and used, so that nothing else can depend on it. Each contract equates the result
 // with a definition of specs/Segments.antt.
 #![tactic(auto)]
+
 ghost use Rattle.std.specs.Prelude.{◌≡◌, map, ◌-◌, ◌≤◌, length, take};
 ghost use Rattle.float.specs.Numbers.{nought};
 ghost use Rattle.samples.specs.Samples.{length_after, quads_of};

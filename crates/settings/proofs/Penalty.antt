@@ -23,6 +23,9 @@ is_sixteenths n (fin s m e) = not s && eqb (m * up e * 16) (n * down e)
 sixteenths : (n : ℕ) (x : Float) → T (is_sixteenths n x) → HasValue x false n 16
 unfolding is_sixteenths
 sixteenths n (fin false m e) h = (refl, eqb→eq (m * up e * 16) (n * down e) h)
+sixteenths n nan h = elim h [ ]
+sixteenths n (inf _) h = elim h [ ]
+sixteenths n (fin true m e) h = elim h [ ]
 
 abbrev quotient : ℕ → Float
 quotient n = div binary64 (of_int binary64 (pos n)) sixteen

@@ -1,7 +1,7 @@
 // What a caller chooses, handed down by value to whatever works a run; and refusal 16, of that choice.
 #![tactic(auto)]
+
 ghost use Rattle.std.specs.Prelude.{◌≡◌};
-ghost use Rattle.rows.specs.Lent.{before};
 ghost use Rattle.settings.specs.Settings.{penalty_of, grid_of, crate_settings, settings_fine, judged_for};
 
 use breaks::Grid;
@@ -61,7 +61,7 @@ impl Settings {
 
     // Refusals 1 to 5 of the rows first, whatever was chosen, then 16.
     pub fn judge(self, xs: &[i16], ys: &[i16], flags: &[u8]) -> Judged
-        ensures { result ≡ judged_for self (before xs) (before ys) (before flags) }
+        ensures { result ≡ judged_for self xs.now ys.now flags.now }
     {
         match refusals::judge(xs, ys, flags) {
             Judged::Refused(k) => Judged::Refused(k),

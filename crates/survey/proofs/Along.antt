@@ -195,6 +195,10 @@ mul_rises m e (fin false p g) (fin true q d) i j v w h = absurd (true≢false w.
 mul_rises m e (fin false p g) (fin false q d) i j v w h =
     round_mono binary64 (m * up e * (p * up g)) (down e * down g) (m * up e * (q * up d)) (down e * down d) (mul-pos (down_pos e) (down_pos g))
     (mul-pos (down_pos e) (down_pos d)) (by_parts (m * up e) i j (down e) (down g) (down d) (p * up g) (q * up d) v.1 w.1 h)
+mul_rises m e nan y i j v w h = elim v [ ]
+mul_rises m e (inf _) y i j v w h = elim v [ ]
+mul_rises m e (fin false p g) nan i j v w h = elim w [ ]
+mul_rises m e (fin false p g) (inf _) i j v w h = elim w [ ]
 
 div_rises : {a b : ℕ} {x y : Float} (z : Float) (n : ℕ) → NotNegative x → NotNegative y → Within a x → Within b y → T (le x y) → HasValue z false n 1 → 0 < n →
     T (le (div binary64 x z) (div binary64 y z))
@@ -212,6 +216,12 @@ div_rises (fin false (suc p) g) n (number m e) (number l d) wx wy h v some =
         let left : A * c * (q * dd) ≡ A * dd * (c * q) = simp (mul_assoc, mul_comm, mul_left_comm) in
         let right : B * c * (q * de) ≡ B * de * (c * q) = simp (mul_assoc, mul_comm, mul_left_comm) in
         rw (left, right) (mul-le-mul_right (c * q) k)
+div_rises {a = a} {b = b} nan n x y wx wy h v some = elim v [ ]
+div_rises {a = a} {b = b} (inf _) n x y wx wy h v some = elim v [ ]
+div_rises {a = a} {b = b} (fin false (suc p) g) n NotNegative.no_number y wx wy h v some = elim wx [ ]
+div_rises {a = a} {b = b} (fin false (suc p) g) n NotNegative.endless y wx wy h v some = elim wx [ ]
+div_rises {a = a} {b = b} (fin false (suc p) g) n (number m e) NotNegative.no_number wx wy h v some = elim wy [ ]
+div_rises {a = a} {b = b} (fin false (suc p) g) n (number m e) NotNegative.endless wx wy h v some = elim wy [ ]
 
 module _ (m : ℕ) (e : ℤ) (k : ℕ) (small : k ≤ 2 ^ 22) (w : Within k (fin false m e)) where
   part : (i : ℕ) → NotNegative (mul binary64 (fin false m e) (of_int binary64 (pos i)))
@@ -289,6 +299,7 @@ module _ (sampleRow breakRow : ℕ) (xs ys : List ℤ) (fs : List ℕ) (first co
 
 upward : {y : Float} → Size y → (k : ℕ) → k ≤ 2 ^ 22 → Within k y → (n i j : ℕ) → i < j → j ≤ n → n < 2 ^ 31 → T (le (length_at y n i) (length_at y n j))
 upward (Speeds.number m d) k small w = lengths_rise m d k small w
+upward endless k small w = elim w [ ]
 
 pub lengths_rising : LengthsRise
 lengths_rising sampleRow breakRow xs ys fs first count g samples row sx sy h =

@@ -33,6 +33,10 @@ within_of (fin s m e) (fin true p g) n v h = absurd (true≢false v.0)
 within_of (fin s m e) (fin false p g) n v h =
     within s m e
     (le_of_mul-le-mul_right (subst (λ (a : ℕ). m * up e * down g ≤ a) (scaled p g n e v.1) (at_most (m * up e * down g) (p * up g * down e) h)) (down_pos g))
+within_of (inf s) nan n v h = elim v [ ]
+within_of (inf s) (inf _) n v h = elim v [ ]
+within_of (fin s m e) nan n v h = elim v [ ]
+within_of (fin s m e) (inf _) n v h = elim v [ ]
 
 -- ---- a rounded fraction
 
@@ -100,6 +104,8 @@ div_within {a} {n} (fin t (suc p) g) (within s m e h) v some N =
 
     same : suc p * up g ≡ n * down g → a * n * (down e * down g) ≡ a * (suc p * up g * down e)
     same q = rw q (simp (mul_assoc, mul_comm))
+div_within {a = a} {n = n} nan _ v some N = elim v [ ]
+div_within {a = a} {n = n} (inf _) _ v some N = elim v [ ]
 
 -- 0 / 0
 pub none_over_none : {x : Float} → Within 0 x → div binary64 x (fin false 0 (pos 0)) ≡ nan

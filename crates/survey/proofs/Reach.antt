@@ -35,6 +35,8 @@ one_more (fin true p g) n v = absurd (false≢true (sym v.0))
 one_more (fin false p g) n v =
     round_same binary64 false (p * up g * 1 + 1 * down g) (down g * 1) (n + 1) 1 (omega (arith, down_pos g)) (omega arith)
     (omega (arith, v.1, add-mul n 1 (down g)))
+one_more lib.Ieee.nan n v = elim v [ ]
+one_more (inf _) n v = elim v [ ]
 
 next : {x : Float} {n : ℕ} → n ≤ 2 ^ 52 → x ≡ whole n → add binary64 x one ≡ whole (n + 1)
 next {x} {n} h e = one_more x n (subst (λ (z : Float). HasValue z false n 1) (sym e) (round_whole binary64 false n (omega arith)))
@@ -118,6 +120,8 @@ above m e n h = lt_of_not-le (λ l. no l)
 beyond_by : (n : ℕ) (x : Float) → HasValue x false n 1 → le x (add binary64 (inf false) two) ≡ false → ⊥
 unfolding le add of_bits
 beyond_by n (fin s m e) v h = false≢true (sym h)
+beyond_by n lib.Ieee.nan v h = elim v [ ]
+beyond_by n (inf _) v h = elim v [ ]
 
 beyond : (n : ℕ) → n ≤ 2 ^ 52 → le (whole n) (add binary64 (inf false) two) ≡ false → ⊥
 beyond n few h = beyond_by n (whole n) (round_whole binary64 false n (omega arith)) h

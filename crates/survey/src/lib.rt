@@ -1,6 +1,7 @@
 // One run surveyed: its samples (module 5), then its breaks (module 7). What is tested of the answer rows
 // is another step: two editions share one survey.
 #![tactic(auto)]
+
 ghost use Rattle.std.specs.Prelude.{◌≡◌, ◌≤◌, length};
 ghost use Rattle.breaks.specs.Breaks.{breaks_of};
 ghost use Rattle.survey.specs.Survey.{break_room, searched, survey_of, survey_in, samples_used, breaks_used};

@@ -1,6 +1,7 @@
 // Why a run stops where it does: which of the tests that make a segment's start a corner hold there. A contour is
 // three rows: x, y, and flags whose bit 0 means on-curve. No row is written.
 #![tactic(auto)]
+
 ghost use Rattle.std.specs.Prelude.{◌≡◌};
 ghost use Rattle.rows.specs.Lent.{before, contour};
 ghost use Rattle.outline.specs.Segments.{seg_at, arriving_of, previous};

@@ -10,10 +10,4 @@ shape_of-row c = search rules
 
 pub returns-in-At : goal.returns-in-At
 returns-in-At c =
-    rw c.in-At.is c.join.ensures
-
-pub returns-in-Missing : goal.returns-in-Missing
-returns-in-Missing c = search rules
-
-pub returns-in-Past : goal.returns-in-Past
-returns-in-Past c = search rules
+    rw c.in-At.is (record { row = c.join.ensures.row; count = c.join.ensures.count })

@@ -24,10 +24,10 @@ pub loop-i-init : goal.loop-i-init
 loop-i-init c = seek _ _ _ _ _ _ _ c.places-n.ensures refl refl
 
 pub int_to_float-i : goal.int_to_float-i
-int_to_float-i c = exact _ (omega (arith, few c.before.before))
+int_to_float-i c = exact _ (omega (arith, few c.before.before.before))
 
 pub int_to_float-n : goal.int_to_float-n
-int_to_float-n c = exact _ (omega (arith, few c.before.before.before))
+int_to_float-n c = exact _ (omega (arith, few c.before.before.before.before))
 
 pub place-next-requires : goal.place-next-requires
 place-next-requires c = tt
@@ -58,7 +58,7 @@ returns-in-Past c =
     record { row = seeks_no_more c.loop-i.invariant past (λ room pl. refl) c.loop-i-test.true c.place-next.ensures (c.advance.ensures.row ∙ rw c.in-Past.is refl); count = omega arith }
 
 pub overflow_add-i : goal.overflow_add-i
-overflow_add-i c = omega (arith, few c.before.before.before.before.before.before.before.before.before.before)
+overflow_add-i c = omega (arith, few c.before.before.before.before.before.before.before.before.before)
 
 pub loop-i-smaller : goal.loop-i-smaller
 loop-i-smaller c = omega arith

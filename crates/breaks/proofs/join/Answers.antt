@@ -33,6 +33,12 @@ returns-then-opens c =
 pub packed-requires : goal.packed-requires
 packed-requires c = search rules
 
+pub overflow_sub-n : goal.overflow_sub-n
+overflow_sub-n c = omega (arith, pos_of_ne-zero (some c.before.before.before))
+
+pub offset_bounds-row-n : goal.offset_bounds-row-n
+offset_bounds-row-n c = search rules
+
 pub bounds-row-n : goal.bounds-row-n
 bounds-row-n c = omega (arith, pos_of_ne-zero (some c.before.before.before))
 

@@ -22,14 +22,14 @@ xy-requires c = tt
 
 pub returns-in_default : goal.returns-in_default
 returns-in_default c =
-    sym (no_place _ _ _ (inside c.before.before.before) (rw c.in_default.is at c.xy.ensures))
+    sym (no_place _ _ _ (inside c.before.before) (rw c.in_default.is at c.xy.ensures))
 
 pub dir-requires : goal.dir-requires
 dir-requires c = tt
 
 pub returns-in_default-dir : goal.returns-in_default-dir
 returns-in_default-dir c =
-    sym (no_direction _ _ _ (inside c.before.before.before.before.before.before.before) (rw c.in-At.is at c.xy.ensures) (rw c.in_default-dir.is at c.dir.ensures))
+    sym (no_direction _ _ _ (inside c.before.before.before.before) (rw c.in-At.is at c.xy.ensures) (rw c.in_default-dir.is at c.dir.ensures))
 
 pub point-xy-requires : goal.point-xy-requires
 point-xy-requires c = tt
@@ -40,4 +40,4 @@ distance-requires c = tt
 pub returns : goal.returns
 returns c =
     rw (c.distance.ensures, c.point-xy.ensures)
-    (sym (both_there _ _ _ (inside c.before.before.before.before.before.before.before.before.before.before) (rw c.in-At.is at c.xy.ensures) (rw c.in-At-dir.is at c.dir.ensures)))
+    (sym (both_there _ _ _ (inside c.before.before.before.before.before.before) (rw c.in-At.is at c.xy.ensures) (rw c.in-At-dir.is at c.dir.ensures)))

@@ -9,28 +9,26 @@ use Rattle.contour.proofs.Sixteen.{midway_back}
 use Rattle.contour.proofs.is_implied.Goals as goal
 use Rattle.contour.proofs.is_implied.Goals.{After-is_midway, After-is_midway-2, Else-is_off, Else-not-is_off, Else-not-is_off-2}
 
-this_on : (c : Else-is_off) → off_curve c.args.t2 ≡ false
+this_on : (c : Else-is_off) → off_curve c.args.this ≡ false
 this_on c = sym c.is_off.ensures ∙ c.if-is_off.false
 
-prev_off : (c : Else-not-is_off) → off_curve c.args.t1 ≡ true
+prev_off : (c : Else-not-is_off) → off_curve c.args.prev ≡ true
 prev_off c = sym c.is_off-2.ensures ∙ not-false c.is_off-2.result c.if-not-is_off.false-raw
 
-next_off : (c : Else-not-is_off-2) → off_curve c.args.t3 ≡ true
+next_off : (c : Else-not-is_off-2) → off_curve c.args.next ≡ true
 next_off c = sym c.is_off-3.ensures ∙ not-false c.is_off-3.result c.if-not-is_off-2.false-raw
 
 x_is : (c : After-is_midway) →
-    c.is_midway.result ≡ midway_in c.args.closed 0 c.args.t1 c.args.t2 c.args.t3
+    c.is_midway.result ≡ midway_in c.args.closed 0 c.args.prev c.args.this c.args.next
 x_is c =
-    let c.args = c.args in
     c.is_midway.ensures
-    ∙ midway_back (midway_by c.args.closed) (number c.args.t1 0) (number c.args.t2 0) (number c.args.t3 0) (sfits_of c.is_midway-arg-1.given) (sfits_of c.is_midway-arg-2-1.given) (sfits_of c.is_midway-arg-3-1.given)
+    ∙ midway_back (midway_by c.args.closed) (number c.args.prev 0) (number c.args.this 0) (number c.args.next 0) (sfits_of c.is_midway-arg-1.given) (sfits_of c.is_midway-arg-2-1.given) (sfits_of c.is_midway-arg-3-1.given)
 
 y_is : (c : After-is_midway-2) →
-    c.is_midway-2.result ≡ midway_in c.args.closed 1 c.args.t1 c.args.t2 c.args.t3
+    c.is_midway-2.result ≡ midway_in c.args.closed 1 c.args.prev c.args.this c.args.next
 y_is c =
-    let c.args = c.args in
     c.is_midway-2.ensures
-    ∙ midway_back (midway_by c.args.closed) (number c.args.t1 1) (number c.args.t2 1) (number c.args.t3 1) (sfits_of c.is_midway-arg-4-1.given) (sfits_of c.is_midway-arg-5-1.given) (sfits_of c.is_midway-arg-6-1.given)
+    ∙ midway_back (midway_by c.args.closed) (number c.args.prev 1) (number c.args.this 1) (number c.args.next 1) (sfits_of c.is_midway-arg-4-1.given) (sfits_of c.is_midway-arg-5-1.given) (sfits_of c.is_midway-arg-6-1.given)
 
 pub is_off-requires : goal.is_off-requires
 is_off-requires c = tt

@@ -10,4 +10,4 @@ pub bounds-p-2 : goal.bounds-p-2
 bounds-p-2 c = search rules
 
 pub returns : goal.returns
-returns c = same_bits {a = number c.args.t1 2} {b = pos 0} (sfits_of c.result-1.given) (record { sfits = omega arith })
+returns c = same_bits {w = mir.Syntax.w16} {a = number c.args.p 2} {b = pos 0} (sfits_of c.result-1.given) (record { sfits = omega arith })

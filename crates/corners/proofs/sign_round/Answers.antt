@@ -42,4 +42,4 @@ pub shape_of-marks : goal.shape_of-marks
 shape_of-marks c = c.loop-k.invariant.same
 
 pub returns : goal.returns
-returns c = signs_all c.loop-k.invariant c.loop-k-test.false
+returns c = record { marks = (signs_all c.loop-k.invariant c.loop-k-test.false).0; state = (signs_all c.loop-k.invariant c.loop-k-test.false).1 }

@@ -1,0 +1,13 @@
+-- `chain::shape::leads` meets its contract. The invariant is `Leading`; the measure is what is left of the pieces. Assumes nothing.
+use Prim.Native.Nat.{◌-◌, ◌≤◌}
+use native.Mathlib.Omega.{arith}
+use lib.ListN.{length}
+use borrow.Author.Rules.{rules}
+use Rattle.chain.proofs.Along.{Leading, leading, arrives, strayed, fell, passed, leads_on}
+use Rattle.chain.proofs.shape.leads.Given as goal
+
+abbrev pub invariant-loop-i : goal.invariant-loop-i
+invariant-loop-i l = (l.i ≤ length l.starts) × Leading l.starts l.ends l.n l.at l.i
+
+abbrev pub decreases-loop-i : goal.decreases-loop-i
+decreases-loop-i l = length l.starts - l.i

@@ -1,0 +1,13 @@
+-- `chain::sum::sum` meets its contract. The invariant is `Summing`; the measure is what is left of the pieces. Assumes nothing.
+use Prim.Native.Nat.{◌+◌, ◌-◌, ◌^◌, ◌≤◌, ◌<◌}
+use native.Mathlib.Omega.{arith}
+use lib.ListN.{length, get_or}
+use Rattle.chain.proofs.Along.{all_inside, inside, joined_few, Summing, summing, summed, one_refused, sums_on, Falling, falling, none_counted, all_counted, counted_few, falls_on}
+use Rattle.chain.proofs.sum.sum.Given as goal
+
+abbrev pub invariant-loop-i : goal.invariant-loop-i
+invariant-loop-i l =
+    (l.i ≤ length l.starts) × Summing l.samples l.breaks l.penalty l.starts l.ends l.xs l.ys l.before l.s l.i × Falling l.samples l.breaks l.starts l.ends l.xs l.ys l.fallen l.i
+
+abbrev pub decreases-loop-i : goal.decreases-loop-i
+decreases-loop-i l = length l.starts - l.i

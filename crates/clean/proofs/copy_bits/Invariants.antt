@@ -1,0 +1,16 @@
+-- `clean::copy_bits` meets its contract. Assumes nothing.
+use Prim.Native.Nat.{◌-◌}
+use mathlib.Core.Path.{◌∙◌}
+use native.Mathlib.Omega.{arith}
+use mathlib.Core.List.{[], map}
+use lib.ListN.{take}
+use Rattle.rows.proofs.Filled.{Filled, start}
+use Rattle.contour.proofs.Copying.{copy_more, copy_all}
+use Rattle.clean.specs.Entry.{spot_bit}
+use Rattle.clean.proofs.copy_bits.Given as goal
+
+abbrev pub invariant-loop-i : goal.invariant-loop-i
+invariant-loop-i l = Filled (map (spot_bit l.row) (take l.n l.spots)) l.initial.out l.out l.i
+
+abbrev pub decreases-loop-i : goal.decreases-loop-i
+decreases-loop-i l = l.n - l.i

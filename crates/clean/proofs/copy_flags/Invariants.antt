@@ -1,0 +1,16 @@
+-- `clean::copy_flags` meets its contract. Assumes nothing.
+use Prim.Native.Nat.{ℕ, ◌-◌, ◌%◌}
+use mathlib.Core.Path.{ap}
+use native.Mathlib.Omega.{arith}
+use mathlib.Core.List.{map}
+use lib.ListN.{take}
+use Rattle.rows.proofs.Filled.{Filled, start}
+use Rattle.contour.proofs.Copying.{copy_more, copy_all}
+use Rattle.clean.specs.Entry.{bit_in}
+use Rattle.clean.proofs.copy_flags.Given as goal
+
+abbrev pub invariant-loop-i : goal.invariant-loop-i
+invariant-loop-i l = Filled (map (bit_in l.row) (take l.n l.numbers)) l.initial.out l.out l.i
+
+abbrev pub decreases-loop-i : goal.decreases-loop-i
+decreases-loop-i l = l.n - l.i

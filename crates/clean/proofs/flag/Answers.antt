@@ -1,0 +1,14 @@
+-- `clean::flag` meets its contract. Assumes nothing.
+use mathlib.Core.Path.{sym}
+use borrow.Author.Rules.{rules}
+use lib.ListN.{get_or-eq_default}
+use Rattle.clean.proofs.flag.Goals as goal
+
+pub bounds-row-i : goal.bounds-row-i
+bounds-row-i c = search rules
+
+pub returns-then-i-row : goal.returns-then-i-row
+returns-then-i-row c = search rules
+
+pub returns-else-i-row : goal.returns-else-i-row
+returns-else-i-row c = sym (get_or-eq_default c.args.row.now 0 c.if-i-row.false)

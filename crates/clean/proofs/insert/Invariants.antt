@@ -1,0 +1,13 @@
+-- `clean::insert` meets its contract, by the laws of proofs/Inserting.antt. Assumes nothing.
+use Prim.Native.Nat.{◌≤◌}
+use mathlib.Core.Path.{◌∙◌}
+use native.Mathlib.Omega.{arith}
+use lib.ListN.{length-set}
+use Rattle.clean.proofs.Inserting.{Moving, begin, more, inside, moved}
+use Rattle.clean.proofs.insert.Given as goal
+
+abbrev pub invariant-loop-i : goal.invariant-loop-i
+invariant-loop-i l = (l.q ≤ l.i) × Moving l.n l.v l.initial.spots l.spots l.i
+
+abbrev pub decreases-loop-i : goal.decreases-loop-i
+decreases-loop-i l = l.i

@@ -1,0 +1,11 @@
+-- `clean::put_all` meets its contract. Assumes nothing.
+use mathlib.Core.Path.{◌∙◌}
+use native.Mathlib.Omega.{arith}
+use Rattle.clean.proofs.Restoring.{Restoring, begin, more_back, ended}
+use Rattle.clean.proofs.put_all.Given as goal
+
+abbrev pub invariant-loop-j : goal.invariant-loop-j
+invariant-loop-j l = Restoring l.kept l.list l.initial.spots l.spots l.n l.j
+
+abbrev pub decreases-loop-j : goal.decreases-loop-j
+decreases-loop-j l = l.j

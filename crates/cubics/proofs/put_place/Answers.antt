@@ -1,0 +1,63 @@
+-- `cubics::put_place` meets its contract. Assumes nothing.
+use Prim.Native.Nat.{◌^◌}
+use mathlib.Core.Path.{refl, sym, ◌∙◌}
+use lib.IntN.{pos}
+use Rattle.halving.specs.Cubic.{point}
+use Rattle.cubics.proofs.Making.{makes_none, as_stored, kept, not_outside, outside_point_lem, place_on, place_pair, place_none, place_zero}
+use Rattle.halving.proofs.Halving.{reach_five}
+use borrow.Author.Rules.{rules, sfits_of}
+use Rattle.cubics.proofs.put_place.Goals as goal
+
+pub on_at-requires : goal.on_at-requires
+on_at-requires c = tt
+
+pub coordinate-requires : goal.coordinate-requires
+coordinate-requires c = tt
+
+pub coordinate-requires-then-on_at : goal.coordinate-requires-then-on_at
+coordinate-requires-then-on_at c = tt
+
+pub put-requires : goal.put-requires
+put-requires c = tt
+
+pub shape_of-points-then-on_at : goal.shape_of-points-then-on_at
+shape_of-points-then-on_at c = c.put.auto.points
+
+pub returns-then-on_at : goal.returns-then-on_at
+returns-then-on_at c =
+    let fx = not_outside c.coordinate.result (sfits_of c.coordinate.type_inv) in
+    let fy = not_outside c.coordinate-then-on_at.result (sfits_of c.coordinate-then-on_at.type_inv) in
+    rw (place_on c.args.xs.now c.args.ys.now c.args.flags.now c.args.i (sym c.on_at.ensures ∙ c.if-on_at.true), ← c.coordinate.ensures, ← c.coordinate-then-on_at.ensures)
+    (c.put.ensures (point c.coordinate.result c.coordinate-then-on_at.result (pos 1))
+    (as_stored c.coordinate.result c.coordinate-then-on_at.result (pos 1) c.coordinate.result c.coordinate-then-on_at.result (pos 1) (kept c.coordinate.result fx) (kept c.coordinate-then-on_at.result fy) refl)
+    (sym (outside_point_lem c.coordinate.result c.coordinate-then-on_at.result (pos 1) refl ∙ rw (fx, fy))))
+
+pub returns-then-i-eq0 : goal.returns-then-i-eq0
+returns-then-i-eq0 c =
+    rw (place_zero c.args.xs.now c.args.ys.now c.args.flags.now c.args.i (sym c.on_at.ensures ∙ c.if-on_at.false) c.if-i-eq0.true)
+    (makes_none c.args.points.now c.args.m c.requires.1)
+
+pub overflow_sub-i : goal.overflow_sub-i
+overflow_sub-i c = search rules
+
+pub on_at-requires-2 : goal.on_at-requires-2
+on_at-requires-2 c = tt
+
+pub cubic_at-requires : goal.cubic_at-requires
+cubic_at-requires c = search rules
+
+pub between-requires : goal.between-requires
+between-requires c = tt
+
+pub shape_of-points-then-on_at-2 : goal.shape_of-points-then-on_at-2
+shape_of-points-then-on_at-2 c = c.between.auto.points
+
+pub returns-then-on_at-2 : goal.returns-then-on_at-2
+returns-then-on_at-2 c =
+    rw (place_pair c.args.xs.now c.args.ys.now c.args.flags.now c.args.i (sym c.on_at.ensures ∙ c.if-on_at.false) (sym c.on_at-2.ensures ∙ c.if-on_at-2.true))
+    (c.between.ensures _ 0 (2 ^ 15) reach_five c.cubic_at.ensures)
+
+pub returns : goal.returns
+returns c =
+    rw (place_none c.args.xs.now c.args.ys.now c.args.flags.now c.args.i (sym c.on_at.ensures ∙ c.if-on_at.false) (sym c.on_at-2.ensures ∙ c.if-on_at-2.false))
+    (makes_none c.args.points.now c.args.m c.requires.1)

@@ -1,0 +1,16 @@
+-- `cubics::replace` meets its contract. Assumes nothing.
+use Prim.Native.Nat.{◌-◌, ◌≤◌}
+use mathlib.Core.Path.{◌≡◌, refl, ◌∙◌}
+use native.Mathlib.Omega.{arith}
+use borrow.Author.Rules.{rules}
+use lib.ListN.{length}
+use Rattle.cubics.specs.Replacing.{points_to}
+use Rattle.cubics.specs.Making.{nothing, Makes}
+use Rattle.cubics.proofs.Making.{makes_none, makes_more, made_from, points_none, points_next}
+use Rattle.cubics.proofs.replace.Given as goal
+
+abbrev pub invariant-loop-i : goal.invariant-loop-i
+invariant-loop-i l = Makes l.initial.points nothing l.points l.m (points_to l.xs l.ys l.flags l.i) × (length l.points ≡ length l.initial.points) × (l.i ≤ length l.flags)
+
+abbrev pub decreases-loop-i : goal.decreases-loop-i
+decreases-loop-i l = length l.flags - l.i

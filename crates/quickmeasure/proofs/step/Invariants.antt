@@ -1,0 +1,13 @@
+-- `quickmeasure::step` meets its contract. The loop's invariant: the rates of the stages passed are known. Assumes nothing.
+use Prim.Native.Nat.{◌≤◌, ◌<◌, ◌-◌}
+use mathlib.Core.Path.{◌≡◌, refl, sym, ◌∙◌}
+use native.Mathlib.Omega.{arith}
+use lib.ListN.{length, length-set}
+use Rattle.quickmeasure.proofs.Four.{Rated, none_rated, one_rated, step_missing, step_summed}
+use Rattle.quickmeasure.proofs.step.Given as goal
+
+abbrev pub invariant-loop-k : goal.invariant-loop-k
+invariant-loop-k l = (length l.rates ≡ 4) × (l.k ≤ 4) × Rated l.row l.m l.stages l.i l.n l.middle l.end l.rates l.k
+
+abbrev pub decreases-loop-k : goal.decreases-loop-k
+decreases-loop-k l = 4 - l.k

@@ -1,0 +1,15 @@
+-- `segments::fill_ends` meets its contract. The loop's invariant is `Ending`; the measure is what is left of the row. Assumes nothing.
+use Prim.Native.Nat.{◌-◌}
+use mathlib.Core.Path.{refl, ap, ◌∙◌}
+use native.Mathlib.Omega.{arith}
+use lib.ListN.{length}
+use Rattle.samples.specs.Samples.{quad_of, quads_of}
+use Rattle.segments.proofs.Going.{Ending, ends_start, ends_more, ends_all}
+use borrow.Author.Rules.{rules}
+use Rattle.segments.proofs.fill_ends.Given as goal
+
+abbrev pub invariant-loop-k : goal.invariant-loop-k
+invariant-loop-k l = Ending l.xs l.ys l.flags (quads_of l.xs l.ys l.flags l.first l.n) l.n (length l.initial.ends) l.ends l.a l.y l.k
+
+abbrev pub decreases-loop-k : goal.decreases-loop-k
+decreases-loop-k l = l.n - l.k

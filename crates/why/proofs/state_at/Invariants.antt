@@ -1,0 +1,11 @@
+-- `why::state_at` meets its contract. The loop's invariant is `Walked`. Assumes nothing.
+use Prim.Native.Nat.{◌-◌}
+use native.Mathlib.Omega.{arith}
+use Rattle.why.proofs.Walking.{Walked, walk_start, walk_more, walk_all}
+use Rattle.why.proofs.state_at.Given as goal
+
+abbrev pub invariant-loop-i : goal.invariant-loop-i
+invariant-loop-i l = Walked l.xs l.ys l.flags l.k l.initial.s l.s l.a l.i
+
+abbrev pub decreases-loop-i : goal.decreases-loop-i
+decreases-loop-i l = l.k - l.i
