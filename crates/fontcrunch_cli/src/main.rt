@@ -2,72 +2,84 @@
 // `refused K`, or `malformed`. Streaming: memory does not grow with the lines. `--penalty N` asks for another
 // penalty, in sixteenths; with `--fallen` each answer but `malformed` ends with ` fallen N`, the lookups that fell.
 #![tactic(auto)]
+
 mod out;
 mod stream;
 
+ghost use Rattle.std.specs.Prelude.{IfOk};
 ghost use Rattle.fontcrunch_cli.specs.Stream.{Keeps, Chunked};
 
 use answering::Order;
-use libc::{STDERR_FILENO, STDIN_FILENO};
+use std::env::{Env, FillError};
+use std::io;
+use std::io::{Read, Write};
 use words::Asked;
 
 // What a chunk's lines are answered goes out before more input is waited for.
-fn take_chunk(text: &mut [u8], line: &mut [u8], from: usize, chunk: &[u8], order: Order) -> usize
+fn take_chunk<W: Write>(
+    to: &mut W,
+    text: &mut [u8],
+    line: &mut [u8],
+    from: usize,
+    chunk: &[u8],
+    order: Order,
+) -> io::Result<usize>
     requires { Keeps line.old from }
-    ensures { Chunked order line from chunk.now result }
+    ensures { IfOk result (λ left. Chunked order line from chunk.now left) }
 {
     let mut used = from;
     let mut i = 0;
     while i < chunk.len() {
         let t = stream::take_lines(text, line, used, chunk, i, order);
         let at = t.at;
-        out::flush(text, at);
+        out::flush(to, text, at)?;
         used = t.used;
         i = t.next;
     }
-    used
+    Ok(used)
 }
 
-fn serve(text: &mut [u8], line: &mut [u8], order: Order)
+fn serve<R: Read, W: Write>(
+    input: &mut R,
+    to: &mut W,
+    text: &mut [u8],
+    line: &mut [u8],
+    order: Order,
+) -> io::Result<()>
     requires { Keeps line.old 0 }
 {
-    let mut chunk = io::large_buffer();
+    let mut chunk = [0u8; 65536];
     let mut used = 0;
-    let mut turns = u64::MAX;
-    while turns > 0 {
-        let n = io::count(libc::read(STDIN_FILENO, &mut chunk), &chunk);
+    for _ in 0..u64::MAX {
+        let n = input.read(&mut chunk)?;
         if n == 0 {
             let at = stream::put_last(text, line, used, order);
-            out::flush(text, at);
-            return;
+            return out::flush(to, text, at);
         }
-        used = take_chunk(text, line, used, &chunk[..n], order);
-        turns -= 1;
+        used = take_chunk(to, text, line, used, &chunk[..n], order)?;
     }
+    Ok(())
 }
 
-fn run(order: Order) {
+fn run<R: Read, W: Write>(input: &mut R, to: &mut W, order: Order) -> io::Result<()> {
     let mut line = [0u8; 65537];
     let mut text = [0u8; 524288];
-    serve(&mut text, &mut line, order);
+    serve(input, to, &mut text, &mut line, order)
 }
 
 // What the words after the program's name ask for; the row holds them. Words that it has no room for are
 // more than this program knows.
-fn asked(row: &mut [u8]) -> Asked {
-    let n = os::arg_count();
+fn asked<E: Env>(env: &E, row: &mut [u8]) -> Asked {
     let mut at = 0;
-    let mut i = 1;
-    while i < n {
+    for i in 1..usize::MAX {
         if row.len() <= at {
             return Asked::Usage;
         }
-        let k = os::arg(i, &mut row[at..]);
-        if os::errno() != 0 {
-            return Asked::Usage;
+        match env.arg(i, &mut row[at..]) {
+            Ok(k) => at = lines::put_byte(row, at + k, 0),
+            Err(FillError::NotPresent) => break,
+            Err(FillError::TooLong) => return Asked::Usage,
         }
-        at = lines::put_byte(row, at + k, 0);
-        i += 1;
     }
     if row.len() <= at {
         return Asked::Usage;
@@ -75,15 +87,14 @@ fn asked(row: &mut [u8]) -> Asked {
     words::read(&row[..at])
 }
 
-fn main() {
-    let mut row = io::buffer();
-    match asked(&mut row) {
-        Asked::For(settings, told) => run(Order { settings, told }),
-        Asked::Usage => {
-            io::write_all(
-                STDERR_FILENO,
-                b"usage: fontcrunch_cli [--penalty N] [--whole-units] [--closed] [--fallen]   N sixteenths, 1 to 256, 32 where none is said; of several the last counts\n",
-            );
+fn main(rt: HostRuntime) -> io::Result<()> {
+    let mut row = [0u8; 4096];
+    match asked(&rt, &mut row) {
+        Asked::For(settings, told) => {
+            run(&mut rt.stdin(), &mut rt.stdout(), Order { settings, told })
         }
+        Asked::Usage => rt.eprintln(
+            "usage: fontcrunch_cli [--penalty N] [--whole-units] [--closed] [--fallen]   N sixteenths, 1 to 256, 32 where none is said; of several the last counts",
+        ),
     }
 }

@@ -1,12 +1,17 @@
 // Answers are put into a buffer, which is written out when it may not have room for the next one.
-ghost use Rattle.std.specs.Prelude.{◌≡◌, ◌+◌, leb};
+ghost use Rattle.std.specs.Prelude.{◌≡◌, ◌+◌, ◌≤◌, leb, length, take, OnOk};
+ghost use Rattle.std.specs.Io.KnownBytes.{Appends};
 
-use libc::STDOUT_FILENO;
+use std::io;
+use std::io::Write;
 
-pub fn flush(text: &[u8], at: usize) {
+pub fn flush<W: Write>(to: &mut W, text: &[u8], at: usize) -> io::Result<()>
+    ensures { OnOk result (at ≤ length text.now → Appends (W.contents to.old) (W.contents to.new) (take at text.now)) }
+{
     if at <= text.len() {
-        io::write_all(STDOUT_FILENO, &text[..at]);
+        to.write_all(&text[..at])?;
     }
+    Ok(())
 }
 
 // Whether the longest answer, 16,384 points of at most 18 bytes, has room from `at` on.

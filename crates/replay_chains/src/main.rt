@@ -4,11 +4,15 @@
 // `pairs P unchanged`, or `pairs P score S chain C` with START END CX CY of each piece, floats by their bits, and then two
 // verdicts: on this chain, and on it with a score that is one more.
 #![tactic(auto)]
+
+ghost use Rattle.std.specs.Io.{ReadsAtMost};
+
 use chains::Chained;
 use checks::Verdict;
-use libc::{STDIN_FILENO, STDOUT_FILENO};
 use lines::Parsed;
 use settings::Settings;
+use std::io;
+use std::io::{Read, Write};
 
 fn wide(x: u32) -> u64 {
     x as u64
@@ -217,37 +221,54 @@ fn put_line(text: &mut [u8], line: &[u8]) -> usize {
     put_run(text, &xs[1..m], &ys[1..m], &flags[1..m], k)
 }
 
-fn write_out(text: &[u8], n: usize) -> bool {
+fn write_out<W: Write>(to: &mut W, text: &[u8], n: usize) -> io::Result<bool> {
     if n <= text.len() {
-        return io::write_all(STDOUT_FILENO, &text[..n]);
+        to.write_all(&text[..n])?;
+        return Ok(true);
     }
-    false
+    Ok(false)
 }
 
-fn answer(text: &mut [u8], line: &[u8]) -> bool {
+fn answer<W: Write>(to: &mut W, text: &mut [u8], line: &[u8]) -> io::Result<bool> {
     let end = put_line(text, line);
     let n = lines::put_byte(text, end, b'\n');
-    write_out(text, n)
+    write_out(to, text, n)
 }
 
 // Each line that ends.
-fn serve(text: &mut [u8], input: &[u8]) {
+fn serve<W: Write>(to: &mut W, text: &mut [u8], input: &[u8]) -> io::Result<()> {
     let mut i = 0;
     while i < input.len() {
         let e = lines::end_of(input, i, b'\n');
         if e == input.len() {
-            return;
+            break;
         }
-        if !answer(text, &input[i..e]) {
-            return;
+        if !answer(to, text, &input[i..e])? {
+            break;
         }
         i = e + 1;
     }
+    Ok(())
 }
 
-fn main() {
+// Reads until buf is full or the input ends, and says how many bytes it put at the start of buf.
+fn read_full<R: Read>(from: &mut R, buf: &mut [u8]) -> io::Result<usize>
+    ensures { ReadsAtMost result buf.new }
+{
+    let mut done = 0;
+    while done < buf.len() {
+        let n = from.read(&mut buf[done..])?;
+        if n == 0 {
+            break;
+        }
+        done += n;
+    }
+    Ok(done)
+}
+
+fn main(rt: HostRuntime) -> io::Result<()> {
     let mut input = [0u8; 65536];
     let mut text = [0u8; 65536];
-    io::read_full(STDIN_FILENO, &mut input);
-    serve(&mut text, &input);
+    read_full(&mut rt.stdin(), &mut input)?;
+    serve(&mut rt.stdout(), &mut text, &input)
 }

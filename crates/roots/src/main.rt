@@ -1,9 +1,12 @@
 // Reads f64s as bit patterns of 8 bytes, lowest first, and writes for each the patterns of its two
 // roots: the stepped one, then the quick one. A NaN's pattern is 0x7ff8000000000000.
 #![tactic(auto)]
-ghost use Rattle.std.specs.Prelude.{◌+◌, ◌<◌, ◌≤◌, length};
 
-use libc::{STDIN_FILENO, STDOUT_FILENO};
+ghost use Rattle.std.specs.Prelude.{◌+◌, ◌<◌, ◌≤◌, length};
+ghost use Rattle.std.specs.Io.{ReadsAtMost};
+
+use std::io;
+use std::io::{Read, Write};
 
 fn wide(x: u8) -> u64 {
     x as u64
@@ -56,20 +59,39 @@ fn answers(input: &[u8; 32768], output: &mut [u8], count: usize)
     }
 }
 
-// Reads a block of patterns and writes their roots. False at the end of the input, or where nothing
-// more can be written.
-fn block() -> bool {
-    let mut input = [0u8; 32768];
-    let mut output = [0u8; 65536];
-    let count = io::read_full(STDIN_FILENO, &mut input) / 8;
-    answers(&input, &mut output, count);
-    io::write_all(STDOUT_FILENO, &output[..count * 16]) && count == 4096
+// Reads until buf is full or the input ends, and says how many bytes it put at the start of buf.
+fn read_full<R: Read>(input: &mut R, buf: &mut [u8]) -> io::Result<usize>
+    ensures { ReadsAtMost result buf.new }
+{
+    let mut done = 0;
+    while done < buf.len() {
+        let n = input.read(&mut buf[done..])?;
+        if n == 0 {
+            break;
+        }
+        done += n;
+    }
+    Ok(done)
 }
 
-// A proved loop has to end, so the turns are counted down from a number that no run uses up.
-fn main() {
-    let mut turns = u64::MAX;
-    while turns > 0 && block() {
-        turns -= 1;
+// Reads a block of patterns and writes their roots. False at the end of the input.
+fn block<R: Read, W: Write>(from: &mut R, to: &mut W) -> io::Result<bool> {
+    let mut input = [0u8; 32768];
+    let mut output = [0u8; 65536];
+    let count = read_full(from, &mut input)? / 8;
+    answers(&input, &mut output, count);
+    to.write_all(&output[..count * 16])?;
+    Ok(count == 4096)
+}
+
+// A proved loop has to end, so the turns are counted up to a number that no run comes to.
+fn main(rt: HostRuntime) -> io::Result<()> {
+    let mut input = rt.stdin();
+    let mut output = rt.stdout();
+    for _ in 0..u64::MAX {
+        if !block(&mut input, &mut output)? {
+            break;
+        }
     }
+    Ok(())
 }

@@ -2,12 +2,16 @@
 // be held beside a paper. A line of 16 digits in base 16 is an f64's bits; one of at most 15 decimal
 // digits is a whole number. The first 65,536 bytes of the input are read.
 #![tactic(auto)]
+
 mod given;
 mod steps;
 mod text;
 
+ghost use Rattle.std.specs.Io.{ReadsAtMost};
+
 use given::Given;
-use libc::{STDIN_FILENO, STDOUT_FILENO};
+use std::io;
+use std::io::{Read, Write};
 
 // The steps of one line, or that it is malformed.
 fn put_line(out: &mut [u8], line: &[u8]) -> usize {
@@ -22,35 +26,52 @@ fn put_line(out: &mut [u8], line: &[u8]) -> usize {
     }
 }
 
-fn flush(text: &[u8], at: usize) {
+fn flush<W: Write>(to: &mut W, text: &[u8], at: usize) -> io::Result<()> {
     if at <= text.len() {
-        io::write_all(STDOUT_FILENO, &text[..at]);
+        to.write_all(&text[..at])?;
     }
+    Ok(())
 }
 
 // The longest answer has some 5,000 bytes. Of a longer line that is malformed as much is shown as there
 // is room for.
-fn answer(line: &[u8]) {
+fn answer<W: Write>(to: &mut W, line: &[u8]) -> io::Result<()> {
     let mut out = [0u8; 8192];
     let end = put_line(&mut out, line);
-    flush(&out, end);
+    flush(to, &out, end)
 }
 
 // Each line ends with byte 10, and the last one may go without.
-fn answer_all(input: &[u8]) {
+fn answer_all<W: Write>(to: &mut W, input: &[u8]) -> io::Result<()> {
     let mut i = 0;
     while i < input.len() {
         let e = lines::end_of(input, i, 10);
-        answer(&input[i..e]);
+        answer(to, &input[i..e])?;
         if e == input.len() {
-            return;
+            return Ok(());
         }
         i = e + 1;
     }
+    Ok(())
 }
 
-fn main() {
-    let mut input = io::large_buffer();
-    let n = io::read_full(STDIN_FILENO, &mut input);
-    answer_all(&input[..n]);
+// Reads until buf is full or the input ends, and says how many bytes it put at the start of buf.
+fn read_full<R: Read>(from: &mut R, buf: &mut [u8]) -> io::Result<usize>
+    ensures { ReadsAtMost result buf.new }
+{
+    let mut done = 0;
+    while done < buf.len() {
+        let n = from.read(&mut buf[done..])?;
+        if n == 0 {
+            break;
+        }
+        done += n;
+    }
+    Ok(done)
+}
+
+fn main(rt: HostRuntime) -> io::Result<()> {
+    let mut input = [0u8; 65536];
+    let n = read_full(&mut rt.stdin(), &mut input)?;
+    answer_all(&mut rt.stdout(), &input[..n])
 }

@@ -3,12 +3,15 @@ use Prim.Native.Nat.{ℕ, suc, ◌+◌, ◌-◌, ◌≤◌, ◌<◌, min}
 use mathlib.Core.Bool.{Bool, true, false, ◌&&◌}
 use mathlib.Core.List.{List, [], ◌∷◌}
 use mathlib.Core.Option.{Option, none, some}
-use mathlib.Core.Path.{◌≡◌, refl, sym, ap, ◌∙◌}
+use mathlib.Core.Path.{◌≡◌, refl, sym, ap, subst, ◌∙◌}
 use native.Mathlib.Omega.{arith}
 use borrow.Author.Tests.{eqb-true, eq-eqb}
 use lib.Dec.{eqb, leb}
 use lib.ListN.{length, take, drop, length-drop, drop_of_length-le}
 use lib.Seq.{drop-drop}
+use lib.Pointwise.{pointwise}
+use Rattle.std.proofs.lemmas.Bool.Decides.{Decides-eqb}
+use Rattle.std.proofs.lemmas.Slice.Eq.{slice_eq-Decides}
 use Rattle.lines.specs.Line.{up_to}
 use Rattle.lines.specs.Steps.{size_of}
 use Rattle.lines.specs.Stream.{ended_by}
@@ -51,6 +54,10 @@ is_same {r} k l (only, when) = by (same_bytes k l) refl r refl
     by true e false h = sym h ∙ when (same_only k l e)
     by false e true h = sym (same_self l) ∙ ap (λ (m : List ℕ). same_bytes m l) (sym (only h)) ∙ e
     by false e false h = refl
+
+-- and so is `==`
+pub told_same : {r : Bool} {m : List ℕ} (k l : List ℕ) → r ≡ pointwise eqb k m → m ≡ l → r ≡ same_bytes k l
+told_same {r} {m} k l e known = subst (λ (l : List ℕ). r ≡ same_bytes k l) known (is_same k m (slice_eq-Decides Decides-eqb k m r e))
 
 -- ---- a penalty
 

@@ -1,6 +1,7 @@
 // The words of a command line, as what they ask for. They stand in one row, each ended by byte 0, which no
 // word has in it. A choice that later words repeat is theirs: the last one counts.
 #![tactic(auto)]
+
 ghost use Rattle.std.specs.Prelude.{◌≡◌};
 ghost use Rattle.lines.specs.Stream.{ended_by};
 ghost use Rattle.words.specs.Words.{option_of, taken, ended, asked_of};
@@ -30,10 +31,10 @@ pub enum Reading {
 fn option_of(s: Settings, told: bool, word: &[u8]) -> Reading
     ensures { result ≡ option_of s told word.now }
 {
-    if check::same(word, b"--penalty") {
+    if word == b"--penalty".as_slice() {
         return Reading::Penalty(s, told);
     }
-    if check::same(word, b"--whole-units") {
+    if word == b"--whole-units".as_slice() {
         return Reading::Has(
             Settings {
                 penalty: s.penalty,
@@ -43,7 +44,7 @@ fn option_of(s: Settings, told: bool, word: &[u8]) -> Reading
             told,
         );
     }
-    if check::same(word, b"--closed") {
+    if word == b"--closed".as_slice() {
         return Reading::Has(
             Settings {
                 penalty: s.penalty,
@@ -53,7 +54,7 @@ fn option_of(s: Settings, told: bool, word: &[u8]) -> Reading
             told,
         );
     }
-    if check::same(word, b"--fallen") {
+    if word == b"--fallen".as_slice() {
         return Reading::Has(s, true);
     }
     Reading::Wrong
