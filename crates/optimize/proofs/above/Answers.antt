@@ -21,5 +21,11 @@ returns-then-links-k-eq0 c = sym (above_none _ _ _ _ (rw c.slot_of-k.ensures at 
 pub offset_bounds-answers-k : goal.offset_bounds-answers-k
 offset_bounds-answers-k c = omega (arith, c.slot_of-k.ensures, slot_most c.args.links.now c.args.n, c.requires.2)
 
+pub bounds-answers-k : goal.bounds-answers-k
+bounds-answers-k c = omega (arith, c.slot_of-k.ensures, slot_most c.args.links.now c.args.n, c.requires.1)
+
+pub bounds-answers-0 : goal.bounds-answers-0
+bounds-answers-0 c = search rules
+
 pub returns : goal.returns
 returns c = rw c.slot_of-k.ensures (sym (above_some _ _ _ _ (λ z. c.if-links-k-eq0.false (rw c.slot_of-k.ensures z))))

@@ -16,34 +16,6 @@ use Rattle.optimize.specs.Stored.{Phase, Rep}
 use Rattle.optimize.proofs.Attempt.{stands_half}
 use Rattle.optimize.proofs.Trying.{crossing_of, quad_of_lem, half_of, bend_nowhere, bend_allowed, bend_not_allowed}
 use Rattle.optimize.proofs.find_bend.Goals as goal
-use Rattle.optimize.proofs.find_bend.Goals.{After-ok_for_half, After-read-b, Start}
-
-module _ (c : After-ok_for_half) where
-  abbrev start : Start
-  start = c.before.before.before.before.before.before.before.before.before.before.before.before.before
-
-  abbrev bs : Row
-  bs = start.args.breaks.now
-
-  abbrev reading : After-read-b
-  reading = c.before.before.before.before.before.before.before.before.before.before.before
-
-  abbrev p : Point
-  p = c.in-At.p
-
-  crosses : Crossing.At p ≡ intersect_of (break_at bs start.args.i).xy (break_at bs start.args.i).dir (break_at bs start.args.j).xy (break_at bs start.args.j).dir
-  crosses = sym c.in-At.is ∙ c.intersect.ensures ∙ crossing_of reading.before.read.ensures reading.read2.ensures
-
-  abbrev quad : Quad
-  quad = record { p0 = reading.before.read.result.xy; p1 = c.round-p1.result; p2 = reading.read2.result.xy }
-
-  bends : quad ≡ record { p0 = (break_at bs start.args.i).xy; p1 = round_point_of p; p2 = (break_at bs start.args.j).xy }
-  bends = quad_of_lem reading.before.read.ensures c.round-p1.ensures reading.read2.ensures
-
-  -- whether it is allowed, of the states
-  allows : {f : Phase} {n : ℕ} {st : List Best} (b : Bool) → start.args.i ≤ n → Rep f n bs start.args.answers.now start.args.links.now st →
-      c.ok_for_half.result ≡ b → ok_for_half (best_at st start.args.i) quad ≡ b
-  allows b upto rep e = sym (stands_half quad (rep.stands start.args.i upto)) ∙ sym (half_of {q = quad} c.standing-previous.ensures refl) ∙ sym c.ok_for_half.ensures ∙ e
 
 pub read-a-requires : goal.read-a-requires
 read-a-requires c = c.requires.from
@@ -68,7 +40,29 @@ pub ok_for_half-requires : goal.ok_for_half-requires
 ok_for_half-requires c = search rules
 
 pub returns-then-ok_for_half : goal.returns-then-ok_for_half
-returns-then-ok_for_half c = λ f n st upto rep. bend_allowed _ _ _ _ (p c.before.before.before) (quad c.before) (crosses c.before) (bends c.before) (allows c.before true upto rep c.if-ok_for_half.true)
+returns-then-ok_for_half c = λ f n st upto rep.
+    let bs : Row = c.args.breaks.now in
+    let p : Point = c.in-At.p in
+    let crosses : Crossing.At p ≡ intersect_of (break_at bs c.args.i).xy (break_at bs c.args.i).dir (break_at bs c.args.j).xy (break_at bs c.args.j).dir =
+    sym c.in-At.is ∙ c.intersect.ensures ∙ crossing_of c.read-a.ensures c.read-b.ensures in
+    let quad : Quad = record { p0 = c.read-a.result.xy; p1 = c.round-p1.result; p2 = c.read-b.result.xy } in
+    let bends : quad ≡ record { p0 = (break_at bs c.args.i).xy; p1 = round_point_of p; p2 = (break_at bs c.args.j).xy } =
+    quad_of_lem c.read-a.ensures c.round-p1.ensures c.read-b.ensures in
+    -- whether it is allowed, of the states
+    let allows : ok_for_half (best_at st c.args.i) quad ≡ true =
+    sym (stands_half quad (rep.stands c.args.i upto)) ∙ sym (half_of {q = quad} c.standing-previous.ensures refl) ∙ sym c.ok_for_half.ensures ∙ c.if-ok_for_half.true in
+    bend_allowed _ _ _ _ p quad crosses bends allows
 
 pub returns : goal.returns
-returns c = λ f n st upto rep. bend_not_allowed _ _ _ _ (p c.before.before.before) (quad c.before) (crosses c.before) (bends c.before) (allows c.before false upto rep c.if-ok_for_half.false)
+returns c = λ f n st upto rep.
+    let bs : Row = c.args.breaks.now in
+    let p : Point = c.in-At.p in
+    let crosses : Crossing.At p ≡ intersect_of (break_at bs c.args.i).xy (break_at bs c.args.i).dir (break_at bs c.args.j).xy (break_at bs c.args.j).dir =
+    sym c.in-At.is ∙ c.intersect.ensures ∙ crossing_of c.read-a.ensures c.read-b.ensures in
+    let quad : Quad = record { p0 = c.read-a.result.xy; p1 = c.round-p1.result; p2 = c.read-b.result.xy } in
+    let bends : quad ≡ record { p0 = (break_at bs c.args.i).xy; p1 = round_point_of p; p2 = (break_at bs c.args.j).xy } =
+    quad_of_lem c.read-a.ensures c.round-p1.ensures c.read-b.ensures in
+    -- whether it is allowed, of the states
+    let allows : ok_for_half (best_at st c.args.i) quad ≡ false =
+    sym (stands_half quad (rep.stands c.args.i upto)) ∙ sym (half_of {q = quad} c.standing-previous.ensures refl) ∙ sym c.ok_for_half.ensures ∙ c.if-ok_for_half.false in
+    bend_not_allowed _ _ _ _ p quad crosses bends allows

@@ -17,6 +17,12 @@ never_below-requires c = tt
 pub offset_bounds-breaks-j : goal.offset_bounds-breaks-j
 offset_bounds-breaks-j c = omega (arith, (break_of _ c.requires.1).1)
 
+pub bounds-breaks-j : goal.bounds-breaks-j
+bounds-breaks-j c = (break_of _ c.requires.1).0
+
+pub bounds-breaks-0 : goal.bounds-breaks-0
+bounds-breaks-0 c = search rules
+
 pub sees_any-requires : goal.sees_any-requires
 sees_any-requires c = tt
 

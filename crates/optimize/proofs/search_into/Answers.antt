@@ -8,7 +8,6 @@ use Rattle.optimize.specs.Stored.{late}
 use Rattle.optimize.specs.Laws.{falling_count}
 use Rattle.optimize.proofs.Phases.{between_most, into_search, fall_none, Reaching, sets_out, holding, skips, arrives, next_moves, next_counts, next_breaks_off, ready}
 use Rattle.optimize.proofs.search_into.Goals as goal
-use Rattle.optimize.proofs.search_into.Goals.{At-loop-j, Start}
 
 pub skip_down-j-requires : goal.skip_down-j-requires
 skip_down-j-requires c =
@@ -21,24 +20,17 @@ loop-j-init c =
 pub overflow_sub-j : goal.overflow_sub-j
 overflow_sub-j c = omega arith
 
--- from the loop's head
-module _ (c : At-loop-j) where
-  abbrev start : Start
-  start = c.before.before.before.before.before
-
 pub overflow_mul-i : goal.overflow_mul-i
 overflow_mul-i c =
-    let pre = (start c.before.before.before).pre in
-    omega (arith, pre.2.room.few, pre.1)
+    omega (arith, c.requires.2.room.few, c.requires.1)
 
 pub overflow_add-i : goal.overflow_add-i
 overflow_add-i c =
-    let pre = (start c.before.before.before).pre in
-    omega (arith, pre.2.room.few, pre.1)
+    omega (arith, c.requires.2.room.few, c.requires.1)
 
 pub try_line_quad-t-requires : goal.try_line_quad-t-requires
 try_line_quad-t-requires c =
-    ready (holding c.loop-j.invariant.1 (start c.before.before.before).requires.2) (into_search _ _ _ (omega (arith, c.loop-j.invariant.0, c.loop-j-test.true)) (start c.before.before.before).requires.1)
+    ready (holding c.loop-j.invariant.1 c.requires.2) (into_search _ _ _ (omega (arith, c.loop-j.invariant.0, c.loop-j-test.true)) c.requires.1)
 
 pub shape_of-answers-then-not-t : goal.shape_of-answers-then-not-t
 shape_of-answers-then-not-t c = c.try_line_quad-t.auto.answers ∙ c.loop-j.invariant.1.same_rs
@@ -48,35 +40,34 @@ shape_of-links-then-not-t c = c.try_line_quad-t.auto.links ∙ c.loop-j.invarian
 
 pub returns-then-not-t : goal.returns-then-not-t
 returns-then-not-t c =
-    next_breaks_off c.loop-j.invariant.1 (start c.before.before.before.before.before.before.before.before.before).requires.2 c.loop-j-test.true c.loop-j.invariant.0 (start c.before.before.before.before.before.before.before.before.before).requires.1 c.try_line_quad-t.ensures (not-true _ c.if-not-t.true)
+    next_breaks_off c.loop-j.invariant.1 c.requires.2 c.loop-j-test.true c.loop-j.invariant.0 c.requires.1 c.try_line_quad-t.ensures (not-true _ c.if-not-t.true)
 
 pub overflow_add-fallen : goal.overflow_add-fallen
 overflow_add-fallen c =
-    let args = (start c.before.before.before.before.before.before.before.before.before.before).args in
     omega (
       arith,
-      next_counts c.loop-j.invariant.1 (start c.before.before.before.before.before.before.before.before.before.before).requires.2 c.loop-j-test.true c.loop-j.invariant.0 (start c.before.before.before.before.before.before.before.before.before.before).requires.1 c.try_line_quad-t.ensures
-          (between_most args.samples.now args.breaks.now) (not-false _ c.if-not-t.false),
-      falling_count args.i args.i,
-      (start c.before.before.before.before.before.before.before.before.before.before).requires.1,
-      (start c.before.before.before.before.before.before.before.before.before.before).requires.2.room.few,
+      next_counts c.loop-j.invariant.1 c.requires.2 c.loop-j-test.true c.loop-j.invariant.0 c.requires.1 c.try_line_quad-t.ensures
+          (between_most c.args.samples.now c.args.breaks.now) (not-false _ c.if-not-t.false),
+      falling_count c.args.i c.args.i,
+      c.requires.1,
+      c.requires.2.room.few,
     )
 
 pub skip_down-j-requires-in-loop-j : goal.skip_down-j-requires-in-loop-j
 skip_down-j-requires-in-loop-j c =
-    let moved = next_moves c.loop-j.invariant.1 (start c.before.before.before.before.before.before.before.before.before.before).requires.2 c.loop-j-test.true c.loop-j.invariant.0 (start c.before.before.before.before.before.before.before.before.before.before).requires.1 c.try_line_quad-t.ensures
+    let moved = next_moves c.loop-j.invariant.1 c.requires.2 c.loop-j-test.true c.loop-j.invariant.0 c.requires.1 c.try_line_quad-t.ensures
     c.try_line_quad-t.auto.answers c.try_line_quad-t.auto.links (not-false _ c.if-not-t.false) in
-    (ready (holding moved (start c.before.before.before.before.before.before.before.before.before.before).requires.2) (into_search 0 _ _ (start c.before.before.before.before.before.before.before.before.before.before).requires.0 (start c.before.before.before.before.before.before.before.before.before.before).requires.1), omega (arith, c.loop-j.invariant.0))
+    (ready (holding moved c.requires.2) (into_search 0 _ _ c.requires.0 c.requires.1), omega (arith, c.loop-j.invariant.0))
 
 pub loop-j-smaller : goal.loop-j-smaller
 loop-j-smaller c = omega (arith, c.skip_down-j-in-loop-j.ensures.0)
 
 pub loop-j-preserved : goal.loop-j-preserved
 loop-j-preserved c =
-    let moved = next_moves c.loop-j.invariant.1 (start c.before.before.before.before.before.before.before.before.before.before.before).requires.2 c.loop-j-test.true c.loop-j.invariant.0 (start c.before.before.before.before.before.before.before.before.before.before.before).requires.1 c.try_line_quad-t.ensures
+    let moved = next_moves c.loop-j.invariant.1 c.requires.2 c.loop-j-test.true c.loop-j.invariant.0 c.requires.1 c.try_line_quad-t.ensures
     c.try_line_quad-t.auto.answers c.try_line_quad-t.auto.links (not-false _ c.if-not-t.false) in (
       omega (arith, c.loop-j.invariant.0, c.skip_down-j-in-loop-j.ensures.0),
-      skips moved (falling c.skip_down-j-in-loop-j.result (start c.before.before.before.before.before.before.before.before.before.before.before).args.i) (λ st rep. c.skip_down-j-in-loop-j.ensures.1 _ _ st (start c.before.before.before.before.before.before.before.before.before.before.before).requires.1 rep),
+      skips moved (falling c.skip_down-j-in-loop-j.result c.args.i) (λ st rep. c.skip_down-j-in-loop-j.ensures.1 _ _ st c.requires.1 rep),
     )
 
 pub shape_of-answers : goal.shape_of-answers

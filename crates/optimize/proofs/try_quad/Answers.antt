@@ -12,8 +12,20 @@ use Rattle.optimize.proofs.try_quad.Goals as goal
 pub offset_bounds-breaks-i : goal.offset_bounds-breaks-i
 offset_bounds-breaks-i c = search rules
 
+pub bounds-breaks-i : goal.bounds-breaks-i
+bounds-breaks-i c = omega (arith, break_from c.requires.ready)
+
+pub bounds-breaks-0 : goal.bounds-breaks-0
+bounds-breaks-0 c = search rules
+
 pub offset_bounds-breaks-j : goal.offset_bounds-breaks-j
 offset_bounds-breaks-j c = search rules
+
+pub bounds-breaks-j : goal.bounds-breaks-j
+bounds-breaks-j c = omega (arith, break_to c.requires.ready)
+
+pub bounds-breaks-0-2 : goal.bounds-breaks-0-2
+bounds-breaks-0-2 c = search rules
 
 pub standing-previous-requires : goal.standing-previous-requires
 standing-previous-requires c =

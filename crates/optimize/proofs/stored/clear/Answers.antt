@@ -33,7 +33,7 @@ shape_of-links c = c.loop-i.invariant.1.same
 
 pub returns : goal.returns
 returns c =
-    let done : c.loop-i.i ≡ n = omega arith in
+    let done : c.loop-i.i ≡ c.args.n = omega arith in
     let zeros : List ℕ = replicate c.args.n 0 in
     let all : take c.args.n zeros ≡ zeros = take_all c.args.n zeros (rw length-replicate (le_refl c.args.n)) in
     rw all at (filled c.args.n c.loop-i.invariant.1 done)
