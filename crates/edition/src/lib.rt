@@ -1,6 +1,7 @@
 // An edition of a surveyed run. The survey's rows are lent to it to be read alone; it has answers and links of
 // its own.
 #![tactic(auto)]
+
 ghost use Rattle.std.specs.Prelude.{length};
 ghost use Rattle.edition.specs.Edition.{edition_of, FoundBreaks, Works};
 

@@ -60,6 +60,7 @@ points_same p = rw (equals_same p.x, equals_same p.y) tt
 
 or_l : (a b : Bool) → T a → T (a || b)
 or_l true b t = tt
+or_l false b t = elim t [ ]
 
 or_r : (a b : Bool) → T b → T (a || b)
 or_r true b t = tt

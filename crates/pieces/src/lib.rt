@@ -2,6 +2,7 @@
 // stored answers are written down from the end back; then the pieces are gone through in order, to a chain
 // or to points.
 #![tactic(auto)]
+
 ghost use Rattle.std.specs.Prelude.{◌≡◌, map, ◌<◌, ◌≤◌, ◌-◌, length, drop};
 ghost use Rattle.breaks.specs.Breaks.{Row};
 ghost use Rattle.contour.specs.Points.{pieces_points};
