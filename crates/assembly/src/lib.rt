@@ -1,5 +1,6 @@
 // A contour's runs, worked in order into the scratch row for points.
 #![tactic(auto)]
+
 ghost use Rattle.std.specs.Prelude.{◌≡◌, ◌≤◌, length};
 ghost use Rattle.rows.specs.Lent.{before, after, room};
 ghost use Rattle.runs.specs.Runs.{between, stops_of};

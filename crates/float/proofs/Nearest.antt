@@ -1,7 +1,7 @@
 -- `root_of x` is the f64 nearest to the root of x, said by whole-number squares, and there is never a tie. In units of the smallest f64, 2 ^ -1074, x is n and the root is the root of n * 2 ^ 1074.
 -- The result is p * 2 ^ k units with a p of 53 binary digits, and half a step from it on either side are (2 * p - 1) * 2 ^ k and (2 * p + 1) * 2 ^ k halves of a unit.
 -- No f64 lies within a step of it, but for the smaller steps below 2 ^ 52 * 2 ^ k, where the root does not lie. Assumes nothing.
-use Rattle.std.proofs.Common.{◌≡◌, ℕ, zero, suc, ◌+◌, ◌-◌, ◌*◌, ◌/◌, ◌^◌, ◌<◌, ◌≤◌, Bool, true, false, cond, T, ltb, leb, ◌⊎◌, ℤ, sym, refl, ap, ◌∙◌, subst, inl, inr, le_trans, lt_of_lt_of_le, lt_of_le_of_lt, le_of_lt, lt_irrefl, mul-le-mul_right, zero-lt-suc, mul_assoc, mul_comm, add-mul, mul-le-mul, lt_of_mul-lt-mul_right, mul-le-mul_left, mul-lt-mul_of_pos_right, pow-suc, sub-add_cancel, mul-div_cancel, sub-le, add-one, arith, pow_pos, pow_mono, pow-add, shl_lt, ltb-false, ltb-true, leb-false, leb-true}
+use Rattle.std.proofs.Common.{◌≡◌, ℕ, zero, suc, ◌+◌, ◌-◌, ◌*◌, ◌/◌, ◌^◌, ◌<◌, ◌≤◌, Bool, true, false, cond, T, ltb, leb, ◌⊎◌, ℤ, sym, refl, ap, ◌∙◌, subst, inl, inr, le_trans, lt_of_lt_of_le, lt_of_le_of_lt, le_of_lt, lt_irrefl, mul-le-mul_right, zero-lt-suc, mul_assoc, mul_comm, add-mul, mul-le-mul, lt_of_mul-lt-mul_right, mul-le-mul_left, mul-lt-mul_of_pos_right, pow-suc, mul-div_cancel, sub-le, add-one, arith, pow_pos, pow_mono, pow-add, shl_lt, ltb-false, ltb-true, leb-false, leb-true}
 use native.Mathlib.Nat.{mul-mul-mul_comm, eq_of_mul-eq-mul_right}
 use lib.Ieee.{Float, fin, binary64, up, down, fits}
 use lib.Ieee.Exact.{HasValue, odd_sign}

@@ -1,6 +1,6 @@
 -- An f64 is not rounded: `round` gives back the f64 whose value it is handed, bit for bit; so 1 * x is x: two statements of specs/Unrounded.
 -- Assumes nothing.
-use Rattle.std.proofs.Common.{◌≡◌, ℕ, zero, suc, ◌+◌, ◌-◌, ◌*◌, ◌/◌, ◌^◌, ◌<◌, Bool, true, false, cond, T, ℤ, pos, sym, refl, ap, ◌∙◌, subst, one-mul, mul_right_comm, arith, lit<}
+use Rattle.std.proofs.Common.{◌≡◌, ℕ, zero, suc, ◌+◌, ◌-◌, ◌*◌, ◌/◌, ◌^◌, Bool, true, false, cond, T, ℤ, pos, sym, refl, ap, ◌∙◌, subst, one-mul, mul_right_comm, arith, lit<}
 use lib.Ieee.{Float, nan, inf, fin, Format, binary64, prec, low, top, hid, size, up, down, fits, round, mul, of_bits, to_bits}
 use lib.Ieee.Bits.{of_bits-to_bits}
 use lib.Ieee.Fits.{down_pos, round-fits}

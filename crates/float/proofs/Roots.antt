@@ -1,7 +1,7 @@
 -- The square of a root is nearly the number itself, counted in smallest f64s: a hundred-thousandth away at most. Assumes nothing.
-use Rattle.std.proofs.Common.{◌≡◌, ℕ, zero, suc, ◌+◌, ◌-◌, ◌*◌, ◌/◌, ◌^◌, ◌<◌, ◌≤◌, ℤ, sym, ap, ◌∙◌, le_of_suc-le-suc, lt_of_le_of_lt, le_of_lt, mul-le-mul_right, zero-lt-suc, mul_assoc, add-mul, mul-le-mul_left, mul-lt-mul_of_pos_right, mul-pos, lt_of_not-le, mul-add, mul_right_comm, not-le_of_lt, mul-div_cancel, arith, pow_pos, pow-add}
+use Rattle.std.proofs.Common.{◌≡◌, ℕ, zero, suc, ◌+◌, ◌*◌, ◌/◌, ◌^◌, ◌<◌, ◌≤◌, ℤ, sym, ap, ◌∙◌, le_of_suc-le-suc, lt_of_le_of_lt, le_of_lt, mul-le-mul_right, zero-lt-suc, mul_assoc, add-mul, mul-le-mul_left, mul-lt-mul_of_pos_right, mul-pos, lt_of_not-le, mul-add, mul_right_comm, not-le_of_lt, mul-div_cancel, arith, pow_pos, pow-add}
 use native.Mathlib.Nat.{mul-mul-mul_comm}
-use lib.Ieee.{Float, up, down, size}
+use lib.Ieee.{Float, up, down}
 use lib.Ieee.Fits.{up_pos, down_pos}
 use lib.Ieee.Positive.{first_pos}
 use Rattle.float.specs.Float.{root_units, root_of}

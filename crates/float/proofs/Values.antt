@@ -3,7 +3,7 @@ use Rattle.std.proofs.Common.{◌≡◌, map, refl}
 use lib.Ieee as Ieee
 use lib.Ieee.{of_bits, size, to_unsigned, to_signed}
 use Rattle.float.specs.Float.{abs_of, tiny, close_to, whole_by, root_down, root_near, root_units, root_of}
-use Rattle.float.specs.Worked.{Row, computed, expected, table, WorkedValues}
+use Rattle.float.specs.Worked.{computed, expected, table, WorkedValues}
 use Rattle.float.proofs.Table.{each}
 
 holds : map computed table ≡ map expected table

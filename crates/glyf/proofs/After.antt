@@ -5,7 +5,7 @@ use mathlib.Core.Bool.{Bool, true, false, false≢true}
 use mathlib.Core.List.{List, [], ◌∷◌, ◌++◌}
 use mathlib.Core.Path.{◌≡◌, refl, ap, ◌∙◌}
 use lib.Dec.{ltb}
-use lib.IntN.{ℤ, pos, neg_ℤ}
+use lib.IntN.{pos, neg_ℤ}
 use lib.ListN.{length, drop}
 use Rattle.glyf.specs.Layout.{Glyph, Outcome, done, refused, Taken, taken, cut, next, byte, word, several, signed, bit, flagged, flags_of, difference_by, differences, Parts, count_of, parts_of, judged_parts, simple_only, headed, described}
 use Rattle.glyf.specs.After.{AfterIsNotLookedAt, FilledRowSays}

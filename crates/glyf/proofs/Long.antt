@@ -1,14 +1,14 @@
 -- How long a description is at most. Assumes nothing.
-use Prim.Native.Nat.{ℕ, zero, suc, ◌+◌, ◌*◌, ◌≤◌}
+use Prim.Native.Nat.{ℕ, suc, ◌+◌, ◌*◌, ◌≤◌}
 use native.Mathlib.Omega.{arith}
 use mathlib.Core.Bool.{Bool, true, false, ◌&&◌}
 use mathlib.Core.List.{List, [], ◌∷◌, ◌++◌, map}
 use borrow.Author.Tests.{ltb-true}
-use mathlib.Core.Path.{◌≡◌, refl, sym, subst}
-use lib.Dec.{eqb, ltb, leb}
-use lib.IntN.{ℤ, pos, nat_abs}
+use mathlib.Core.Path.{◌≡◌, refl}
+use lib.Dec.{eqb, ltb}
+use lib.IntN.{ℤ, pos}
 use lib.ListN.{length, take, length-append, length-take, length-replicate}
-use Rattle.glyf.specs.Layout.{Size, still, small, large, size_of, code_by, code_of, joined, steps, coded_flags, run_bytes, run_of, packed_if, packed, packed_flags, word_bytes, signed_bytes, box_of, Glyph, count_of, trimmed, bytes_of}
+use Rattle.glyf.specs.Layout.{Size, still, small, large, size_of, code_by, code_of, joined, steps, coded_flags, run_bytes, run_of, packed_if, packed, packed_flags, word_bytes, signed_bytes, box_of, count_of, bytes_of}
 use Rattle.glyf.specs.Long.{AlwaysSuffices}
 
 -- ---- each part

@@ -1,5 +1,5 @@
 -- The pattern of an f64 above zero, and what the digits of a root are the root of, where that is a normal one. Assumes nothing.
-use Rattle.std.proofs.Common.{◌≡◌, ℕ, zero, suc, ◌+◌, ◌-◌, ◌*◌, ◌/◌, ◌%◌, ◌^◌, ◌<◌, ◌≤◌, true, false, T, pos, sym, refl, ap, ◌∙◌, subst, le_trans, lt_of_lt_of_le, le_of_suc-le-suc, lt_of_not-le, not-le_of_lt, arith, pow_mono}
+use Rattle.std.proofs.Common.{◌≡◌, ℕ, zero, suc, ◌+◌, ◌-◌, ◌*◌, ◌/◌, ◌%◌, ◌^◌, ◌<◌, ◌≤◌, true, false, T, pos, sym, refl, ap, ◌∙◌, le_trans, lt_of_lt_of_le, le_of_suc-le-suc, lt_of_not-le, not-le_of_lt, arith, pow_mono}
 use mathlib.Core.Bool.{false≢true}
 use lib.Count.{count_leading_zeros, leading_top}
 use lib.Ieee.{Float, nan, inf, fin, binary64, lt, fits, to_bits}

@@ -1,5 +1,5 @@
-use Rattle.std.proofs.Common.{◌-◌, arith}
-use Rattle.float.proofs.Squares.{Taken, start, root_lt, more, ended}
+use Rattle.std.proofs.Common.{arith}
+use Rattle.float.proofs.Squares.{start, root_lt, more, ended}
 use Rattle.float.proofs.by_digits.Goals as goal
 
 pub loop-i-init : goal.loop-i-init

@@ -1,6 +1,6 @@
 -- `float::by_digits` meets its contract. The loop's invariant is `Taken`; the measure is what is left of the turns. Assumes nothing.
-use Rattle.std.proofs.Common.{◌-◌, arith}
-use Rattle.float.proofs.Squares.{Taken, start, root_lt, more, ended}
+use Rattle.std.proofs.Common.{◌-◌}
+use Rattle.float.proofs.Squares.{Taken}
 use Rattle.float.proofs.by_digits.Given as goal
 
 abbrev pub invariant-loop-i : goal.invariant-loop-i

@@ -1,5 +1,5 @@
 -- `float::root` meets its contract: each arm ends what `radicand_of` leaves. Assumes nothing.
-use Rattle.std.proofs.Common.{◌∙◌, rules}
+use Rattle.std.proofs.Common.{◌∙◌}
 use Rattle.float.specs.Float.{root_of}
 use Rattle.float.specs.Steps.{Leaves}
 use Rattle.float.specs.declared.Radicand.TheVariants.{Scaled}

@@ -1,8 +1,5 @@
 use native.Mathlib.Omega.{arith}
-use Prim.Native.Nat.{◌-◌, ◌≤◌}
-use mathlib.Core.Path.{◌≡◌, refl, sym, ◌∙◌}
-use lib.ListN.{length, drop}
-use Rattle.glyf.specs.Layout.{rising}
+use mathlib.Core.Path.{refl, sym, ◌∙◌}
 use Rattle.glyf.proofs.Rises.{rise_end, rise_stops, rise_goes}
 use Rattle.glyf.proofs.ends_rise.Goals as goal
 

@@ -1,10 +1,8 @@
 -- `glyf::ends_rise` meets its contract. The loop's invariant: whether the ends rise is not settled before place i - 1. Assumes nothing.
-use native.Mathlib.Omega.{arith}
 use Prim.Native.Nat.{◌-◌, ◌≤◌}
-use mathlib.Core.Path.{◌≡◌, refl, sym, ◌∙◌}
+use mathlib.Core.Path.{◌≡◌}
 use lib.ListN.{length, drop}
 use Rattle.glyf.specs.Layout.{rising}
-use Rattle.glyf.proofs.Rises.{rise_end, rise_stops, rise_goes}
 use Rattle.glyf.proofs.ends_rise.Given as goal
 
 abbrev pub invariant-loop-i : goal.invariant-loop-i

@@ -1,9 +1,6 @@
-use Prim.Native.Nat.{◌+◌, ◌-◌, ◌≤◌}
-use mathlib.Core.Path.{◌≡◌, ◌∙◌, sym}
+use mathlib.Core.Path.{◌∙◌, sym}
 use native.Mathlib.Omega.{arith}
 use borrow.Author.Rules.{rules}
-use lib.ListN.{length, drop}
-use Rattle.outline.specs.Segments.{count_of}
 use Rattle.outline.proofs.Laws.{count_on, count_off, count_end}
 use Rattle.outline.proofs.count.Goals as goal
 use Rattle.outline.proofs.count.Goals.{then-is_on, else-is_on}
@@ -29,8 +26,8 @@ loop-i-smaller c = omega arith
 pub loop-i-preserved : goal.loop-i-preserved
 loop-i-preserved c =
     elim c.if-is_on.branch [
-      then-is_on w ↦ let e = count_on c.args.flags.now _ c.loop-i-test.true (sym c.is_on.ensures ∙ w.if-is_on.true) in omega arith
-    | else-is_on w ↦ let e = count_off c.args.flags.now _ c.loop-i-test.true (sym c.is_on.ensures ∙ w.if-is_on.false) in omega arith
+      | then-is_on w ↦ let e = count_on c.args.flags.now _ c.loop-i-test.true (sym c.is_on.ensures ∙ w.if-is_on.true) in omega arith
+      | else-is_on w ↦ let e = count_off c.args.flags.now _ c.loop-i-test.true (sym c.is_on.ensures ∙ w.if-is_on.false) in omega arith
     ]
 
 pub returns : goal.returns

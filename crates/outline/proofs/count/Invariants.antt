@@ -1,11 +1,8 @@
 -- `outline::count` meets its contract. The loop's invariant: k counts the on-curve points among the first i. Assumes nothing.
 use Prim.Native.Nat.{◌+◌, ◌-◌, ◌≤◌}
-use mathlib.Core.Path.{◌≡◌, ◌∙◌, sym}
-use native.Mathlib.Omega.{arith}
-use borrow.Author.Rules.{rules}
+use mathlib.Core.Path.{◌≡◌}
 use lib.ListN.{length, drop}
 use Rattle.outline.specs.Segments.{count_of}
-use Rattle.outline.proofs.Laws.{count_on, count_off, count_end}
 use Rattle.outline.proofs.count.Given as goal
 
 abbrev pub invariant-loop-i : goal.invariant-loop-i

@@ -1,10 +1,7 @@
 -- `outline::place_after` meets its contract. The loop's invariant: i segments end at place. Assumes nothing.
 use Prim.Native.Nat.{◌-◌, ◌≤◌}
-use mathlib.Core.Path.{◌≡◌, ◌∙◌, ap, sym}
-use native.Mathlib.Nat.{le_antisymm}
-use native.Mathlib.Omega.{arith}
-use Rattle.outline.specs.Segments.{end_of, place_after}
-use Rattle.outline.specs.Laws.{place_none, place_more}
+use mathlib.Core.Path.{◌≡◌}
+use Rattle.outline.specs.Segments.{place_after}
 use Rattle.outline.proofs.place_after.Given as goal
 
 abbrev pub invariant-loop-i : goal.invariant-loop-i

@@ -1,9 +1,7 @@
-use Prim.Native.Nat.{◌+◌, ◌-◌, ◌≤◌}
+use Prim.Native.Nat.{◌+◌, ◌-◌}
 use mathlib.Core.Path.{◌≡◌, ◌∙◌}
 use native.Mathlib.Omega.{arith}
 use borrow.Author.Rules.{rules}
-use lib.ListN.{length, drop}
-use Rattle.refusals.specs.Refusals.{off_neighbours}
 use Rattle.refusals.proofs.Laws.{pairs_end, pairs_more}
 use Rattle.refusals.proofs.off_neighbours.Goals as goal
 

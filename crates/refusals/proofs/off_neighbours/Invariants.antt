@@ -1,12 +1,9 @@
 -- `refusals::off_neighbours` meets its contract. The loop's invariant: whether two neighbours are off-curve is not settled before
 -- place i - 1. Assumes nothing.
-use Prim.Native.Nat.{◌+◌, ◌-◌, ◌≤◌}
-use mathlib.Core.Path.{◌≡◌, ◌∙◌}
-use native.Mathlib.Omega.{arith}
-use borrow.Author.Rules.{rules}
+use Prim.Native.Nat.{◌-◌, ◌≤◌}
+use mathlib.Core.Path.{◌≡◌}
 use lib.ListN.{length, drop}
 use Rattle.refusals.specs.Refusals.{off_neighbours}
-use Rattle.refusals.proofs.Laws.{pairs_end, pairs_more}
 use Rattle.refusals.proofs.off_neighbours.Given as goal
 
 abbrev pub invariant-loop-i : goal.invariant-loop-i

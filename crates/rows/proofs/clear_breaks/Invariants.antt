@@ -1,11 +1,9 @@
 -- `rows::clear_breaks` meets its contract, by the law of proofs/Filled.antt. Assumes nothing.
 use Prim.Native.Nat.{◌-◌}
-use native.Mathlib.Omega.{arith}
-use mathlib.Core.Path.{◌≡◌, refl}
-use borrow.Author.Rules.{rules}
+use mathlib.Core.Path.{◌≡◌}
 use lib.ListN.{length, replicate}
 use Rattle.rows.specs.Rows.{break_zero}
-use Rattle.rows.proofs.Filled.{Filled, blank_start, blank_more, blank_all}
+use Rattle.rows.proofs.Filled.{Filled}
 use Rattle.rows.proofs.clear_breaks.Given as goal
 
 abbrev pub invariant-loop-i : goal.invariant-loop-i

@@ -1,10 +1,8 @@
-use Prim.Native.Nat.{◌-◌}
 use native.Mathlib.Omega.{arith}
-use mathlib.Core.Path.{◌≡◌, refl}
+use mathlib.Core.Path.{refl}
 use borrow.Author.Rules.{rules}
-use lib.ListN.{length, replicate}
 use Rattle.rows.specs.Rows.{point_zero}
-use Rattle.rows.proofs.Filled.{Filled, blank_start, blank_more, blank_all}
+use Rattle.rows.proofs.Filled.{blank_start, blank_more, blank_all}
 use Rattle.rows.proofs.clear_points.Goals as goal
 
 pub loop-i-init : goal.loop-i-init

@@ -1,6 +1,5 @@
 -- `gliftext::table::class_of` meets its contract. Assumes nothing.
 use Rattle.gliftext.specs.Table.{class_of, classes}
-use borrow.Author.Rules.{rules}
 use Rattle.gliftext.proofs.table.class_of.Goals as goal
 
 pub wide8-requires : goal.wide8-requires

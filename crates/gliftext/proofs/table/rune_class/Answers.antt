@@ -1,6 +1,5 @@
 -- `gliftext::table::rune_class` meets its contract. Assumes nothing.
 use Rattle.gliftext.specs.Utf8.{rune_class, runes}
-use borrow.Author.Rules.{rules}
 use Rattle.gliftext.proofs.table.rune_class.Goals as goal
 
 pub wide8-requires : goal.wide8-requires

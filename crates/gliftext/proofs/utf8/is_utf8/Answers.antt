@@ -1,8 +1,4 @@
-use Prim.Native.Nat.{◌-◌, ◌≤◌}
-use mathlib.Core.Path.{◌≡◌}
 use native.Mathlib.Omega.{arith}
-use lib.ListN.{length}
-use Rattle.gliftext.specs.Utf8.{rune_at}
 use Rattle.gliftext.proofs.Tables.{runs_from, runs_on, runs_out}
 use Rattle.gliftext.proofs.utf8.is_utf8.Goals as goal
 

@@ -1,10 +1,8 @@
 -- `gliftext::utf8::is_utf8` meets its contract. Assumes nothing.
 use Prim.Native.Nat.{◌-◌, ◌≤◌}
 use mathlib.Core.Path.{◌≡◌}
-use native.Mathlib.Omega.{arith}
 use lib.ListN.{length}
 use Rattle.gliftext.specs.Utf8.{rune_at}
-use Rattle.gliftext.proofs.Tables.{runs_from, runs_on, runs_out}
 use Rattle.gliftext.proofs.utf8.is_utf8.Given as goal
 
 abbrev pub invariant-loop-i : goal.invariant-loop-i

@@ -1,10 +1,8 @@
-use Prim.Native.Nat.{◌-◌}
 use native.Mathlib.Numerals.{unary_clauses}
 use native.Mathlib.Omega.{arith}
 use mir.Facts.{to_z-of_z}
 use borrow.Author.Rules.{sfits_of}
-use Rattle.lines.specs.Answer.{points_text}
-use Rattle.lines.proofs.Texts.{Going, begin}
+use Rattle.lines.proofs.Texts.{begin}
 use Rattle.lines.proofs.Answers.{as_point, next_point, all_points}
 use borrow.Author.Rules.{rules}
 use Rattle.std.proofs.Common.{w16}

@@ -1,13 +1,7 @@
 -- `lines::answer::put_points` meets its contract. The loop's invariant: the points that are left, put from here, make the whole. Assumes nothing.
 use Prim.Native.Nat.{◌-◌}
-use native.Mathlib.Numerals.{unary_clauses}
-use native.Mathlib.Omega.{arith}
-use mir.Facts.{to_z-of_z}
-use borrow.Author.Rules.{sfits_of}
 use Rattle.lines.specs.Answer.{points_text}
-use Rattle.lines.proofs.Texts.{Going, begin}
-use Rattle.lines.proofs.Answers.{as_point, next_point, all_points}
-use borrow.Author.Rules.{rules}
+use Rattle.lines.proofs.Texts.{Going}
 use Rattle.lines.proofs.answer.put_points.Given as goal
 
 abbrev pub invariant-loop-i : goal.invariant-loop-i

@@ -1,10 +1,8 @@
-use Prim.Native.Nat.{◌+◌, ◌-◌}
 use mathlib.Core.Path.{subst}
 use native.Mathlib.Omega.{arith}
-use lib.ListN.{length}
 use Rattle.lines.specs.Line.{laid}
 use Rattle.lines.specs.Steps.{Inside}
-use Rattle.lines.proofs.Parsing.{Reached, begin, more, ended, spoils, too_long, no_points_lem}
+use Rattle.lines.proofs.Parsing.{begin, more, ended, spoils, too_long, no_points_lem}
 use Rattle.lines.proofs.Signs.{back}
 use Rattle.lines.proofs.line.parse.Goals as goal
 

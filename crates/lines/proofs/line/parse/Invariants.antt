@@ -1,12 +1,7 @@
 -- `lines::line::parse` meets its contract. The loop's invariant: n points are in the rows, and those from `at` on are left. Assumes nothing.
 use Prim.Native.Nat.{◌+◌, ◌-◌}
-use mathlib.Core.Path.{subst}
-use native.Mathlib.Omega.{arith}
 use lib.ListN.{length}
-use Rattle.lines.specs.Line.{laid}
-use Rattle.lines.specs.Steps.{Inside}
-use Rattle.lines.proofs.Parsing.{Reached, begin, more, ended, spoils, too_long, no_points_lem}
-use Rattle.lines.proofs.Signs.{back}
+use Rattle.lines.proofs.Parsing.{Reached}
 use Rattle.lines.proofs.line.parse.Given as goal
 
 abbrev pub invariant-loop-at : goal.invariant-loop-at

@@ -1,7 +1,5 @@
-use Prim.Native.Nat.{◌-◌}
 use native.Mathlib.Omega.{arith}
-use lib.ListN.{length, drop}
-use Rattle.lines.proofs.Texts.{Going, begin, next_of, all_of}
+use Rattle.lines.proofs.Texts.{begin, next_of, all_of}
 use Rattle.lines.proofs.put.put_all.Goals as goal
 
 pub least-a-requires : goal.least-a-requires

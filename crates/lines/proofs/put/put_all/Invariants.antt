@@ -1,8 +1,7 @@
 -- `lines::put::put_all` meets its contract. The loop's invariant: the rest of the text, put from here, makes the whole. Assumes nothing.
 use Prim.Native.Nat.{◌-◌}
-use native.Mathlib.Omega.{arith}
 use lib.ListN.{length, drop}
-use Rattle.lines.proofs.Texts.{Going, begin, next_of, all_of}
+use Rattle.lines.proofs.Texts.{Going}
 use Rattle.lines.proofs.put.put_all.Given as goal
 
 abbrev pub invariant-loop-i : goal.invariant-loop-i

@@ -1,8 +1,7 @@
-use Prim.Native.Nat.{◌≤◌}
 use mathlib.Core.Path.{◌≡◌}
 use native.Mathlib.Omega.{arith}
 use Rattle.lines.specs.Text.{hex_from}
-use Rattle.lines.proofs.Texts.{Going, begin, more, done}
+use Rattle.lines.proofs.Texts.{begin, more, done}
 use Rattle.lines.proofs.Digits.{hex_next}
 use Rattle.lines.proofs.put.put_hex.Goals as goal
 

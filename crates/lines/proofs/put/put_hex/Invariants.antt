@@ -1,10 +1,7 @@
 -- `lines::put::put_hex` meets its contract. The loop's invariant: the last k digits, put from here, make the whole. Assumes nothing.
 use Prim.Native.Nat.{◌≤◌}
-use mathlib.Core.Path.{◌≡◌}
-use native.Mathlib.Omega.{arith}
 use Rattle.lines.specs.Text.{hex_from}
-use Rattle.lines.proofs.Texts.{Going, begin, more, done}
-use Rattle.lines.proofs.Digits.{hex_next}
+use Rattle.lines.proofs.Texts.{Going}
 use Rattle.lines.proofs.put.put_hex.Given as goal
 
 abbrev pub invariant-loop-k : goal.invariant-loop-k

@@ -21,7 +21,6 @@ shape_of-buffer-then-e-chunk c = search rules
 
 pub returns-then-e-chunk : goal.returns-then-e-chunk
 returns-then-e-chunk c =
-
     record { room = (inside _ _ c.end_of-e.ensures.value c.put_all-kept.ensures, omega arith, omega arith); feeds = whole _ _ c.end_of-e.ensures.value c.put_all-kept.ensures c.if-e-chunk.true }
 
 pub shape_of-buffer-else-e-chunk : goal.shape_of-buffer-else-e-chunk
@@ -29,5 +28,4 @@ shape_of-buffer-else-e-chunk c = search rules
 
 pub returns-else-e-chunk : goal.returns-else-e-chunk
 returns-else-e-chunk c =
-
     record { room = inside _ _ c.end_of-e.ensures.value c.put_all-kept.ensures; feeds = part _ _ c.end_of-e.ensures.value c.put_all-kept.ensures c.if-e-chunk.false }

@@ -1,8 +1,6 @@
-use Prim.Native.Nat.{◌-◌, ◌≤◌}
-use mathlib.Core.Path.{◌≡◌, refl, sym, ◌∙◌}
+use mathlib.Core.Path.{refl, sym, ◌∙◌}
 use native.Mathlib.Omega.{arith}
-use lib.ListN.{length}
-use Rattle.lines.proofs.Words.{end_from, past, found, passed}
+use Rattle.lines.proofs.Words.{past, found, passed}
 use Rattle.lines.proofs.word.end_of.Goals as goal
 
 pub loop-i-init : goal.loop-i-init

@@ -1,9 +1,8 @@
 -- `lines::word::end_of` meets its contract. The loop's invariant: the end that is sought from here is the end sought. Assumes nothing.
 use Prim.Native.Nat.{◌-◌, ◌≤◌}
-use mathlib.Core.Path.{◌≡◌, refl, sym, ◌∙◌}
-use native.Mathlib.Omega.{arith}
+use mathlib.Core.Path.{◌≡◌}
 use lib.ListN.{length}
-use Rattle.lines.proofs.Words.{end_from, past, found, passed}
+use Rattle.lines.proofs.Words.{end_from}
 use Rattle.lines.proofs.word.end_of.Given as goal
 
 abbrev pub invariant-loop-i : goal.invariant-loop-i

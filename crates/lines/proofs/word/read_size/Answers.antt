@@ -1,8 +1,6 @@
-use Prim.Native.Nat.{◌-◌, ◌≤◌, min}
+use Prim.Native.Nat.{min}
 use mathlib.Core.Path.{◌≡◌, sym, ap, ◌∙◌}
 use native.Mathlib.Omega.{arith}
-use lib.ListN.{length, drop}
-use Rattle.lines.specs.Line.{natural_of, digits_on}
 use Rattle.lines.specs.Steps.{size_of}
 use Rattle.lines.specs.declared.word.Size.TheVariants as S
 use Rattle.lines.proofs.Reading.{low, high, digit, all, some_digits, no_digits_lem}

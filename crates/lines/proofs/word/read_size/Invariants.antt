@@ -1,12 +1,9 @@
 -- `lines::word::read_size` meets its contract. The loop's invariant: the digits from here on, after v, say what they all say. Assumes nothing.
-use Prim.Native.Nat.{◌-◌, ◌≤◌, min}
-use mathlib.Core.Path.{◌≡◌, sym, ap, ◌∙◌}
-use native.Mathlib.Omega.{arith}
+use Prim.Native.Nat.{◌-◌, ◌≤◌}
+use mathlib.Core.Path.{◌≡◌}
 use lib.ListN.{length, drop}
 use Rattle.lines.specs.Line.{natural_of, digits_on}
 use Rattle.lines.specs.Steps.{size_of}
-use Rattle.lines.specs.declared.word.Size.TheVariants as S
-use Rattle.lines.proofs.Reading.{low, high, digit, all, some_digits, no_digits_lem}
 use Rattle.lines.proofs.word.read_size.Given as goal
 
 abbrev pub invariant-loop-i : goal.invariant-loop-i

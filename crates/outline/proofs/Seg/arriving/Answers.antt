@@ -1,5 +1,4 @@
 -- `outline::Seg::arriving` meets its contract. Assumes nothing.
-use borrow.Author.Rules.{rules}
 use Rattle.outline.proofs.Seg.arriving.Goals as goal
 
 pub returns-in-Line : goal.returns-in-Line

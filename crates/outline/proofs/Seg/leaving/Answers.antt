@@ -1,5 +1,4 @@
 -- `outline::Seg::leaving` meets its contract. Assumes nothing.
-use borrow.Author.Rules.{rules}
 use Rattle.outline.proofs.Seg.leaving.Goals as goal
 
 pub returns-in-Line : goal.returns-in-Line
