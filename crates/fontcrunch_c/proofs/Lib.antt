@@ -1,0 +1,2 @@
+-- The contracts of the exports are those of the library.
+mod Same
