@@ -4,7 +4,7 @@
 pub mod both_editions;
 pub mod cleaning;
 pub mod from_cubics;
-pub mod glif;
+pub mod glif_files;
 pub mod glyph;
 pub mod idle_controls;
 pub mod reasons;

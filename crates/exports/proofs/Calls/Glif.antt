@@ -1,12 +1,12 @@
 -- Calls of fontcrunch_read_glif, fontcrunch_write_glif, fontcrunch_crunch_glif as the contracts have them, by name. Definitions only.
 use Rattle.exports.specs.Calls.Glif.{ReadGlifGiven, ReadGlifLeft, WriteGlifGiven, WriteGlifLeft, CrunchGlifGiven, CrunchGlifLeft}
 use Rattle.exports.proofs.Calls.{Call}
-use Rattle.exports.proofs.glif.fontcrunch_read_glif.Kinds as readKinds
-use Rattle.exports.proofs.glif.fontcrunch_read_glif.Reads as read
-use Rattle.exports.proofs.glif.fontcrunch_write_glif.Kinds as writeKinds
-use Rattle.exports.proofs.glif.fontcrunch_write_glif.Reads as write
-use Rattle.exports.proofs.glif.fontcrunch_crunch_glif.Kinds as crunchKinds
-use Rattle.exports.proofs.glif.fontcrunch_crunch_glif.Reads as crunch
+use Rattle.exports.proofs.glif_files.fontcrunch_read_glif.Kinds as readKinds
+use Rattle.exports.proofs.glif_files.fontcrunch_read_glif.Reads as read
+use Rattle.exports.proofs.glif_files.fontcrunch_write_glif.Kinds as writeKinds
+use Rattle.exports.proofs.glif_files.fontcrunch_write_glif.Reads as write
+use Rattle.exports.proofs.glif_files.fontcrunch_crunch_glif.Kinds as crunchKinds
+use Rattle.exports.proofs.glif_files.fontcrunch_crunch_glif.Reads as crunch
 
 -- ---- fontcrunch_read_glif
 

@@ -1,4 +1,4 @@
--- The contracts of the exports, as the check reads them off src/glif.rt, of any call (proofs/Calls), its rows and numbers by name (specs/Calls): nothing is
+-- The contracts of the exports, as the check reads them off src/glif_files.rt, of any call (proofs/Calls), its rows and numbers by name (specs/Calls): nothing is
 -- asked of a caller; each contract IS the entry's promise for what the caller gave; what is given fixes the report and every lent row; and of the lent rows
 -- their lengths alone fix the report and what is written. Assumes nothing.
 use mathlib.Core.Path.{◌≡◌}
@@ -10,9 +10,9 @@ use Rattle.exports.specs.Calls.Glif.{WriteGlifIs, WriteGlifAlike, write_glif_row
 use Rattle.exports.specs.Calls.Glif.{CrunchGlifIs, CrunchGlifAlike, crunch_glif_rows}
 use Rattle.exports.proofs.Calls.Glif.{ReadGlifCall, read_glif_given, read_glif_left, WriteGlifCall, write_glif_given, write_glif_left, CrunchGlifCall, crunch_glif_given, crunch_glif_left}
 use Rattle.exports.proofs.Laws.Glif as Laws
-use Rattle.exports.proofs.glif.fontcrunch_read_glif.Reads as read
-use Rattle.exports.proofs.glif.fontcrunch_write_glif.Reads as write
-use Rattle.exports.proofs.glif.fontcrunch_crunch_glif.Reads as crunch
+use Rattle.exports.proofs.glif_files.fontcrunch_read_glif.Reads as read
+use Rattle.exports.proofs.glif_files.fontcrunch_write_glif.Reads as write
+use Rattle.exports.proofs.glif_files.fontcrunch_crunch_glif.Reads as crunch
 
 -- ---- fontcrunch_read_glif
 

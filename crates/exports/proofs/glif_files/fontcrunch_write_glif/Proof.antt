@@ -1,6 +1,6 @@
--- `exports::glif::fontcrunch_write_glif` meets its contract. Assumes nothing.
-use Rattle.exports.proofs.glif.fontcrunch_write_glif.Statement.{statement}
-use Rattle.exports.proofs.glif.fontcrunch_write_glif.Tie as tie
+-- `exports::glif_files::fontcrunch_write_glif` meets its contract. Assumes nothing.
+use Rattle.exports.proofs.glif_files.fontcrunch_write_glif.Statement.{statement}
+use Rattle.exports.proofs.glif_files.fontcrunch_write_glif.Tie as tie
 
 write-glif-requires : tie.Need-write-glif-requires
 write-glif-requires c κs = tt

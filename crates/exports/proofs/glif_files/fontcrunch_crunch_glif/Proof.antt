@@ -1,6 +1,6 @@
--- `exports::glif::fontcrunch_crunch_glif` meets its contract. Assumes nothing.
-use Rattle.exports.proofs.glif.fontcrunch_crunch_glif.Statement.{statement}
-use Rattle.exports.proofs.glif.fontcrunch_crunch_glif.Tie as tie
+-- `exports::glif_files::fontcrunch_crunch_glif` meets its contract. Assumes nothing.
+use Rattle.exports.proofs.glif_files.fontcrunch_crunch_glif.Statement.{statement}
+use Rattle.exports.proofs.glif_files.fontcrunch_crunch_glif.Tie as tie
 
 crunch-glif-requires : tie.Need-crunch-glif-requires
 crunch-glif-requires c κs = tt

@@ -1,6 +1,6 @@
--- `exports::glif::fontcrunch_read_glif` meets its contract. Assumes nothing.
-use Rattle.exports.proofs.glif.fontcrunch_read_glif.Statement.{statement}
-use Rattle.exports.proofs.glif.fontcrunch_read_glif.Tie as tie
+-- `exports::glif_files::fontcrunch_read_glif` meets its contract. Assumes nothing.
+use Rattle.exports.proofs.glif_files.fontcrunch_read_glif.Statement.{statement}
+use Rattle.exports.proofs.glif_files.fontcrunch_read_glif.Tie as tie
 
 read-glif-requires : tie.Need-read-glif-requires
 read-glif-requires c κs = tt
