@@ -151,6 +151,7 @@ pub record Came (Done : Points → Type 0) (closed : Bool) (ps : Points) : Type 
 came_by : (Done : Points → Type 0) (closed : Bool) (ps : Points) {s : State} → Along Done Done s → From closed ps s → Came Done closed ps
 came_by Done closed ps (ends h) (stopped {row = row} e) = record { row = row; holds = h; is = e }
 came_by Done closed ps (goes h) (went {row = row} e) = record { row = row; holds = h; is = e }
+came_by Done closed ps (no k) x3 = elim x3 [ ]
 
 pub comes_out : (While Done : Points → Type 0) (rooms : Rooms) (room : ℕ) (settings : Settings) (xs ys : List ℤ) (fs : List ℕ) {ps : Points} {tally : Tally} →
     (judged xs ys fs ≡ Judged.Fine → Carried While Done Done xs ys fs settings.closed) →

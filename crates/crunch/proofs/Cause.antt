@@ -99,6 +99,7 @@ module _ (rooms : Rooms) (settings : Settings) (xs ys : List ℤ) (fs : List ℕ
     all_leaves : (rs : List Span) → Stuck rooms settings xs ys fs rs → (ps : Points) (tally : Tally) → Leaves (along rs (going ps tally))
     unfolding crunch_all after_run
     all_leaves (r ∷ rs) s ps tally = any_leaves r rs (all_leaves rs) s ps tally
+    all_leaves [] s ps tally = elim s [ ]
 
 -- ---- the contour itself
 

@@ -73,11 +73,13 @@ module _ (xs ys : List ℤ) (fs : List ℕ) where
     starts_by (Along.ends {ps = row} {tally = t} h) (stopped is) =
         let first = ap (take 1) (sym is ∙ ap (finished true) h) ∙ start_stays.unchanged xs ys fs fine in
         subst (λ (q : Points). StartsAt xs ys fs ps (ended q t)) (sym h) (Written.StartsAt.the_upload first)
+    starts_by (Along.no k) x3 = elim x3 [ ]
 
     outline_by : {s : State} → Along FromCorner Itself s → From true ps s → OutlineIs xs ys fs ps s
     outline_by (Along.goes {ps = row} h) (went is) = Written.the_pieces (ap outline_of (sym is) ∙ whole_outline_kept row)
     outline_by (Along.ends {ps = row} h) (stopped is) =
         Written.OutlineIs.the_upload (ap outline_of (sym is) ∙ whole_outline_kept row ∙ ap outline_of (h ∙ (in_closed_mode_lem xs ys fs fine).row))
+    outline_by (Along.no k) x3 = elim x3 [ ]
 
 -- by what is carried in closed mode
 module _ (rooms : Rooms) (room : ℕ) (settings : Settings) (xs ys : List ℤ) (fs : List ℕ) (ps : Points) (tally : Tally)

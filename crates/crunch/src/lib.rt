@@ -2,6 +2,7 @@
 // are left zero throughout whatever they held. It is made of two steps: crunching into the scratch row for
 // points, and copying out.
 #![tactic(auto)]
+
 ghost use Rattle.std.specs.Prelude.{◌≡◌, ◌≤◌, length};
 ghost use Rattle.rows.specs.Lent.{before, after, room, contour};
 ghost use Rattle.contour.specs.Output.{outputs};
