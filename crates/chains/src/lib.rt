@@ -2,6 +2,7 @@
 // rows, start break, end break, control x, control y, and the segments that hold both breaks; and four
 // scratch rows, which are left zero throughout whatever they held.
 #![tactic(auto)]
+
 ghost use Rattle.std.specs.Prelude.{◌≡◌, ◌≤◌, Float, length, take};
 ghost use Rattle.rows.specs.Lent.{before, room, contour};
 ghost use Rattle.breaks.specs.Breaks.{Row};

@@ -2,6 +2,7 @@
 // edition's work goes on; then each edition takes its step on it, lent the samples and the breaks to be read
 // alone. What an edition is handed back and left is what the crunch entry promises it by itself.
 #![tactic(auto)]
+
 mod entry;
 mod own;
 mod work;

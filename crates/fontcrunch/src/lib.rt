@@ -1,6 +1,7 @@
 // The entries for C and Rust programs. A row goes by pointer and length; what each row, room and number
 // means stands in include/fontcrunch.h.
 #![tactic(auto)]
+
 ghost use Rattle.std.specs.Prelude.{◌≡◌, T};
 ghost use Rattle.std.specs.Float.{binary64};
 ghost use Rattle.std.specs.Float.Ieee.{fits};

@@ -1,5 +1,6 @@
 // UFO's GLIF crunched: bytes in, bytes out, each contour by the crunch entry's own definition.
 #![tactic(auto)]
+
 mod entry;
 mod lent;
 

@@ -62,6 +62,7 @@ module _ (rooms : Edition.Rooms) (settings : Settings) where
   unfolding crunch_each
   first k room (inputs xs ys fs ∷ contours) (here e) = rw e refl
   first k room (inputs xs ys fs ∷ contours) (later {ps = ps} e l) = rw (e, first k (room - length ps) contours l) refl
+  first k room [] x' = elim x' [ ]
 
 -- ---- the contours of the new glyph
 

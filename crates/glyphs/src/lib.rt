@@ -1,6 +1,7 @@
 // OpenType's simple glyph descriptions, crunched: bytes in, bytes out, each contour by the crunch entry's own
 // definition.
 #![tactic(auto)]
+
 mod clear;
 mod contours;
 mod entry;

@@ -1,0 +1,15 @@
+-- `chains::put_spans` meets its contract. The loop's invariant is `Filled`. Assumes nothing.
+use Prim.Native.Nat.{◌-◌}
+use native.Mathlib.Omega.{arith}
+use lib.ListN.{take}
+use Rattle.rows.proofs.Filled.{Filled, start}
+use Rattle.chains.specs.Spans.{spans_from}
+use Rattle.chains.proofs.Spans.{put_one, put_all}
+use borrow.Author.Rules.{rules}
+use Rattle.chains.proofs.put_spans.Given as goal
+
+abbrev pub invariant-loop-i : goal.invariant-loop-i
+invariant-loop-i l = Filled (spans_from l.breaks (take l.n l.starts) (take l.n l.ends)) l.initial.spans l.spans l.i
+
+abbrev pub decreases-loop-i : goal.decreases-loop-i
+decreases-loop-i l = l.n - l.i
