@@ -51,7 +51,7 @@ pub chain_shows : (c : ChainCall) → ChainShows (chain_defined (chain_given c))
 chain_shows c = Laws.chain_shows (chain_is c)
 
 pub chain_leaves : (c c' : ChainCall) → chain_given c ≡ chain_given c' → chain_left c ≡ chain_left c'
-chain_leaves c c' e = Laws.chain_left (chain_is c) (chain_is c') e
+chain_leaves c c' e = Laws.chain_left_lem (chain_is c) (chain_is c') e
 
 pub chain_says : (c c' : ChainCall) → ChainAlike (chain_given c) (chain_given c') →
     ChainEqual c.r c'.r (chain_after (chain_left c)) (chain_after (chain_left c')) (chain_worked (chain_left c)) (chain_worked (chain_left c'))

@@ -188,7 +188,7 @@ data Good : List Points → Type 0 where
 good : (work : Edition.Rooms) (settings : Settings) {room : ℕ} {olds : List Inputs} {news : List Points} → AllIn16 olds → Each work settings room olds news → Good news
 good work settings none Each.none = none
 good work settings (next {xs = xs} {ys = ys} {fs = fs} h k rest) (Each.next {room = room} {tally = tally} {ps = ps} e more) =
-    next (comes_back work room settings xs ys fs ps tally e).starts (crunched_16 work room settings xs ys fs h k e) (good work settings rest more)
+    next (comes_back work room settings xs ys fs ps tally e).starts (crunched_16 work room settings xs ys fs h k e) (good work settings {room = room - length ps} rest more)
 
 together_16 : {cs : List Points} → Good cs → All16 (together cs)
 unfolding together

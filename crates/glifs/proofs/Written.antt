@@ -232,6 +232,8 @@ begun_stem bs g (good_own {from} {end} {ps} a b c more) begun_by v =
     ap stem (append_assoc (take (end - 0) bs) (pieces_text bs g ps) v)
     ∙ ap (λ (k : ℕ). stem (take k bs ++ (pieces_text bs g ps ++ v))) many
     ∙ stem_cut bs (end - 1) (pieces_text bs g ps ++ v) (omega arith) c
+begun_stem bs g Rattle.glifs.proofs.Track.good_nil x3 v = elim x3 [ ]
+begun_stem bs g (Rattle.glifs.proofs.Track.good_contour {k = k} {ps = ps} _) x6 v = elim x6 [ ]
 
 front_stem : (bs : List ℕ) (g : GivenRows) {from : ℕ} {ps : List Part} → Good bs ps → Front from ps → stem (pieces_text bs g ps ++ drop from bs) ≡ stem bs
 unfolding pieces_text
