@@ -75,9 +75,12 @@ pub record WriteGlyphLeft : Type 0 where
 abbrev pub write_glyph_glyph : WriteGlyphGiven → Glyph
 write_glyph_glyph g = glyph g.ends g.xs g.ys g.flags g.instructions
 
--- the row, lent and handed back; the promise does not look at where it stands
+-- the row, lent and handed back; the promise does not look at where it stands, nor under which name its value is tracked
 abbrev pub write_glyph_row : WriteGlyphGiven → WriteGlyphLeft → Lent ℕ
-write_glyph_row g l = record { entry = record { ref_ptr = (0, 0); now = g.out }; exit = record { ref_ptr = (0, 0); now = l.out } }
+write_glyph_row g l = record {
+  entry = record { ref_ptr = (0, 0); ghost_name = 0; now = g.out };
+  exit = record { ref_ptr = (0, 0); ghost_name = 0; now = l.out };
+}
 
 -- the writer's promise, for what the caller gave
 pub record WriteGlyphIs (g : WriteGlyphGiven) (l : WriteGlyphLeft) : Type 0 where
