@@ -7,7 +7,6 @@ use Rattle.geometry.specs.declared.Quad.{Quad}
 use Rattle.measure.specs.Measure.{measure_of}
 use Rattle.measure.specs.Fallen.{fallen_of}
 use Rattle.measure.specs.declared.Measured.{Measured}
-use Rattle.measure.specs.declared.Measured.TheVariants as Measured
 use Rattle.attempt.specs.declared.answer.Answer as A
 use Rattle.attempt.specs.declared.Outcome.{Outcome}
 use Rattle.attempt.specs.declared.Outcome.TheVariants as Attempting

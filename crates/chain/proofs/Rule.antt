@@ -15,7 +15,6 @@ use Rattle.geometry.specs.declared.Break.{Break}
 use Rattle.geometry.specs.declared.Point.{Point}
 use Rattle.geometry.specs.declared.Quad.{Quad}
 use Rattle.geometry.specs.declared.Crossing.{Crossing}
-use Rattle.geometry.specs.declared.Crossing.TheVariants as Crossing
 use Rattle.breaks.specs.Breaks.{Row, break_at}
 use Rattle.chain.specs.Valid.{equals, equal_points, drawn, straight, at_rounded, bent, curved, follows_curve, valid_piece, leads, joined}
 use Rattle.chain.specs.Valid.{piece_quad, valid_from, good_shape, sum_of, verdict, judged_by, checked_chain, even_rows, checked_if, chain_in, check_rows}
@@ -26,9 +25,7 @@ use Rattle.chain.specs.declared.Piece.{Piece}
 use Rattle.chain.specs.declared.Before.{Before}
 use Rattle.chain.specs.declared.Before.TheVariants.{Start, After}
 use Rattle.chain.specs.declared.Summed.{Summed}
-use Rattle.chain.specs.declared.Summed.TheVariants as Summed
 use Rattle.chain.specs.declared.Checked.{Checked}
-use Rattle.chain.specs.declared.Checked.TheVariants as Checked
 
 -- ---- tests and facts
 

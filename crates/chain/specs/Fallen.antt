@@ -5,7 +5,6 @@ use Rattle.measure.specs.Fallen.{fallen_of}
 use Rattle.chain.specs.Valid.{piece_quad, good_shape, sum_of, chain_in, even_rows}
 use Rattle.chain.specs.declared.Piece.{Piece}
 use Rattle.chain.specs.declared.Summed.{Summed}
-use Rattle.chain.specs.declared.Summed.TheVariants as Summed
 
 module _ (samples : List (List Float)) (breaks : Row) where
   -- in the measure of a piece, between the lengths of its two breaks

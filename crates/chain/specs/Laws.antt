@@ -7,7 +7,6 @@ use Rattle.breaks.specs.Breaks.{Row}
 use Rattle.chain.specs.Valid.{equals, good_shape, sum_of, yes_if, judged_by, verdict, checked_chain}
 use Rattle.chain.specs.declared.Piece.{Piece}
 use Rattle.chain.specs.declared.Summed.{Summed}
-use Rattle.chain.specs.declared.Summed.TheVariants as Summed
 use Rattle.chain.specs.declared.Checked.TheVariants as Checked
 
 -- ---- equality

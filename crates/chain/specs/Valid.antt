@@ -9,18 +9,14 @@ use Rattle.geometry.specs.declared.Break.{Break}
 use Rattle.geometry.specs.declared.Point.{Point}
 use Rattle.geometry.specs.declared.Quad.{Quad}
 use Rattle.geometry.specs.declared.Crossing.{Crossing}
-use Rattle.geometry.specs.declared.Crossing.TheVariants as Crossing
 use Rattle.breaks.specs.Breaks.{Row, break_at}
 use Rattle.measure.specs.Measure.{measure_of}
 use Rattle.measure.specs.declared.Measured.{Measured}
-use Rattle.measure.specs.declared.Measured.TheVariants as Measured
 use Rattle.chain.specs.declared.Piece.{Piece}
 use Rattle.chain.specs.declared.Before.{Before}
 use Rattle.chain.specs.declared.Before.TheVariants.{Start, After}
 use Rattle.chain.specs.declared.Summed.{Summed}
-use Rattle.chain.specs.declared.Summed.TheVariants as Summed
 use Rattle.chain.specs.declared.Checked.{Checked}
-use Rattle.chain.specs.declared.Checked.TheVariants as Checked
 
 -- ---- equal as f64 values: IEEE equality, or both NaN
 

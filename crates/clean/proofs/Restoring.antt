@@ -12,7 +12,6 @@ use lib.ListN.{length, get_or, set, take, drop, length-map, get_or-map}
 use lib.Seq.{take_all, take_at, drop-cons, drop-length}
 use Rattle.refusals.specs.Refusals.{rows_differ, no_point, refuse}
 use Rattle.refusals.specs.declared.Judged.{Judged}
-use Rattle.refusals.specs.declared.Judged.TheVariants as Judged
 use Rattle.rows.specs.Lent.{inputs}
 use Rattle.rows.proofs.Filled.{Filled, more, filled}
 use Rattle.contour.specs.Output.{Outputs, outputs}

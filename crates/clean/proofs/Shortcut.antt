@@ -2,7 +2,7 @@
 -- the last on top, and the rest. No point of the stack repeats its neighbours (Steady), and a drop ahead of it leaves that so: whatever is
 -- dropped there, the point before it is on-curve, and an on-curve point is dropped for the point before it alone. Only the last point of all
 -- looks further, at the first: it is looked at when the rest is empty, and after it has gone nothing more goes. Assumes nothing.
-use Prim.Native.Nat.{ℕ, zero, suc, ◌+◌, ◌-◌, ◌≤◌}
+use Prim.Native.Nat.{ℕ, zero, suc, ◌-◌, ◌≤◌}
 use mathlib.Core.Bool.{Bool, true, false, not, ◌&&◌, true≢false, false≢true}
 use mathlib.Core.List.{List, [], ◌∷◌, ◌++◌, append-nil, append_assoc}
 use mathlib.Core.Path.{◌≡◌, refl, sym, ap, ◌∙◌}

@@ -12,7 +12,6 @@ use lib.Seq.{get_or_at, append_snoc}
 use Rattle.refusals.specs.Refusals.{is_on, off_neighbours, judged}
 use Rattle.refusals.specs.Accepted.{Accepted, accepted, judged_fine}
 use Rattle.refusals.specs.declared.Judged.TheVariants.{Fine}
-use Rattle.contour.specs.Implied.{same}
 use Rattle.clean.specs.Clean.{same_place, on_place, Look, none, gone, behind, at_place, cleaned, reason, lowest, dropping, up_from, clean_of}
 use Rattle.clean.specs.Entry.{coordinate_in, bit_in}
 use Rattle.clean.specs.Statements.{OnePassCleans, KeptInOrder, TwiceDropsNothing, coordinates_left, flags_left}

@@ -12,7 +12,6 @@ use lib.ListN.{length, take, drop, set, get_or}
 use lib.Seq.{length-take-le, take_all, get_or-take}
 use denote.Triple.Both.{Both}
 use Rattle.refusals.specs.declared.Judged.{Judged}
-use Rattle.refusals.specs.declared.Judged.TheVariants as Judged
 use Rattle.rows.proofs.Filled.{Filled, more, filled}
 use Rattle.rows.specs.Lent.{Inputs}
 use Rattle.contour.specs.Output.{outputs, front}

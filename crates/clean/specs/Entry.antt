@@ -3,7 +3,6 @@ use Rattle.std.specs.Prelude.{ℕ, min, ◌+◌, ◌-◌, ◌%◌, Bool, true, f
 use denote.Triple.Both.{Both}
 use Rattle.refusals.specs.Refusals.{rows_differ, no_point, judged, refuse}
 use Rattle.refusals.specs.declared.Judged.{Judged}
-use Rattle.refusals.specs.declared.Judged.TheVariants as Judged
 use Rattle.contour.specs.Output.{Outputs, outputs, front}
 use Rattle.rows.specs.Lent.{Lent, before, after, Inputs, inputs}
 use Rattle.clean.specs.Clean.{Cleaning, cleaned, clean_of}

@@ -16,7 +16,7 @@ use lib.ListN.{length, get_or, take, drop, length-take}
 use lib.Seq.{drop-cons}
 use Rattle.refusals.specs.Refusals.{is_on}
 use Rattle.contour.specs.Points.{Points}
-use Rattle.contour.specs.Writing.{over, unless_over, written, extended, writing_in, Appended}
+use Rattle.contour.specs.Writing.{unless_over, written, extended, writing_in, Appended}
 use Rattle.contour.specs.declared.Written.{Written}
 use Rattle.contour.specs.Laws.{wrote_more}
 use Rattle.halving.specs.Cubic.{Curve, first_part, second_part, bent, outside, point, control_point, start_point, between}

@@ -11,7 +11,6 @@ use lib.ListN.{length, get_or, length-map}
 use Rattle.refusals.specs.Refusals.{is_on, first_off, off_neighbours, too_many, refuse, rows_differ, no_point}
 use Rattle.refusals.specs.Accepted.{judged_fine}
 use Rattle.refusals.specs.declared.Judged.{Judged}
-use Rattle.refusals.specs.declared.Judged.TheVariants as Judged
 use Rattle.rows.specs.Lent.{inputs}
 use Rattle.rows.specs.Sixteen.{SixteenBits}
 use Rattle.rows.proofs.Sixteen.{sixteen_at}

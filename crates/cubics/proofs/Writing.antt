@@ -9,7 +9,6 @@ use lib.ListN.{length, take, length-map}
 use denote.Triple.Both.{Both}
 use Rattle.refusals.specs.Refusals.{too_many}
 use Rattle.refusals.specs.declared.Judged.{Judged}
-use Rattle.refusals.specs.declared.Judged.TheVariants as Judged
 use Rattle.rows.specs.Lent.{Inputs}
 use Rattle.contour.specs.Points.{Points}
 use Rattle.contour.specs.Output.{Outputs, with_points}

@@ -3,7 +3,6 @@ use Rattle.std.specs.Prelude.{ℕ, min, Bool, true, false, ◌≡◌, ltb, ℤ, 
 use denote.Triple.Both.{Both}
 use Rattle.refusals.specs.Refusals.{too_many}
 use Rattle.refusals.specs.declared.Judged.{Judged}
-use Rattle.refusals.specs.declared.Judged.TheVariants as Judged
 use Rattle.rows.specs.Lent.{Lent, before, after, Inputs, inputs}
 use Rattle.contour.specs.Points.{Points}
 use Rattle.contour.specs.Output.{Outputs, outputs, with_points}

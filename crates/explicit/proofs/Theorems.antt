@@ -14,7 +14,6 @@ use denote.Triple.Both.{Both}
 use Rattle.refusals.specs.Refusals.{is_on, rows_differ, no_point, too_many, refuse, off_neighbours}
 use Rattle.refusals.specs.Accepted.{Accepted, accepted, judged_fine}
 use Rattle.refusals.specs.declared.Judged.{Judged}
-use Rattle.refusals.specs.declared.Judged.TheVariants as Judged
 use Rattle.outline.specs.Segments.{on_at}
 use Rattle.rows.specs.Lent.{Inputs, inputs}
 use Rattle.contour.specs.Points.{Points, point_as, came_to}

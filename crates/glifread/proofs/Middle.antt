@@ -5,7 +5,7 @@ use mathlib.Core.Path.{◌≡◌, refl}
 use native.Mathlib.Omega.{arith}
 use borrow.Author.Tests.{lt-ltb, le-ltb, le-leb, ltb-true, ltb-false}
 use lib.Dec.{ltb}
-use lib.IntN.{ℤ, pos, negsuc, ◌+ℤ◌}
+use lib.IntN.{pos, negsuc, ◌+ℤ◌}
 use Rattle.lines.specs.Line.{negative}
 use Rattle.gliftext.specs.Pick.{pick, more, sum}
 use Rattle.glifread.specs.Enter.{middle_of, signed_of}

@@ -1,28 +1,27 @@
 -- The list of what was dropped, put back into the rows of what is left, gives the upload's points: the statement of specs/Statements. Assumes nothing.
-use Prim.Native.Nat.{ℕ, zero, suc, ◌+◌, ◌-◌, ◌%◌, ◌≤◌, ◌<◌}
-use mathlib.Core.Bool.{Bool, true, false, ◌&&◌, ◌||◌}
-use mathlib.Core.List.{List, [], ◌∷◌, ◌++◌, map, map-map}
+use Prim.Native.Nat.{ℕ, zero, suc, ◌+◌, ◌-◌, ◌≤◌, ◌<◌}
+use mathlib.Core.Bool.{Bool, true, false}
+use mathlib.Core.List.{List, [], ◌∷◌, map, map-map}
 use mathlib.Core.Path.{◌≡◌, refl, sym, ap, ◌∙◌}
 use native.Mathlib.Omega.{arith}
 use borrow.Author.Tests.{lt-ltb, ltb-true, eq-eqb, ne_eqb, lt-leb}
-use lib.Dec.{eqb, ltb, leb}
-use lib.IntN.{ℤ, pos}
+use lib.Dec.{ltb}
+use lib.IntN.{ℤ}
 use lib.ListN.{length, get_or, length-map}
 use Rattle.refusals.specs.Accepted.{Accepted, accepted}
 use Rattle.clean.specs.Clean.{on_place, same_place, up_from}
-use Rattle.clean.specs.Pass.{pick_number, after_of}
-use Rattle.clean.specs.PutBack.{number_of, why_of, kept_spot, Point, point, point_at}
-use Rattle.clean.specs.Entry.{coordinate_in, bit_in}
+use Rattle.clean.specs.Pass.{after_of}
+use Rattle.clean.specs.PutBack.{number_of, kept_spot, Point, point_at}
 use Rattle.clean.specs.Determine.{length_up}
 use Rattle.clean.specs.Statements.{coordinates_left, flags_left, uploaded, spot_point}
 use Rattle.clean.proofs.Sweeping.{place_is}
-use Rattle.clean.proofs.Theorems.{past, number, coordinate_as, bit_twice}
+use Rattle.clean.proofs.Theorems.{past, number, coordinate_as}
 use Rattle.clean.proofs.Back.{no_bit, as_kept}
-use Rattle.idle.specs.Idle.{before_of, beside_of, gathered, kept_at, listed_at, kept_of, list_of, places_of}
-use Rattle.idle.specs.PutBack.{beside_kept, idle_spot, spot_if, drop_at, is_back, spot_at, passed_as, passed_to, spot_of, spots_of}
+use Rattle.idle.specs.Idle.{before_of, beside_of, listed_at, kept_of, list_of, places_of}
+use Rattle.idle.specs.PutBack.{beside_kept, idle_spot, drop_at, is_back, passed_as, passed_to, spot_of}
 use Rattle.idle.specs.Statements.{written_back, ListPutBack}
 use Rattle.idle.proofs.Places.{count, count_none, count_more, stands, inside, Found, find}
-use Rattle.idle.proofs.Neighbours.{beside, Seen, on_curve_lem, free, by_before, by_after, seen, kept, listed, kept_there, goes, before_kept, after_kept}
+use Rattle.idle.proofs.Neighbours.{Seen, on_curve_lem, free, by_before, by_after, seen, kept, listed, kept_there, goes, before_kept, after_kept}
 use Rattle.idle.proofs.Theorems.{each_once}
 
 -- two rules that agree on the places up to n agree on them in order

@@ -15,9 +15,9 @@ use Rattle.clean.specs.Statements.{coordinates_left, flags_left}
 use Rattle.clean.proofs.Theorems.{up_of, past, number, coordinate_as, on_as}
 use Rattle.clean.proofs.Back.{map_as}
 use Rattle.idle.specs.Idle.{before_of, beside_of, gathered, kept_at, kept_of, places_of}
-use Rattle.idle.specs.Outline.{Place, Piece, line, quad, Vertex, on, off, Pen, from, bent, traced, drawn, place_at, vertex_at, vertices_of, outline_of, straight_if, straightened}
-use Rattle.idle.specs.Statements.{on_curve, SameOutline, OutlineKept}
-use Rattle.idle.proofs.Neighbours.{Seen, on_curve_lem, free, by_before, by_after, seen, on_stays, is_before, is_after, after_on}
+use Rattle.idle.specs.Outline.{Place, Piece, line, quad, Vertex, from, traced, drawn, place_at, vertex_at, vertices_of, outline_of, straightened}
+use Rattle.idle.specs.Statements.{on_curve, OutlineKept}
+use Rattle.idle.proofs.Neighbours.{Seen, on_curve_lem, free, by_before, by_after, seen, on_stays, after_on}
 use Rattle.idle.proofs.Theorems.{starts}
 
 -- ---- the rows of what is left hold the points kept

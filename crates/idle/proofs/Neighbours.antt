@@ -10,9 +10,9 @@ use lib.Dec.{ltb}
 use lib.IntN.{ℤ}
 use lib.ListN.{length, get_or}
 use Rattle.refusals.specs.Accepted.{Accepted, accepted, next_on}
-use Rattle.clean.specs.Clean.{on_place, same_place, or_else, up_from}
+use Rattle.clean.specs.Clean.{on_place, same_place, or_else}
 use Rattle.clean.specs.Pass.{pick_number, after_of}
-use Rattle.idle.specs.Idle.{before_of, beside_of, gathered, kept_at, listed_at, kept_of, places_of}
+use Rattle.idle.specs.Idle.{before_of, beside_of, kept_at, listed_at, kept_of, places_of}
 use Rattle.idle.specs.Statements.{Neighbours, NeighboursOn}
 use Rattle.idle.proofs.Places.{count, count_none, count_more, stands, inside}
 

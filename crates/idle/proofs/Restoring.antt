@@ -1,8 +1,8 @@
 -- What `put_all` fills, place by place. Assumes nothing.
 use Prim.Native.Nat.{ℕ, zero, suc, ◌+◌, ◌-◌, ◌≤◌, ◌<◌}
-use mathlib.Core.Bool.{Bool, true, false, ◌&&◌, ◌||◌}
-use mathlib.Core.List.{List, map}
-use mathlib.Core.Path.{◌≡◌, refl, sym, ap, ◌∙◌}
+use mathlib.Core.Bool.{Bool, true, false, ◌||◌}
+use mathlib.Core.List.{List}
+use mathlib.Core.Path.{◌≡◌, refl, ap, ◌∙◌}
 use native.Mathlib.Numerals.{add-one}
 use native.Mathlib.Omega.{arith}
 use borrow.Author.Tests.{ltb-true, lt-ltb, le-ltb, eq-eqb, ne_eqb}
@@ -10,7 +10,6 @@ use lib.Dec.{eqb, ltb, leb}
 use lib.ListN.{length, set, take}
 use Rattle.rows.proofs.Filled.{Filled}
 use Rattle.rows.proofs.Filled as Row
-use Rattle.clean.specs.Clean.{up_from}
 use Rattle.clean.specs.Pass.{pick_number}
 use Rattle.clean.specs.PutBack.{number_of}
 use Rattle.clean.proofs.Shortcut.{both_hold}

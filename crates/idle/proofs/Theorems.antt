@@ -1,20 +1,17 @@
 -- Of every upload that none of 1 to 5 is given for: every point not listed is kept in order; what is left is refused by none of 1 to 5; and sifted
 -- again nothing more goes. The statements are those of specs/Statements. Assumes nothing.
 use Prim.Native.Nat.{ℕ, zero, suc, ◌+◌, ◌-◌, ◌≤◌, ◌<◌}
-use mathlib.Core.Bool.{Bool, true, false, not, ◌&&◌, ◌||◌, true≢false}
+use mathlib.Core.Bool.{Bool, true, false, true≢false}
 use mathlib.Core.List.{List, [], ◌∷◌, ◌++◌, map}
 use mathlib.Core.Path.{◌≡◌, refl, sym, ap, ◌∙◌}
-use native.Mathlib.Numerals.{add-one}
 use native.Mathlib.Omega.{arith}
 use borrow.Author.Tests.{eq-eqb, ne_eqb, lt-ltb}
-use lib.Dec.{ltb}
 use lib.IntN.{ℤ}
 use lib.ListN.{length, get_or, length-map}
-use Rattle.refusals.specs.Refusals.{is_on, off_neighbours, judged}
+use Rattle.refusals.specs.Refusals.{off_neighbours}
 use Rattle.refusals.specs.Accepted.{Accepted, accepted, judged_fine}
-use Rattle.refusals.specs.declared.Judged.TheVariants.{Fine}
 use Rattle.clean.specs.Clean.{on_place, same_place, or_else, cleaned, up_from}
-use Rattle.clean.specs.Pass.{pick_number, after_of}
+use Rattle.clean.specs.Pass.{after_of}
 use Rattle.clean.specs.PutBack.{number_of}
 use Rattle.clean.specs.Entry.{bit_in}
 use Rattle.clean.specs.Determine.{length_up}
@@ -23,7 +20,7 @@ use Rattle.clean.proofs.Theorems.{not_both, mod_twice, past, number, on_as, equa
 use Rattle.idle.specs.Idle.{before_of, beside_of, gathered, kept_at, listed_at, kept_of, list_of, places_of, idle_of}
 use Rattle.idle.specs.Statements.{InOrder, KeptInOrder, TwiceDropsNothing}
 use Rattle.idle.proofs.Places.{count, stands, Found, find}
-use Rattle.idle.proofs.Neighbours.{beside, Seen, on_curve_lem, free, by_before, by_after, seen, on_stays, kept, kept_there, stays, after_on, Before, before_kept, after_kept}
+use Rattle.idle.proofs.Neighbours.{Seen, on_curve_lem, free, by_before, by_after, seen, on_stays, kept, kept_there, stays, after_on, before_kept, after_kept}
 
 -- ---- every point not listed is kept in order
 

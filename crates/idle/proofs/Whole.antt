@@ -8,7 +8,7 @@ use native.Mathlib.Omega.{arith}
 use borrow.Author.Tests.{leb-true, leb-false}
 use lib.Dec.{leb}
 use lib.IntN.{ℤ, pos, ◌+ℤ◌, +ℤ_assoc, +ℤ_comm, +ℤ_idl, zero-*ℤ, suc_ℤ-*ℤ}
-use Rattle.idle.specs.Outline.{times, Passes, Between}
+use Rattle.idle.specs.Outline.{times}
 use Rattle.idle.specs.Statements.{QuadIsLine, NoneLeftOut}
 
 -- ---- on the line

@@ -1,5 +1,5 @@
 -- What is asked to be proved of idle controls, as types; a theorem of proofs/Theorems, proofs/Drawn or proofs/Back is of each. Statements only.
-use Rattle.std.specs.Prelude.{ℕ, ◌+◌, ◌*◌, ◌≤◌, ◌<◌, Bool, true, false, List, [], ◌∷◌, map, ◌≡◌, ℤ, length}
+use Rattle.std.specs.Prelude.{ℕ, ◌+◌, ◌*◌, ◌≤◌, ◌<◌, true, false, List, [], ◌∷◌, map, ◌≡◌, ℤ, length}
 use Rattle.refusals.specs.Refusals.{judged}
 use Rattle.refusals.specs.declared.Judged.TheVariants.{Fine}
 use Rattle.clean.specs.Clean.{on_place, cleaned, up_from}

@@ -8,7 +8,7 @@ use borrow.Author.Tests.{ltb-true, lt-ltb}
 use lib.Dec.{T, lit≤, lit<, ltb, leb, eqb, leb→le}
 use lib.Pow.{pow-add, pow_mono, pow_pos}
 use lib.IntN.{ℤ, pos, negsuc}
-use lib.Ieee.{Float, nan, inf, fin, binary64, up, down, size, fits, round, mul, lt, le, eq, below}
+use lib.Ieee.{Float, nan, inf, fin, binary64, up, down, fits, round, mul, lt, le, eq, below}
 use lib.Ieee.Exact.{HasValue}
 use lib.Ieee.Fits.{up_pos, down_pos, and_l, and_r}
 use lib.Ieee.Order.{round_mono}

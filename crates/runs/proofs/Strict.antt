@@ -4,8 +4,7 @@ use native.Mathlib.Nat.{lt_of_not-le}
 use native.Mathlib.Omega.{arith}
 use mathlib.Core.Bool.{Bool, true, false, false≢true}
 use mathlib.Core.List.{List, [], ◌∷◌, ◌++◌}
-use mathlib.Core.Path.{◌≡◌, refl, sym, ap, ◌∙◌}
-use lib.IntN.{ℤ}
+use mathlib.Core.Path.{◌≡◌, sym}
 use lib.ListN.{get_or}
 use Rattle.outline.specs.Segments.{count_of}
 use Rattle.corners.specs.Corners.{corners_of}
@@ -13,7 +12,7 @@ use Rattle.corners.proofs.Reasons.{no_corner_past}
 use Rattle.runs.specs.Runs.{marks_from, corner_list, between, stops_in, stops_of, runs_of, run_at, is_copied, unless_copied, numbered_run}
 use Rattle.runs.specs.Numbered.{RunHasSegments}
 use Rattle.runs.specs.declared.Run.{Run}
-use Rattle.runs.specs.declared.Run.TheVariants.{Between, Nothing}
+use Rattle.runs.specs.declared.Run.TheVariants.{Between}
 
 -- numbers from lo on and below hi, each above the one before it
 data Up : ℕ → ℕ → List ℕ → Type 0 where

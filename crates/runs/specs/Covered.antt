@@ -1,5 +1,5 @@
 -- Which segments of a contour the runs hold, as types; proofs/Covered has a proof of each. Definitions only.
-use Rattle.std.specs.Prelude.{ℕ, zero, suc, ◌+◌, ◌-◌, ◌%◌, ◌<◌, Bool, true, false, List, [], ◌∷◌, ◌++◌, map, ◌≡◌, eqb, ℤ}
+use Rattle.std.specs.Prelude.{ℕ, zero, suc, ◌-◌, ◌%◌, ◌<◌, Bool, true, false, List, [], ◌∷◌, ◌++◌, map, ◌≡◌, eqb, ℤ}
 use Rattle.outline.specs.Segments.{one_more, count_of}
 use Rattle.runs.specs.Runs.{Span, corner_list, runs_of}
 

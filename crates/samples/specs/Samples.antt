@@ -1,5 +1,5 @@
 -- Module 5, the Rust's `Thetas::new`: a place and a unit direction at each whole arc length of a run, up to its length + 2. Definitions only.
-use Rattle.std.specs.Prelude.{ℕ, zero, suc, ◌+◌, ◌-◌, Bool, true, false, List, [], ◌∷◌, ◌++◌, ℤ, length, take, Float}
+use Rattle.std.specs.Prelude.{ℕ, zero, suc, ◌-◌, Bool, true, false, List, [], ◌∷◌, ◌++◌, ℤ, length, take, Float}
 use Rattle.std.specs.Float.{binary64}
 use Rattle.std.specs.Float.Ieee.{add, sub, div, neg, le}
 use Rattle.float.specs.Numbers.{nought, one, two}

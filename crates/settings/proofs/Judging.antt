@@ -6,7 +6,6 @@ use mathlib.Core.Path.{◌≡◌, sym, ap, ◌∙◌}
 use lib.IntN.{ℤ}
 use Rattle.refusals.specs.Refusals.{judged, refuse}
 use Rattle.refusals.specs.declared.Judged.{Judged}
-use Rattle.refusals.specs.declared.Judged.TheVariants as Judged
 use Rattle.settings.specs.Settings.{settings_fine, then_settings, judged_for}
 use Rattle.settings.specs.declared.Settings.{Settings}
 

@@ -1,17 +1,16 @@
 -- A penalty from 1 to 256 sixteenths is exact as a float: one computed test of all of them. Assumes nothing.
-use Prim.Native.Nat.{ℕ, zero, suc, ◌*◌, ◌≤◌, ◌<◌}
+use Prim.Native.Nat.{ℕ, zero, suc, ◌*◌, ◌<◌}
 use mathlib.Core.Bool.{Bool, true, false, not, ◌&&◌}
-use mathlib.Core.Path.{◌≡◌, refl, sym, subst}
+use mathlib.Core.Path.{refl, sym, subst}
 use native.Mathlib.Omega.{arith}
 use borrow.Author.Count.{below_more}
-use borrow.Author.Tests.{leb-true}
 use lib.Dec.{T, eqb, ltb, leb, eqb→eq}
 use lib.IntN.{pos}
 use lib.Ieee.{Float, nan, inf, fin, binary64, up, down, round, size, div, of_int, of_bits}
 use lib.Ieee.Exact.{HasValue}
 use lib.Ieee.Fits.{and_l, and_r}
 use Rattle.float.specs.Numbers.{sixteen}
-use Rattle.settings.specs.Settings.{penalty_of, settings_fine}
+use Rattle.settings.specs.Settings.{penalty_of}
 use Rattle.settings.specs.Statements.{PenaltyIsExact}
 
 -- x is n sixteenths, as a test

@@ -5,7 +5,6 @@ use Rattle.std.specs.Float.Ieee.{of_int, div}
 use Rattle.float.specs.Numbers.{sixteen}
 use Rattle.refusals.specs.Refusals.{judged, refuse}
 use Rattle.refusals.specs.declared.Judged.{Judged}
-use Rattle.refusals.specs.declared.Judged.TheVariants as Judged
 use Rattle.breaks.specs.Breaks.{half_grid, whole_grid}
 use Rattle.breaks.specs.declared.Grid.{Grid}
 use Rattle.settings.specs.declared.Settings.{Settings}

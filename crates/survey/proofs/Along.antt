@@ -6,10 +6,10 @@ use mathlib.Core.Path.{◌≡◌, refl, sym, ap, ◌∙◌, subst}
 use native.Mathlib.Nat.{mul_assoc, mul_comm, mul_left_comm, mul-pos, mul-le-mul, mul-le-mul_right, zero-lt-suc}
 use native.Mathlib.Omega.{arith}
 use borrow.Author.Tests.{ne_eqb}
-use lib.Dec.{T, leb, lit≤}
+use lib.Dec.{T, leb}
 use lib.IntN.{ℤ, pos}
 use lib.ListN.{length, get_or, set}
-use lib.Ieee.{Float, nan, inf, fin, binary64, up, down, round, add, mul, div, lt, le, of_int, to_unsigned}
+use lib.Ieee.{Float, nan, inf, fin, binary64, up, down, add, mul, div, lt, le, of_int, to_unsigned}
 use lib.Ieee.Exact.{HasValue}
 use lib.Ieee.Fits.{up_pos, down_pos}
 use lib.Ieee.Casts.{to_unsigned-lt}
@@ -17,7 +17,6 @@ use lib.Ieee.Order.{round_mono}
 use Rattle.float.specs.Numbers.{nought, two}
 use Rattle.float.proofs.Nearly.{at_most}
 use Rattle.float.proofs.NotNegative.{NotNegative, number, mul_plus, div_plus, rounded_plus}
-use Rattle.float.proofs.NotNegative as NotNegative
 use Rattle.geometry.specs.declared.Break.{Break}
 use Rattle.geometry.specs.declared.Quad.{Quad}
 use Rattle.outline.specs.Segments.{start_of}
@@ -31,12 +30,12 @@ use Rattle.lookup.specs.Lookup as Lookup
 use Rattle.lookup.specs.Lookup.{Found, found, xy_at, dir_at}
 use Rattle.samples.specs.Samples.{Sample, Run, thetas_of, quads_of, length_all, finished, filled, last_step, last_of, nowhere, sweep_all, begun, run_of}
 use Rattle.samples.specs.Samples as Samples
-use Rattle.survey.specs.Survey.{Survey, surveyed, sample_room, break_room, searched, after_sampling, survey_of}
+use Rattle.survey.specs.Survey.{surveyed, sample_room, break_room, searched, after_sampling, survey_of}
 use Rattle.survey.specs.Never.{Sixteen}
 use Rattle.survey.specs.Along.{LengthsRise}
 use Rattle.survey.proofs.Bounded.{Within, mul_within}
 use Rattle.survey.proofs.Inside.{int_value, int_within}
-use Rattle.survey.proofs.Reach.{Reached, run_reaches}
+use Rattle.survey.proofs.Reach.{run_reaches}
 use Rattle.survey.proofs.Speeds.{Size, endless, length_size}
 use Rattle.survey.proofs.Speeds as Speeds
 

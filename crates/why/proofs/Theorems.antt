@@ -16,7 +16,6 @@ use Rattle.float.proofs.Zeros.{IsZero}
 use Rattle.refusals.specs.Refusals.{judged}
 use Rattle.refusals.specs.Accepted.{accepted}
 use Rattle.refusals.specs.declared.Judged.{Judged}
-use Rattle.refusals.specs.declared.Judged.TheVariants as Judged
 use Rattle.rows.specs.Sixteen.{SixteenBits}
 use Rattle.geometry.specs.declared.Point.{Point}
 use Rattle.outline.specs.Segments.{coordinate, count_of, start_of, previous}

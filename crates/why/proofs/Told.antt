@@ -9,7 +9,6 @@ use lib.IntN.{ℤ}
 use Rattle.geometry.specs.declared.Point.{Point}
 use Rattle.refusals.specs.Refusals.{judged}
 use Rattle.refusals.specs.declared.Judged.{Judged}
-use Rattle.refusals.specs.declared.Judged.TheVariants as Judged
 use Rattle.rows.specs.Lent.{Inputs, inputs}
 use Rattle.outline.specs.declared.Seg.{Seg}
 use Rattle.outline.specs.Segments.{count_of, start_of, seg_from, seg_at, chord_of, leaving_of, arriving_of, origin, previous}

@@ -2,7 +2,6 @@
 use Rattle.std.specs.Prelude.{ℕ, Bool, true, false, ◌≡◌, ltb}
 use Rattle.refusals.specs.Refusals.{judged}
 use Rattle.refusals.specs.declared.Judged.{Judged}
-use Rattle.refusals.specs.declared.Judged.TheVariants as Judged
 use Rattle.rows.specs.Lent.{Inputs, inputs}
 use Rattle.outline.specs.Segments.{count_of}
 use Rattle.why.specs.Tests.{reasons_of}

@@ -1,10 +1,6 @@
-use Prim.Native.Nat.{◌-◌, ◌≤◌}
-use mathlib.Core.List.{[], ◌∷◌}
-use mathlib.Core.Path.{◌≡◌, refl, ◌∙◌}
+use mathlib.Core.Path.{refl, ◌∙◌}
 use native.Mathlib.Omega.{arith}
-use Rattle.float.specs.Numbers.{nought}
-use Rattle.arclen.specs.Rk4.{walk}
-use Rattle.arclen.specs.Arclen.{tenth, length_rates, arclen_of}
+use Rattle.arclen.specs.Arclen.{arclen_of}
 use Rattle.arclen.proofs.Laws.{goes, done}
 use Rattle.arclen.proofs.arclen.Goals as goal
 

@@ -2,12 +2,10 @@
 -- The measure is the steps left. Assumes nothing.
 use Prim.Native.Nat.{◌-◌, ◌≤◌}
 use mathlib.Core.List.{[], ◌∷◌}
-use mathlib.Core.Path.{◌≡◌, refl, ◌∙◌}
-use native.Mathlib.Omega.{arith}
+use mathlib.Core.Path.{◌≡◌}
 use Rattle.float.specs.Numbers.{nought}
 use Rattle.arclen.specs.Rk4.{walk}
-use Rattle.arclen.specs.Arclen.{tenth, length_rates, arclen_of}
-use Rattle.arclen.proofs.Laws.{goes, done}
+use Rattle.arclen.specs.Arclen.{tenth, length_rates}
 use Rattle.arclen.proofs.arclen.Given as goal
 
 abbrev pub invariant-loop-i : goal.invariant-loop-i

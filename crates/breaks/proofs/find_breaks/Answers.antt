@@ -1,11 +1,11 @@
-use Prim.Native.Nat.{ℕ, suc, ◌-◌, ◌^◌, ◌≤◌}
+use Prim.Native.Nat.{ℕ, ◌-◌, ◌^◌, ◌≤◌}
 use native.Mathlib.Omega.{arith}
 use mathlib.Core.Path.{refl, ◌∙◌}
 use lib.Dec.{T, le→leb}
 use lib.IntN.{pos}
 use lib.Ieee.{binary64, in_float}
 use Rattle.breaks.specs.Breaks.{full, last, past}
-use Rattle.breaks.proofs.Laws.{capped, Seeking, seek, seeks, seeks_no_more, sought}
+use Rattle.breaks.proofs.Laws.{capped, seek, seeks, seeks_no_more, sought}
 use Rattle.breaks.proofs.find_breaks.Goals as goal
 use Rattle.breaks.proofs.find_breaks.Goals.{At-loop-i}
 

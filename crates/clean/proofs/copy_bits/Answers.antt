@@ -1,9 +1,7 @@
-use Prim.Native.Nat.{◌-◌}
 use mathlib.Core.Path.{◌∙◌}
 use native.Mathlib.Omega.{arith}
-use mathlib.Core.List.{[], map}
-use lib.ListN.{take}
-use Rattle.rows.proofs.Filled.{Filled, start}
+use mathlib.Core.List.{[]}
+use Rattle.rows.proofs.Filled.{start}
 use Rattle.contour.proofs.Copying.{copy_more, copy_all}
 use Rattle.clean.specs.Entry.{spot_bit}
 use Rattle.clean.proofs.copy_bits.Goals as goal

@@ -1,11 +1,8 @@
 -- `clean::copy_bits` meets its contract. Assumes nothing.
 use Prim.Native.Nat.{◌-◌}
-use mathlib.Core.Path.{◌∙◌}
-use native.Mathlib.Omega.{arith}
-use mathlib.Core.List.{[], map}
+use mathlib.Core.List.{map}
 use lib.ListN.{take}
-use Rattle.rows.proofs.Filled.{Filled, start}
-use Rattle.contour.proofs.Copying.{copy_more, copy_all}
+use Rattle.rows.proofs.Filled.{Filled}
 use Rattle.clean.specs.Entry.{spot_bit}
 use Rattle.clean.proofs.copy_bits.Given as goal
 

@@ -1,11 +1,8 @@
-use Prim.Native.Nat.{◌-◌}
 use mathlib.Core.Path.{◌∙◌}
 use native.Mathlib.Omega.{arith}
 use borrow.Author.Rules.{sfits_of}
 use mir.Facts.{to_z-of_z}
-use mathlib.Core.List.{map}
-use lib.ListN.{take}
-use Rattle.rows.proofs.Filled.{Filled, start}
+use Rattle.rows.proofs.Filled.{start}
 use Rattle.contour.proofs.Copying.{copy_more, copy_all}
 use Rattle.clean.specs.Entry.{coordinate_in}
 use Rattle.clean.proofs.copy_coordinates.Goals as goal

@@ -1,9 +1,7 @@
-use Prim.Native.Nat.{ℕ, ◌-◌, ◌%◌}
+use Prim.Native.Nat.{ℕ, ◌%◌}
 use mathlib.Core.Path.{ap}
 use native.Mathlib.Omega.{arith}
-use mathlib.Core.List.{map}
-use lib.ListN.{take}
-use Rattle.rows.proofs.Filled.{Filled, start}
+use Rattle.rows.proofs.Filled.{start}
 use Rattle.contour.proofs.Copying.{copy_more, copy_all}
 use Rattle.clean.specs.Entry.{bit_in}
 use Rattle.clean.proofs.copy_flags.Goals as goal

@@ -1,11 +1,8 @@
 -- `clean::copy_flags` meets its contract. Assumes nothing.
-use Prim.Native.Nat.{ℕ, ◌-◌, ◌%◌}
-use mathlib.Core.Path.{ap}
-use native.Mathlib.Omega.{arith}
+use Prim.Native.Nat.{◌-◌}
 use mathlib.Core.List.{map}
 use lib.ListN.{take}
-use Rattle.rows.proofs.Filled.{Filled, start}
-use Rattle.contour.proofs.Copying.{copy_more, copy_all}
+use Rattle.rows.proofs.Filled.{Filled}
 use Rattle.clean.specs.Entry.{bit_in}
 use Rattle.clean.proofs.copy_flags.Given as goal
 

@@ -1,7 +1,5 @@
-use Prim.Native.Nat.{◌-◌}
 use native.Mathlib.Omega.{arith}
-use lib.ListN.{take}
-use Rattle.rows.proofs.Filled.{Filled, start}
+use Rattle.rows.proofs.Filled.{start}
 use Rattle.clean.proofs.Writing.{list_more, list_all}
 use Rattle.clean.proofs.copy_list.Goals as goal
 

@@ -1,9 +1,7 @@
 -- `clean::copy_list` meets its contract. Assumes nothing.
 use Prim.Native.Nat.{◌-◌}
-use native.Mathlib.Omega.{arith}
 use lib.ListN.{take}
-use Rattle.rows.proofs.Filled.{Filled, start}
-use Rattle.clean.proofs.Writing.{list_more, list_all}
+use Rattle.rows.proofs.Filled.{Filled}
 use Rattle.clean.proofs.copy_list.Given as goal
 
 abbrev pub invariant-loop-i : goal.invariant-loop-i

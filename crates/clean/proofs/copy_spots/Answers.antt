@@ -1,11 +1,9 @@
-use Prim.Native.Nat.{◌-◌}
 use mathlib.Core.Path.{ap, ◌∙◌}
 use native.Mathlib.Omega.{arith}
 use borrow.Author.Rules.{sfits_of}
 use mir.Facts.{to_z-of_z}
-use mathlib.Core.List.{[], map}
-use lib.ListN.{take}
-use Rattle.rows.proofs.Filled.{Filled, start}
+use mathlib.Core.List.{[]}
+use Rattle.rows.proofs.Filled.{start}
 use Rattle.contour.proofs.Copying.{copy_more, copy_all}
 use Rattle.clean.specs.Entry.{coordinate_in, spot_x}
 use Rattle.clean.proofs.copy_spots.Goals as goal

@@ -1,14 +1,9 @@
 -- `clean::copy_spots` meets its contract. Assumes nothing.
 use Prim.Native.Nat.{◌-◌}
-use mathlib.Core.Path.{ap, ◌∙◌}
-use native.Mathlib.Omega.{arith}
-use borrow.Author.Rules.{sfits_of}
-use mir.Facts.{to_z-of_z}
-use mathlib.Core.List.{[], map}
+use mathlib.Core.List.{map}
 use lib.ListN.{take}
-use Rattle.rows.proofs.Filled.{Filled, start}
-use Rattle.contour.proofs.Copying.{copy_more, copy_all}
-use Rattle.clean.specs.Entry.{coordinate_in, spot_x}
+use Rattle.rows.proofs.Filled.{Filled}
+use Rattle.clean.specs.Entry.{spot_x}
 use Rattle.clean.proofs.copy_spots.Given as goal
 
 abbrev pub invariant-loop-i : goal.invariant-loop-i

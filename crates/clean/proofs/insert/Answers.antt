@@ -1,8 +1,7 @@
-use Prim.Native.Nat.{◌≤◌}
 use mathlib.Core.Path.{◌∙◌}
 use native.Mathlib.Omega.{arith}
 use lib.ListN.{length-set}
-use Rattle.clean.proofs.Inserting.{Moving, begin, more, inside, moved}
+use Rattle.clean.proofs.Inserting.{begin, more, inside, moved}
 use Rattle.clean.proofs.insert.Goals as goal
 
 pub offset_bounds-spots-n : goal.offset_bounds-spots-n

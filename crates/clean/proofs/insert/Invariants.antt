@@ -1,9 +1,6 @@
 -- `clean::insert` meets its contract, by the laws of proofs/Inserting.antt. Assumes nothing.
 use Prim.Native.Nat.{◌≤◌}
-use mathlib.Core.Path.{◌∙◌}
-use native.Mathlib.Omega.{arith}
-use lib.ListN.{length-set}
-use Rattle.clean.proofs.Inserting.{Moving, begin, more, inside, moved}
+use Rattle.clean.proofs.Inserting.{Moving}
 use Rattle.clean.proofs.insert.Given as goal
 
 abbrev pub invariant-loop-i : goal.invariant-loop-i

@@ -1,9 +1,8 @@
-use Prim.Native.Nat.{◌-◌}
 use native.Mathlib.Omega.{arith}
 use mathlib.Core.Path.{◌∙◌}
 use lib.ListN.{length, length-set}
 use Rattle.clean.specs.Clean.{on_place, same_place}
-use Rattle.clean.proofs.Passing.{Passing, start, still_roomy, kept_room, gone_room, more, end}
+use Rattle.clean.proofs.Passing.{start, still_roomy, kept_room, gone_room, more, end}
 use Rattle.clean.proofs.pass.Goals as goal
 
 pub bounds-kept-0 : goal.bounds-kept-0

@@ -1,10 +1,8 @@
 -- `clean::pass` meets its contract, by the laws of proofs/Passing.antt. Assumes nothing.
 use Prim.Native.Nat.{◌-◌}
-use native.Mathlib.Omega.{arith}
-use mathlib.Core.Path.{◌∙◌}
-use lib.ListN.{length, length-set}
+use lib.ListN.{length}
 use Rattle.clean.specs.Clean.{on_place, same_place}
-use Rattle.clean.proofs.Passing.{Passing, start, still_roomy, kept_room, gone_room, more, end}
+use Rattle.clean.proofs.Passing.{Passing}
 use Rattle.clean.proofs.pass.Given as goal
 
 abbrev pub invariant-loop-i : goal.invariant-loop-i

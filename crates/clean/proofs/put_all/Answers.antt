@@ -1,6 +1,6 @@
 use mathlib.Core.Path.{◌∙◌}
 use native.Mathlib.Omega.{arith}
-use Rattle.clean.proofs.Restoring.{Restoring, begin, more_back, ended}
+use Rattle.clean.proofs.Restoring.{begin, more_back, ended}
 use Rattle.clean.proofs.put_all.Goals as goal
 
 pub loop-j-init : goal.loop-j-init

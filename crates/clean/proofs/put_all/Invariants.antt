@@ -1,7 +1,5 @@
 -- `clean::put_all` meets its contract. Assumes nothing.
-use mathlib.Core.Path.{◌∙◌}
-use native.Mathlib.Omega.{arith}
-use Rattle.clean.proofs.Restoring.{Restoring, begin, more_back, ended}
+use Rattle.clean.proofs.Restoring.{Restoring}
 use Rattle.clean.proofs.put_all.Given as goal
 
 abbrev pub invariant-loop-j : goal.invariant-loop-j

@@ -1,9 +1,6 @@
-use Prim.Native.Nat.{◌-◌}
-use mathlib.Core.List.{map}
 use mathlib.Core.Path.{refl}
 use native.Mathlib.Omega.{arith}
-use Rattle.rows.proofs.Filled.{Filled, start}
-use Rattle.clean.specs.Clean.{up_from}
+use Rattle.rows.proofs.Filled.{start}
 use Rattle.clean.specs.PutBack.{kept_spot}
 use Rattle.clean.proofs.Restoring.{number_more, number_all}
 use Rattle.clean.proofs.put_kept.Goals as goal

@@ -1,12 +1,9 @@
 -- `clean::put_kept` meets its contract. Assumes nothing.
 use Prim.Native.Nat.{◌-◌}
 use mathlib.Core.List.{map}
-use mathlib.Core.Path.{refl}
-use native.Mathlib.Omega.{arith}
-use Rattle.rows.proofs.Filled.{Filled, start}
+use Rattle.rows.proofs.Filled.{Filled}
 use Rattle.clean.specs.Clean.{up_from}
 use Rattle.clean.specs.PutBack.{kept_spot}
-use Rattle.clean.proofs.Restoring.{number_more, number_all}
 use Rattle.clean.proofs.put_kept.Given as goal
 
 abbrev pub invariant-loop-i : goal.invariant-loop-i

@@ -1,9 +1,8 @@
-use Prim.Native.Nat.{◌-◌}
 use native.Mathlib.Omega.{arith}
 use borrow.Author.Rules.{rules}
 use mathlib.Core.Bool.{false}
-use lib.ListN.{length, replicate, length-set}
-use Rattle.rows.proofs.Filled.{Filled, blank_start, blank_more, blank_all}
+use lib.ListN.{length-set}
+use Rattle.rows.proofs.Filled.{blank_start, blank_more, blank_all}
 use Rattle.corners.proofs.clear.Goals as goal
 
 pub loop-i-init : goal.loop-i-init

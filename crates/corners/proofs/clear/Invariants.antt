@@ -1,10 +1,8 @@
 -- `corners::clear` meets its contract. The loop's invariant is `Filled`. Assumes nothing.
 use Prim.Native.Nat.{◌-◌}
-use native.Mathlib.Omega.{arith}
-use borrow.Author.Rules.{rules}
 use mathlib.Core.Bool.{false}
-use lib.ListN.{length, replicate, length-set}
-use Rattle.rows.proofs.Filled.{Filled, blank_start, blank_more, blank_all}
+use lib.ListN.{length, replicate}
+use Rattle.rows.proofs.Filled.{Filled}
 use Rattle.corners.proofs.clear.Given as goal
 
 abbrev pub invariant-loop-i : goal.invariant-loop-i

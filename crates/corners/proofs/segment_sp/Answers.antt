@@ -23,7 +23,10 @@ shape_of-marks c = search rules
 
 pub returns : goal.returns
 returns c =
-    record { marks = corners_are _ _ _ _ c.count-m.ensures c.clear.ensures
+    record {
+      marks = corners_are _ _ _ _ c.count-m.ensures c.clear.ensures
           (c.sign_round-s.ensures.marks, c.sign_round-s.ensures.state)
           c.sign_round.ensures.marks
-          c.tangent_round.ensures; count = c.count-m.ensures }
+          c.tangent_round.ensures;
+      count = c.count-m.ensures;
+    }

@@ -1,6 +1,5 @@
-use Prim.Native.Nat.{◌-◌}
 use native.Mathlib.Omega.{arith}
-use Rattle.corners.proofs.Rounds.{Signs, signs_start, signs_more, signs_all}
+use Rattle.corners.proofs.Rounds.{signs_start, signs_more, signs_all}
 use Rattle.corners.proofs.sign_round.Goals as goal
 
 pub loop-k-init : goal.loop-k-init

@@ -1,7 +1,6 @@
 -- `corners::sign_round` meets its contract. The loop's invariant is `Signs`. Assumes nothing.
 use Prim.Native.Nat.{◌-◌}
-use native.Mathlib.Omega.{arith}
-use Rattle.corners.proofs.Rounds.{Signs, signs_start, signs_more, signs_all}
+use Rattle.corners.proofs.Rounds.{Signs}
 use Rattle.corners.proofs.sign_round.Given as goal
 
 abbrev pub invariant-loop-k : goal.invariant-loop-k

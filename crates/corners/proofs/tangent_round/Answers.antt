@@ -1,8 +1,7 @@
-use Prim.Native.Nat.{◌-◌}
 use mathlib.Core.Path.{◌∙◌, ap}
 use native.Mathlib.Omega.{arith}
 use Rattle.corners.specs.Corners.{tangent_corner}
-use Rattle.corners.proofs.Rounds.{Tangents, tangents_start, tangents_more, tangents_all}
+use Rattle.corners.proofs.Rounds.{tangents_start, tangents_more, tangents_all}
 use Rattle.corners.proofs.tangent_round.Goals as goal
 
 pub last_arriving-before-requires : goal.last_arriving-before-requires

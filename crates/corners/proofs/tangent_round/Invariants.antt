@@ -1,9 +1,6 @@
 -- `corners::tangent_round` meets its contract. The loop's invariant is `Tangents`. Assumes nothing.
 use Prim.Native.Nat.{◌-◌}
-use mathlib.Core.Path.{◌∙◌, ap}
-use native.Mathlib.Omega.{arith}
-use Rattle.corners.specs.Corners.{tangent_corner}
-use Rattle.corners.proofs.Rounds.{Tangents, tangents_start, tangents_more, tangents_all}
+use Rattle.corners.proofs.Rounds.{Tangents}
 use Rattle.corners.proofs.tangent_round.Given as goal
 
 abbrev pub invariant-loop-k : goal.invariant-loop-k

@@ -1,10 +1,8 @@
-use Prim.Native.Nat.{◌-◌, ◌≤◌}
-use mathlib.Core.Path.{◌≡◌, refl, sym, ◌∙◌}
+use mathlib.Core.Path.{refl, sym, ◌∙◌}
 use native.Mathlib.Omega.{arith}
 use borrow.Author.Rules.{rules}
-use lib.ListN.{length, get_or, drop}
+use lib.ListN.{get_or}
 use Rattle.refusals.specs.Refusals.{is_on}
-use Rattle.cubics.specs.Refusing.{unpaired_from, off_pairs}
 use Rattle.cubics.proofs.Making.{pairs_end, pairs_on, pairs_over, off_most}
 use Rattle.cubics.proofs.off_pairs.Goals as goal
 

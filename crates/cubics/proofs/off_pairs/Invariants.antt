@@ -1,12 +1,8 @@
 -- `cubics::off_pairs` meets its contract. The invariant: what is left of the row, after n off-curve points, decides. Assumes nothing.
 use Prim.Native.Nat.{◌-◌, ◌≤◌}
-use mathlib.Core.Path.{◌≡◌, refl, sym, ◌∙◌}
-use native.Mathlib.Omega.{arith}
-use borrow.Author.Rules.{rules}
-use lib.ListN.{length, get_or, drop}
-use Rattle.refusals.specs.Refusals.{is_on}
+use mathlib.Core.Path.{◌≡◌}
+use lib.ListN.{length, drop}
 use Rattle.cubics.specs.Refusing.{unpaired_from, off_pairs}
-use Rattle.cubics.proofs.Making.{pairs_end, pairs_on, pairs_over, off_most}
 use Rattle.cubics.proofs.off_pairs.Given as goal
 
 abbrev pub invariant-loop-i : goal.invariant-loop-i

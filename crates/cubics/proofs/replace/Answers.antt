@@ -1,10 +1,8 @@
-use Prim.Native.Nat.{◌-◌, ◌≤◌}
 use mathlib.Core.Path.{◌≡◌, refl, ◌∙◌}
 use native.Mathlib.Omega.{arith}
 use borrow.Author.Rules.{rules}
 use lib.ListN.{length}
-use Rattle.cubics.specs.Replacing.{points_to}
-use Rattle.cubics.specs.Making.{nothing, Makes}
+use Rattle.cubics.specs.Making.{nothing}
 use Rattle.cubics.proofs.Making.{makes_none, makes_more, made_from, points_none, points_next}
 use Rattle.cubics.proofs.replace.Goals as goal
 

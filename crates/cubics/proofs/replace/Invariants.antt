@@ -1,12 +1,9 @@
 -- `cubics::replace` meets its contract. Assumes nothing.
 use Prim.Native.Nat.{◌-◌, ◌≤◌}
-use mathlib.Core.Path.{◌≡◌, refl, ◌∙◌}
-use native.Mathlib.Omega.{arith}
-use borrow.Author.Rules.{rules}
+use mathlib.Core.Path.{◌≡◌}
 use lib.ListN.{length}
 use Rattle.cubics.specs.Replacing.{points_to}
 use Rattle.cubics.specs.Making.{nothing, Makes}
-use Rattle.cubics.proofs.Making.{makes_none, makes_more, made_from, points_none, points_next}
 use Rattle.cubics.proofs.replace.Given as goal
 
 abbrev pub invariant-loop-i : goal.invariant-loop-i

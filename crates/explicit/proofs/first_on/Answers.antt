@@ -1,8 +1,4 @@
-use Prim.Native.Nat.{◌+◌, ◌-◌, ◌≤◌}
-use mathlib.Core.Path.{◌≡◌}
 use native.Mathlib.Omega.{arith}
-use lib.ListN.{length, drop}
-use Rattle.explicit.specs.Explicit.{first_on}
 use Rattle.explicit.proofs.Turning.{found, passed, none_found}
 use Rattle.explicit.proofs.first_on.Goals as goal
 

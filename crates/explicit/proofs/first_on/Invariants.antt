@@ -1,10 +1,8 @@
 -- `explicit::first_on` meets its contract. The loop's invariant: no place before i is on-curve. Assumes nothing.
 use Prim.Native.Nat.{◌+◌, ◌-◌, ◌≤◌}
 use mathlib.Core.Path.{◌≡◌}
-use native.Mathlib.Omega.{arith}
 use lib.ListN.{length, drop}
 use Rattle.explicit.specs.Explicit.{first_on}
-use Rattle.explicit.proofs.Turning.{found, passed, none_found}
 use Rattle.explicit.proofs.first_on.Given as goal
 
 abbrev pub invariant-loop-i : goal.invariant-loop-i

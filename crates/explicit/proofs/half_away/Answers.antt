@@ -1,6 +1,5 @@
 -- `explicit::half_away` meets its contract. Assumes nothing.
-use native.Mathlib.Omega.{arith}
-use Rattle.explicit.proofs.Half.{below, above, step_fits, half_fits, cut_fits, half_cut}
+use Rattle.explicit.proofs.Half.{below, above, step_fits, cut_fits, half_cut}
 use Rattle.explicit.proofs.half_away.Goals as goal
 
 pub overflow_sub-result : goal.overflow_sub-result

@@ -1,10 +1,6 @@
-use Prim.Native.Nat.{◌-◌}
 use mathlib.Core.Path.{refl, sym, ◌∙◌}
 use native.Mathlib.Omega.{arith}
-use lib.ListN.{length}
-use Rattle.rows.specs.Lent.{inputs}
-use Rattle.explicit.specs.Explicit.{points_of, turned}
-use Rattle.explicit.proofs.Turning.{turned_at, length_turned, Putting, put_start, put_more, put_end}
+use Rattle.explicit.proofs.Turning.{turned_at, length_turned, put_start, put_more, put_end}
 use Rattle.explicit.proofs.put_all.Goals as goal
 
 pub nothing-w-requires : goal.nothing-w-requires

@@ -1,6 +1,5 @@
-use Prim.Native.Nat.{◌-◌}
 use native.Mathlib.Omega.{arith}
-use Rattle.idle.proofs.Restoring.{Putting, start, low, more, all}
+use Rattle.idle.proofs.Restoring.{start, low, more, all}
 use Rattle.idle.proofs.put_all.Goals as goal
 
 pub loop-p-init : goal.loop-p-init

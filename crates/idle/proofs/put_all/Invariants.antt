@@ -1,7 +1,6 @@
 -- `idle::put_all` meets its contract. Assumes nothing.
 use Prim.Native.Nat.{◌-◌}
-use native.Mathlib.Omega.{arith}
-use Rattle.idle.proofs.Restoring.{Putting, start, low, more, all}
+use Rattle.idle.proofs.Restoring.{Putting}
 use Rattle.idle.proofs.put_all.Given as goal
 
 abbrev pub invariant-loop-p : goal.invariant-loop-p

@@ -1,8 +1,7 @@
-use Prim.Native.Nat.{◌-◌}
 use native.Mathlib.Omega.{arith}
 use lib.ListN.{length}
 use Rattle.idle.specs.Idle.{beside_of}
-use Rattle.idle.proofs.Sifting.{Sifting, start, kept_room, gone_room, more, end}
+use Rattle.idle.proofs.Sifting.{start, kept_room, gone_room, more, end}
 use Rattle.idle.proofs.sift.Goals as goal
 
 pub loop-i-init : goal.loop-i-init

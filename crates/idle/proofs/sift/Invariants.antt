@@ -1,9 +1,8 @@
 -- `idle::sift` meets its contract. Assumes nothing.
 use Prim.Native.Nat.{◌-◌}
-use native.Mathlib.Omega.{arith}
 use lib.ListN.{length}
 use Rattle.idle.specs.Idle.{beside_of}
-use Rattle.idle.proofs.Sifting.{Sifting, start, kept_room, gone_room, more, end}
+use Rattle.idle.proofs.Sifting.{Sifting}
 use Rattle.idle.proofs.sift.Given as goal
 
 abbrev pub invariant-loop-i : goal.invariant-loop-i

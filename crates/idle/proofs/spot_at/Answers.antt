@@ -3,10 +3,9 @@ use borrow.Author.Rules.{rules}
 use native.Mathlib.Omega.{arith}
 use Prim.Native.Nat.{◌-◌}
 use mathlib.Core.List.{[]}
-use mathlib.Core.Path.{sym, ◌∙◌}
 use lib.ListN.{get_or}
 use Rattle.clean.specs.PutBack.{why_of}
-use Rattle.idle.proofs.Restoring.{back_there, beside_few}
+use Rattle.idle.proofs.Restoring.{beside_few}
 use Rattle.idle.proofs.spot_at.Goals as goal
 
 pub is_back-requires : goal.is_back-requires

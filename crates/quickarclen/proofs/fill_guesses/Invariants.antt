@@ -1,8 +1,7 @@
 -- `quickarclen::fill_guesses` meets its contract: its row keeps its length. Assumes nothing.
 use Prim.Native.Nat.{◌-◌}
 use mathlib.Core.Path.{◌≡◌}
-use native.Mathlib.Omega.{arith}
-use lib.ListN.{length, length-set}
+use lib.ListN.{length}
 use Rattle.quickarclen.proofs.fill_guesses.Given as goal
 
 abbrev pub invariant-loop-k : goal.invariant-loop-k

@@ -1,9 +1,6 @@
-use Prim.Native.Nat.{◌-◌}
 use mathlib.Core.Path.{◌≡◌}
 use native.Mathlib.Omega.{arith}
-use lib.ListN.{length, get_or}
-use lib.Ieee.{nan}
-use Rattle.quickarclen.proofs.Filling.{Rooting, no_roots, one_root}
+use Rattle.quickarclen.proofs.Filling.{no_roots, one_root}
 use Rattle.quickarclen.proofs.fill_roots.Goals as goal
 
 pub loop-k-init : goal.loop-k-init

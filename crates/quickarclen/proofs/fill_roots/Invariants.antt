@@ -1,10 +1,9 @@
 -- `quickarclen::fill_roots` meets its contract. The invariant is `Rooting`. Assumes nothing.
 use Prim.Native.Nat.{◌-◌}
 use mathlib.Core.Path.{◌≡◌}
-use native.Mathlib.Omega.{arith}
 use lib.ListN.{length, get_or}
 use lib.Ieee.{nan}
-use Rattle.quickarclen.proofs.Filling.{Rooting, no_roots, one_root}
+use Rattle.quickarclen.proofs.Filling.{Rooting}
 use Rattle.quickarclen.proofs.fill_roots.Given as goal
 
 abbrev pub invariant-loop-k : goal.invariant-loop-k

@@ -1,8 +1,7 @@
-use Prim.Native.Nat.{◌*◌, ◌≤◌, ◌-◌}
 use mathlib.Core.Path.{◌≡◌, refl}
 use native.Mathlib.Numerals.{add-one}
 use native.Mathlib.Omega.{arith}
-use Rattle.quickarclen.specs.Stages.{time_from, Squares}
+use Rattle.quickarclen.specs.Stages.{time_from}
 use Rattle.quickarclen.proofs.Filling.{time_next, no_squares, two_more}
 use Rattle.quickarclen.proofs.fill_squares.Goals as goal
 

@@ -1,10 +1,7 @@
 -- `quickarclen::fill_squares` meets its contract. Assumes nothing.
 use Prim.Native.Nat.{◌*◌, ◌≤◌, ◌-◌}
-use mathlib.Core.Path.{◌≡◌, refl}
-use native.Mathlib.Numerals.{add-one}
-use native.Mathlib.Omega.{arith}
+use mathlib.Core.Path.{◌≡◌}
 use Rattle.quickarclen.specs.Stages.{time_from, Squares}
-use Rattle.quickarclen.proofs.Filling.{time_next, no_squares, two_more}
 use Rattle.quickarclen.proofs.fill_squares.Given as goal
 
 abbrev pub invariant-loop-i : goal.invariant-loop-i

@@ -1,10 +1,7 @@
 -- `quickarclen::later` meets its contract. Assumes nothing.
 use Prim.Native.Nat.{◌-◌, ◌≤◌}
-use mathlib.Core.Path.{◌≡◌, refl}
-use native.Mathlib.Numerals.{add-one}
-use native.Mathlib.Omega.{arith}
+use mathlib.Core.Path.{◌≡◌}
 use Rattle.quickarclen.specs.Stages.{time_from}
-use Rattle.quickarclen.proofs.Filling.{time_next}
 use Rattle.quickarclen.proofs.later.Given as goal
 
 abbrev pub invariant-loop-i : goal.invariant-loop-i

@@ -1,8 +1,5 @@
-use Prim.Native.Nat.{◌-◌, ◌≤◌}
-use mathlib.Core.Path.{◌≡◌, refl}
+use mathlib.Core.Path.{◌≡◌}
 use native.Mathlib.Omega.{arith}
-use lib.ListN.{length}
-use Rattle.quickarclen.specs.Stages.{Lengths}
 use Rattle.quickarclen.proofs.Filling.{no_lengths, one_length}
 use Rattle.quickarclen.proofs.lengths.Goals as goal
 

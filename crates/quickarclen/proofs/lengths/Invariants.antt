@@ -1,10 +1,8 @@
 -- `quickarclen::lengths` meets its contract. The invariant is `Lengths`. Assumes nothing.
 use Prim.Native.Nat.{◌-◌, ◌≤◌}
-use mathlib.Core.Path.{◌≡◌, refl}
-use native.Mathlib.Omega.{arith}
+use mathlib.Core.Path.{◌≡◌}
 use lib.ListN.{length}
 use Rattle.quickarclen.specs.Stages.{Lengths}
-use Rattle.quickarclen.proofs.Filling.{no_lengths, one_length}
 use Rattle.quickarclen.proofs.lengths.Given as goal
 
 abbrev pub invariant-loop-i : goal.invariant-loop-i

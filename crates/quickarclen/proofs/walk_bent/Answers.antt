@@ -1,13 +1,8 @@
-use Prim.Native.Nat.{◌≤◌, ◌-◌}
-use mathlib.Core.Path.{◌≡◌, ap, ◌∙◌}
+use mathlib.Core.Path.{ap, ◌∙◌}
 use native.Mathlib.Omega.{arith}
 use lib.ListN.{length}
-use Rattle.float.specs.Numbers.{nought}
-use Rattle.arclen.specs.Arclen.{tenth}
-use Rattle.quickarclen.specs.Stages.{Ready}
-use Rattle.arclen.specs.declared.ArclenFunctor.{ArclenFunctor}
 use Rattle.quickarclen.proofs.Filling.{speed_first, speed_middle, speed_last, ready_next}
-use Rattle.quickarclen.proofs.Walking.{Walking, as_long, none, more, all}
+use Rattle.quickarclen.proofs.Walking.{as_long, none, more, all}
 use Rattle.quickarclen.proofs.walk_bent.Goals as goal
 
 pub speeds-v-requires : goal.speeds-v-requires

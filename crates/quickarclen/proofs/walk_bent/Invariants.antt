@@ -1,14 +1,12 @@
 -- `quickarclen::walk_bent` meets its contract. The invariant is `Walking`, for whichever quad has the speeds. Assumes nothing.
 use Prim.Native.Nat.{◌≤◌, ◌-◌}
-use mathlib.Core.Path.{◌≡◌, ap, ◌∙◌}
-use native.Mathlib.Omega.{arith}
+use mathlib.Core.Path.{◌≡◌}
 use lib.ListN.{length}
 use Rattle.float.specs.Numbers.{nought}
 use Rattle.arclen.specs.Arclen.{tenth}
 use Rattle.quickarclen.specs.Stages.{Ready}
 use Rattle.arclen.specs.declared.ArclenFunctor.{ArclenFunctor}
-use Rattle.quickarclen.proofs.Filling.{speed_first, speed_middle, speed_last, ready_next}
-use Rattle.quickarclen.proofs.Walking.{Walking, as_long, none, more, all}
+use Rattle.quickarclen.proofs.Walking.{Walking}
 use Rattle.quickarclen.proofs.walk_bent.Given as goal
 
 abbrev pub invariant-loop-i : goal.invariant-loop-i

@@ -1,15 +1,8 @@
-use Prim.Native.Nat.{◌≤◌, ◌-◌}
-use mathlib.Core.Path.{◌≡◌, ap, ◌∙◌}
+use mathlib.Core.Path.{ap, ◌∙◌}
 use native.Mathlib.Omega.{arith}
 use lib.ListN.{length}
-use Rattle.float.specs.Numbers.{nought}
-use Rattle.float.specs.Float.{root_of}
-use Rattle.geometry.specs.Geometry.{square_norm_of}
-use Rattle.arclen.specs.Arclen.{deriv_of}
-use Rattle.quickarclen.specs.Straight.{Straight}
-use Rattle.arclen.specs.declared.ArclenFunctor.{ArclenFunctor}
 use Rattle.quickarclen.proofs.Straight.{one_speed}
-use Rattle.quickarclen.proofs.Walking.{Walking, as_long, none, more, all}
+use Rattle.quickarclen.proofs.Walking.{as_long, none, more, all}
 use Rattle.quickarclen.proofs.walk_straight.Goals as goal
 
 pub square-requires : goal.square-requires

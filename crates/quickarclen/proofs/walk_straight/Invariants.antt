@@ -1,7 +1,6 @@
 -- `quickarclen::walk_straight` meets its contract. The invariant is `Walking`, for whichever straight quad has the speed. Assumes nothing.
 use Prim.Native.Nat.{◌≤◌, ◌-◌}
-use mathlib.Core.Path.{◌≡◌, ap, ◌∙◌}
-use native.Mathlib.Omega.{arith}
+use mathlib.Core.Path.{◌≡◌}
 use lib.ListN.{length}
 use Rattle.float.specs.Numbers.{nought}
 use Rattle.float.specs.Float.{root_of}
@@ -9,8 +8,7 @@ use Rattle.geometry.specs.Geometry.{square_norm_of}
 use Rattle.arclen.specs.Arclen.{deriv_of}
 use Rattle.quickarclen.specs.Straight.{Straight}
 use Rattle.arclen.specs.declared.ArclenFunctor.{ArclenFunctor}
-use Rattle.quickarclen.proofs.Straight.{one_speed}
-use Rattle.quickarclen.proofs.Walking.{Walking, as_long, none, more, all}
+use Rattle.quickarclen.proofs.Walking.{Walking}
 use Rattle.quickarclen.proofs.walk_straight.Given as goal
 
 abbrev pub invariant-loop-i : goal.invariant-loop-i

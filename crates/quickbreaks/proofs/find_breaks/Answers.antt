@@ -1,4 +1,4 @@
-use Prim.Native.Nat.{ℕ, suc, ◌-◌, ◌^◌, ◌≤◌}
+use Prim.Native.Nat.{ℕ, ◌-◌, ◌^◌, ◌≤◌}
 use native.Mathlib.Omega.{arith}
 use mathlib.Core.Path.{refl, ◌∙◌}
 use lib.Dec.{T, le→leb}
@@ -6,7 +6,7 @@ use lib.IntN.{pos}
 use lib.Ieee.{binary64, in_float, of_bits}
 use Rattle.float.specs.Float.{root_of}
 use Rattle.breaks.specs.Breaks.{full, last, past}
-use Rattle.breaks.proofs.Laws.{capped, Seeking, seek, seeks, seeks_no_more, sought}
+use Rattle.breaks.proofs.Laws.{capped, seek, seeks, seeks_no_more, sought}
 use Rattle.quickbreaks.proofs.find_breaks.Goals as goal
 use Rattle.quickbreaks.proofs.find_breaks.Goals.{At-loop-i}
 

@@ -1,13 +1,7 @@
 -- `quickbreaks::find_breaks` meets its contract. The loop's invariant is `Seeking`; the measure is what is left of the places. Assumes nothing.
-use Prim.Native.Nat.{ℕ, suc, ◌-◌, ◌^◌, ◌≤◌}
-use native.Mathlib.Omega.{arith}
-use mathlib.Core.Path.{refl, ◌∙◌}
-use lib.Dec.{T, le→leb}
-use lib.IntN.{pos}
-use lib.Ieee.{binary64, in_float, of_bits}
+use Prim.Native.Nat.{suc, ◌-◌}
 use Rattle.float.specs.Float.{root_of}
-use Rattle.breaks.specs.Breaks.{full, last, past}
-use Rattle.breaks.proofs.Laws.{capped, Seeking, seek, seeks, seeks_no_more, sought}
+use Rattle.breaks.proofs.Laws.{Seeking}
 use Rattle.quickbreaks.proofs.find_breaks.Given as goal
 
 abbrev pub invariant-loop-i : goal.invariant-loop-i

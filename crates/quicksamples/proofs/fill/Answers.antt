@@ -1,9 +1,7 @@
-use Prim.Native.Nat.{◌-◌, ◌≤◌}
-use mathlib.Core.Path.{◌≡◌, ◌∙◌}
+use mathlib.Core.Path.{◌∙◌}
 use native.Mathlib.Omega.{arith}
 use borrow.Author.Rules.{rules}
-use lib.ListN.{length, take, length-set}
-use Rattle.samples.specs.Samples.{fill_to}
+use lib.ListN.{length-set}
 use Rattle.samples.proofs.Turns.{not_due, none_left, goes}
 use Rattle.quicksamples.proofs.fill.Goals as goal
 

@@ -1,12 +1,9 @@
 -- `quicksamples::fill` meets its contract. The loop's invariant: what is left to fill from here is what was to be filled at entry. The measure is
 -- the places left. Assumes nothing.
 use Prim.Native.Nat.{◌-◌, ◌≤◌}
-use mathlib.Core.Path.{◌≡◌, ◌∙◌}
-use native.Mathlib.Omega.{arith}
-use borrow.Author.Rules.{rules}
-use lib.ListN.{length, take, length-set}
+use mathlib.Core.Path.{◌≡◌}
+use lib.ListN.{length, take}
 use Rattle.samples.specs.Samples.{fill_to}
-use Rattle.samples.proofs.Turns.{not_due, none_left, goes}
 use Rattle.quicksamples.proofs.fill.Given as goal
 
 abbrev pub invariant-loop-x : goal.invariant-loop-x

@@ -1,9 +1,6 @@
-use Prim.Native.Nat.{◌-◌}
-use mathlib.Core.Path.{◌≡◌, refl, ◌∙◌}
+use mathlib.Core.Path.{refl, ◌∙◌}
 use native.Mathlib.Omega.{arith}
-use lib.ListN.{length}
-use Rattle.arclen.specs.Arclen.{arclen_functor_of}
-use Rattle.quicksamples.proofs.Turns.{Stepping, steps, steps_over, steps_all}
+use Rattle.quicksamples.proofs.Turns.{steps, steps_over, steps_all}
 use Rattle.quicksamples.proofs.fill_steps.Goals as goal
 
 pub loop-i-init : goal.loop-i-init

@@ -1,10 +1,9 @@
 -- `quicksamples::fill_steps` meets its contract. The loop's invariant is `Stepping`; the measure is what is left of the ten steps. Assumes nothing.
 use Prim.Native.Nat.{◌-◌}
-use mathlib.Core.Path.{◌≡◌, refl, ◌∙◌}
-use native.Mathlib.Omega.{arith}
+use mathlib.Core.Path.{◌≡◌}
 use lib.ListN.{length}
 use Rattle.arclen.specs.Arclen.{arclen_functor_of}
-use Rattle.quicksamples.proofs.Turns.{Stepping, steps, steps_over, steps_all}
+use Rattle.quicksamples.proofs.Turns.{Stepping}
 use Rattle.quicksamples.proofs.fill_steps.Given as goal
 
 abbrev pub invariant-loop-i : goal.invariant-loop-i

@@ -1,9 +1,5 @@
-use Prim.Native.Nat.{◌-◌, ◌≤◌}
-use mathlib.Core.Bool.{false}
 use mathlib.Core.Path.{◌≡◌}
 use native.Mathlib.Omega.{arith}
-use lib.ListN.{length}
-use Rattle.quicksamples.specs.Tens.{NoneDue}
 use Rattle.quicksamples.proofs.Turns.{neither, one_not_due}
 use Rattle.quicksamples.proofs.is_due.Goals as goal
 

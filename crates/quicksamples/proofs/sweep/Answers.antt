@@ -1,12 +1,10 @@
-use Prim.Native.Nat.{◌-◌}
-use mathlib.Core.Logic.{⊎_elim}
 use mathlib.Core.Bool.{Bool, true, false, not, true≢false}
 use mathlib.Core.Path.{◌≡◌, refl, sym, ◌∙◌}
 use native.Mathlib.Omega.{arith}
 use lib.ListN.{length}
 use Rattle.arclen.specs.Arclen.{hundredth}
 use Rattle.quickarclen.specs.Stages.{time_from, Ready}
-use Rattle.quicksamples.proofs.Turns.{Sweeping, straight_speeds, sweeps, sweeps_over, swept_all, length_all_lem}
+use Rattle.quicksamples.proofs.Turns.{straight_speeds, sweeps, sweeps_over, swept_all, length_all_lem}
 use Rattle.quicksamples.proofs.sweep.Goals as goal
 use Rattle.quicksamples.proofs.sweep.Goals.{Joined-not-straight, then-not-straight, else-not-straight}
 
@@ -23,8 +21,8 @@ record Speeds (c : Joined-not-straight) : Type 0 where
 speeds : (c : Joined-not-straight) → Speeds c
 speeds c =
     elim c.if-not-straight.branch [
-      then-not-straight w ↦ record { long = rw w.v-is w.speeds_on.ensures.0; now = rw w.v-is w.speeds_on.ensures.1; stay = λ e. absurd (true≢false (sym w.if-not-straight.true-raw ∙ rw e)) }
-    | else-not-straight w ↦ record { long = rw w.v-is c.loop.invariant.known; now = rw w.v-is (straight_speeds c.loop.invariant c.loop-test.true (straight_if_lem _ w.if-not-straight.false-raw)); stay = λ e. w.v-is }
+      | then-not-straight w ↦ record { long = rw w.v-is w.speeds_on.ensures.0; now = rw w.v-is w.speeds_on.ensures.1; stay = λ e. absurd (true≢false (sym w.if-not-straight.true-raw ∙ rw e)) }
+      | else-not-straight w ↦ record { long = rw w.v-is c.loop.invariant.known; now = rw w.v-is (straight_speeds c.loop.invariant c.loop-test.true (straight_if_lem _ w.if-not-straight.false-raw)); stay = λ e. w.v-is }
     ]
 
 pub new-f-requires : goal.new-f-requires

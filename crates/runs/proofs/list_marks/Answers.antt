@@ -1,6 +1,4 @@
-use Prim.Native.Nat.{◌-◌}
-use lib.ListN.{length}
-use Rattle.runs.proofs.Listing.{Listing, listing_start, listing_mark, listing_pass, listed, listed_few}
+use Rattle.runs.proofs.Listing.{listing_start, listing_mark, listing_pass, listed, listed_few}
 use borrow.Author.Rules.{rules}
 use Rattle.runs.proofs.list_marks.Goals as goal
 use Rattle.runs.proofs.list_marks.Goals.{then-marks-i, else-marks-i}
@@ -29,8 +27,8 @@ loop-i-smaller c = search rules
 pub loop-i-preserved : goal.loop-i-preserved
 loop-i-preserved c =
     elim c.if-marks-i.branch [
-      then-marks-i w ↦ rw (w.list-is, w.n-is) (listing_mark _ c.loop-i.invariant c.loop-i-test.true c.requires w.if-marks-i.true)
-    | else-marks-i w ↦ rw (w.list-is, w.n-is) (listing_pass _ c.loop-i.invariant c.loop-i-test.true w.if-marks-i.false)
+      | then-marks-i w ↦ rw (w.list-is, w.n-is) (listing_mark _ c.loop-i.invariant c.loop-i-test.true c.requires w.if-marks-i.true)
+      | else-marks-i w ↦ rw (w.list-is, w.n-is) (listing_pass _ c.loop-i.invariant c.loop-i-test.true w.if-marks-i.false)
     ]
 
 pub shape_of-list : goal.shape_of-list

@@ -1,9 +1,7 @@
 -- `runs::list_marks` meets its contract. The invariant: the marks passed are listed, and what is left to list follows. Assumes nothing.
 use Prim.Native.Nat.{◌-◌}
-use mathlib.Core.Logic.{⊎_elim}
 use lib.ListN.{length}
-use Rattle.runs.proofs.Listing.{Listing, listing_start, listing_mark, listing_pass, listed, listed_few}
-use borrow.Author.Rules.{rules}
+use Rattle.runs.proofs.Listing.{Listing}
 use Rattle.runs.proofs.list_marks.Given as goal
 
 abbrev pub invariant-loop-i : goal.invariant-loop-i

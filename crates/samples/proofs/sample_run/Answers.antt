@@ -1,8 +1,7 @@
-use Prim.Native.Nat.{◌-◌}
 use mathlib.Core.Path.{refl, ap, ◌∙◌}
 use native.Mathlib.Omega.{arith}
-use Rattle.samples.specs.Samples.{quad_of, quads_of}
-use Rattle.samples.proofs.Turns.{Running, begins, runs, runs_over, run_all}
+use Rattle.samples.specs.Samples.{quad_of}
+use Rattle.samples.proofs.Turns.{begins, runs, runs_over, run_all}
 use Rattle.samples.proofs.sample_run.Goals as goal
 
 pub begin-w-requires : goal.begin-w-requires

@@ -1,9 +1,7 @@
 -- `samples::sample_run` meets its contract. The loop's invariant is `Running`; the measure is what is left of the segments. Assumes nothing.
 use Prim.Native.Nat.{◌-◌}
-use mathlib.Core.Path.{refl, ap, ◌∙◌}
-use native.Mathlib.Omega.{arith}
-use Rattle.samples.specs.Samples.{quad_of, quads_of}
-use Rattle.samples.proofs.Turns.{Running, begins, runs, runs_over, run_all}
+use Rattle.samples.specs.Samples.{quads_of}
+use Rattle.samples.proofs.Turns.{Running}
 use Rattle.samples.proofs.sample_run.Given as goal
 
 abbrev pub invariant-loop-k : goal.invariant-loop-k

@@ -1,7 +1,6 @@
-use Prim.Native.Nat.{◌-◌}
 use mathlib.Core.Path.{refl, ◌∙◌}
 use native.Mathlib.Omega.{arith}
-use Rattle.samples.proofs.Turns.{Sweeping, sweeps, sweeps_over, swept_all, length_all_lem}
+use Rattle.samples.proofs.Turns.{sweeps, sweeps_over, swept_all, length_all_lem}
 use Rattle.samples.proofs.sweep.Goals as goal
 
 pub new-f-requires : goal.new-f-requires

@@ -1,8 +1,6 @@
 -- `samples::sweep` meets its contract. The loop's invariant is `Sweeping`; the measure is what is left of the 100 steps. Assumes nothing.
 use Prim.Native.Nat.{◌-◌}
-use mathlib.Core.Path.{refl, ◌∙◌}
-use native.Mathlib.Omega.{arith}
-use Rattle.samples.proofs.Turns.{Sweeping, sweeps, sweeps_over, swept_all, length_all_lem}
+use Rattle.samples.proofs.Turns.{Sweeping}
 use Rattle.samples.proofs.sweep.Given as goal
 
 abbrev pub invariant-loop-k : goal.invariant-loop-k

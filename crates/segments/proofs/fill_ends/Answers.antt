@@ -1,9 +1,7 @@
-use Prim.Native.Nat.{◌-◌}
 use mathlib.Core.Path.{refl, ap, ◌∙◌}
 use native.Mathlib.Omega.{arith}
-use lib.ListN.{length}
-use Rattle.samples.specs.Samples.{quad_of, quads_of}
-use Rattle.segments.proofs.Going.{Ending, ends_start, ends_more, ends_all}
+use Rattle.samples.specs.Samples.{quad_of}
+use Rattle.segments.proofs.Going.{ends_start, ends_more, ends_all}
 use borrow.Author.Rules.{rules}
 use Rattle.segments.proofs.fill_ends.Goals as goal
 

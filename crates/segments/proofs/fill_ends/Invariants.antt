@@ -1,11 +1,8 @@
 -- `segments::fill_ends` meets its contract. The loop's invariant is `Ending`; the measure is what is left of the row. Assumes nothing.
 use Prim.Native.Nat.{◌-◌}
-use mathlib.Core.Path.{refl, ap, ◌∙◌}
-use native.Mathlib.Omega.{arith}
 use lib.ListN.{length}
-use Rattle.samples.specs.Samples.{quad_of, quads_of}
-use Rattle.segments.proofs.Going.{Ending, ends_start, ends_more, ends_all}
-use borrow.Author.Rules.{rules}
+use Rattle.samples.specs.Samples.{quads_of}
+use Rattle.segments.proofs.Going.{Ending}
 use Rattle.segments.proofs.fill_ends.Given as goal
 
 abbrev pub invariant-loop-k : goal.invariant-loop-k

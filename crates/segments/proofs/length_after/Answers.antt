@@ -1,7 +1,6 @@
-use Prim.Native.Nat.{◌-◌}
 use mathlib.Core.Path.{refl}
 use native.Mathlib.Omega.{arith}
-use Rattle.segments.proofs.Going.{Stepping, steps, stepped}
+use Rattle.segments.proofs.Going.{steps, stepped}
 use Rattle.segments.proofs.length_after.Goals as goal
 
 pub new-f-requires : goal.new-f-requires

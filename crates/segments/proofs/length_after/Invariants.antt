@@ -1,8 +1,6 @@
 -- `segments::length_after` meets its contract. The loop's invariant is `Stepping`; the measure is what is left of the 100 steps. Assumes nothing.
 use Prim.Native.Nat.{◌-◌}
-use mathlib.Core.Path.{refl}
-use native.Mathlib.Omega.{arith}
-use Rattle.segments.proofs.Going.{Stepping, steps, stepped}
+use Rattle.segments.proofs.Going.{Stepping}
 use Rattle.segments.proofs.length_after.Given as goal
 
 abbrev pub invariant-loop-k : goal.invariant-loop-k

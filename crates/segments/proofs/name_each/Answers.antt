@@ -1,10 +1,8 @@
-use Prim.Native.Nat.{◌-◌}
 use mathlib.Core.List.{[]}
 use native.Mathlib.Omega.{arith}
-use lib.ListN.{length}
 use Rattle.rows.proofs.Filled.{start}
 use Rattle.segments.specs.Segments.{named_of}
-use Rattle.segments.proofs.Going.{Making, make_more, make_all}
+use Rattle.segments.proofs.Going.{make_more, make_all}
 use borrow.Author.Rules.{rules}
 use Rattle.segments.proofs.name_each.Goals as goal
 

@@ -1,12 +1,9 @@
 -- `segments::name_each` meets its contract. The loop's invariant is `Making`; the measure is what is left of the row. Assumes nothing.
 use Prim.Native.Nat.{◌-◌}
 use mathlib.Core.List.{[]}
-use native.Mathlib.Omega.{arith}
 use lib.ListN.{length}
-use Rattle.rows.proofs.Filled.{start}
 use Rattle.segments.specs.Segments.{named_of}
-use Rattle.segments.proofs.Going.{Making, make_more, make_all}
-use borrow.Author.Rules.{rules}
+use Rattle.segments.proofs.Going.{Making}
 use Rattle.segments.proofs.name_each.Given as goal
 
 abbrev pub invariant-loop-i : goal.invariant-loop-i

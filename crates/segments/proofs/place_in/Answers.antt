@@ -1,7 +1,5 @@
-use Prim.Native.Nat.{◌-◌}
 use native.Mathlib.Omega.{arith}
-use lib.ListN.{length}
-use Rattle.segments.proofs.Going.{Passing, pass_start, pass_here, pass_more, pass_end}
+use Rattle.segments.proofs.Going.{pass_start, pass_here, pass_more, pass_end}
 use Rattle.segments.proofs.Numbers.{nan_first, number_first}
 use borrow.Author.Rules.{rules}
 use Rattle.segments.proofs.place_in.Goals as goal

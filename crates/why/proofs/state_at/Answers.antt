@@ -1,6 +1,5 @@
-use Prim.Native.Nat.{◌-◌}
 use native.Mathlib.Omega.{arith}
-use Rattle.why.proofs.Walking.{Walked, walk_start, walk_more, walk_all}
+use Rattle.why.proofs.Walking.{walk_start, walk_more, walk_all}
 use Rattle.why.proofs.state_at.Goals as goal
 
 pub loop-i-init : goal.loop-i-init

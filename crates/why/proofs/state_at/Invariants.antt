@@ -1,7 +1,6 @@
 -- `why::state_at` meets its contract. The loop's invariant is `Walked`. Assumes nothing.
 use Prim.Native.Nat.{◌-◌}
-use native.Mathlib.Omega.{arith}
-use Rattle.why.proofs.Walking.{Walked, walk_start, walk_more, walk_all}
+use Rattle.why.proofs.Walking.{Walked}
 use Rattle.why.proofs.state_at.Given as goal
 
 abbrev pub invariant-loop-i : goal.invariant-loop-i

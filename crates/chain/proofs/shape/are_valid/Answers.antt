@@ -1,9 +1,9 @@
-use Prim.Native.Nat.{◌+◌, ◌-◌, ◌^◌, ◌≤◌, ◌<◌}
+use Prim.Native.Nat.{◌+◌, ◌^◌, ◌<◌}
 use native.Mathlib.Omega.{arith}
 use mathlib.Core.Path.{sym, ◌∙◌}
 use borrow.Author.Tests.{not-true, not-false}
 use lib.ListN.{length, get_or}
-use Rattle.chain.proofs.Along.{all_inside, inside, Passing, passing, all_valid, one_invalid, passes_on}
+use Rattle.chain.proofs.Along.{all_inside, inside, passing, all_valid, one_invalid, passes_on}
 use Rattle.chain.proofs.shape.are_valid.Goals as goal
 
 pub loop-i-init : goal.loop-i-init

@@ -1,8 +1,6 @@
-use Prim.Native.Nat.{◌-◌, ◌≤◌}
 use native.Mathlib.Omega.{arith}
-use lib.ListN.{length}
 use borrow.Author.Rules.{rules}
-use Rattle.chain.proofs.Along.{Leading, leading, arrives, strayed, fell, passed, leads_on}
+use Rattle.chain.proofs.Along.{leading, arrives, strayed, fell, passed, leads_on}
 use Rattle.chain.proofs.shape.leads.Goals as goal
 
 pub loop-i-init : goal.loop-i-init

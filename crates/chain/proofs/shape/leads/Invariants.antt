@@ -1,9 +1,7 @@
 -- `chain::shape::leads` meets its contract. The invariant is `Leading`; the measure is what is left of the pieces. Assumes nothing.
 use Prim.Native.Nat.{◌-◌, ◌≤◌}
-use native.Mathlib.Omega.{arith}
 use lib.ListN.{length}
-use borrow.Author.Rules.{rules}
-use Rattle.chain.proofs.Along.{Leading, leading, arrives, strayed, fell, passed, leads_on}
+use Rattle.chain.proofs.Along.{Leading}
 use Rattle.chain.proofs.shape.leads.Given as goal
 
 abbrev pub invariant-loop-i : goal.invariant-loop-i

@@ -1,7 +1,7 @@
-use Prim.Native.Nat.{◌+◌, ◌-◌, ◌^◌, ◌≤◌, ◌<◌}
+use Prim.Native.Nat.{◌+◌, ◌-◌, ◌^◌, ◌<◌}
 use native.Mathlib.Omega.{arith}
 use lib.ListN.{length, get_or}
-use Rattle.chain.proofs.Along.{all_inside, inside, joined_few, Summing, summing, summed, one_refused, sums_on, Falling, falling, none_counted, all_counted, counted_few, falls_on}
+use Rattle.chain.proofs.Along.{all_inside, inside, joined_few, summing, summed, one_refused, sums_on, falling, none_counted, all_counted, counted_few, falls_on}
 use Rattle.chain.proofs.sum.sum.Goals as goal
 
 pub loop-i-init : goal.loop-i-init

@@ -1,8 +1,7 @@
 -- `chain::sum::sum` meets its contract. The invariant is `Summing`; the measure is what is left of the pieces. Assumes nothing.
-use Prim.Native.Nat.{◌+◌, ◌-◌, ◌^◌, ◌≤◌, ◌<◌}
-use native.Mathlib.Omega.{arith}
-use lib.ListN.{length, get_or}
-use Rattle.chain.proofs.Along.{all_inside, inside, joined_few, Summing, summing, summed, one_refused, sums_on, Falling, falling, none_counted, all_counted, counted_few, falls_on}
+use Prim.Native.Nat.{◌-◌, ◌≤◌}
+use lib.ListN.{length}
+use Rattle.chain.proofs.Along.{Summing, Falling}
 use Rattle.chain.proofs.sum.sum.Given as goal
 
 abbrev pub invariant-loop-i : goal.invariant-loop-i

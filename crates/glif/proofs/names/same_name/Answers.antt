@@ -1,8 +1,5 @@
 use native.Mathlib.Omega.{arith}
-use Prim.Native.Nat.{◌-◌}
-use mathlib.Core.Path.{◌≡◌, sym, ◌∙◌}
-use lib.ListN.{length, drop}
-use Rattle.glif.specs.Names.{alike, same_name}
+use mathlib.Core.Path.{sym, ◌∙◌}
 use Rattle.glif.proofs.Naming.{names_start, names_first_out, names_second_out, names_go, names_stop}
 use Rattle.glif.proofs.names.same_name.Goals as goal
 

@@ -1,10 +1,8 @@
 -- `glif::names::same_name` meets its contract. The loop's invariant: whether the names are one is not settled before the two places. Assumes nothing.
-use native.Mathlib.Omega.{arith}
 use Prim.Native.Nat.{◌-◌}
-use mathlib.Core.Path.{◌≡◌, sym, ◌∙◌}
+use mathlib.Core.Path.{◌≡◌}
 use lib.ListN.{length, drop}
 use Rattle.glif.specs.Names.{alike, same_name}
-use Rattle.glif.proofs.Naming.{names_start, names_first_out, names_second_out, names_go, names_stop}
 use Rattle.glif.proofs.names.same_name.Given as goal
 
 abbrev pub invariant-loop-i : goal.invariant-loop-i

@@ -1,7 +1,4 @@
 use native.Mathlib.Omega.{arith}
-use Prim.Native.Nat.{◌-◌, ◌≤◌}
-use mathlib.Core.Path.{◌≡◌}
-use Rattle.glif.specs.Names.{seen_to}
 use Rattle.glif.proofs.Naming.{seen_none, seen_more, seen_all}
 use Rattle.glif.proofs.names.seen.Goals as goal
 

@@ -1,9 +1,7 @@
 -- `glif::names::seen` meets its contract. Assumes nothing.
-use native.Mathlib.Omega.{arith}
 use Prim.Native.Nat.{◌-◌, ◌≤◌}
 use mathlib.Core.Path.{◌≡◌}
 use Rattle.glif.specs.Names.{seen_to}
-use Rattle.glif.proofs.Naming.{seen_none, seen_more, seen_all}
 use Rattle.glif.proofs.names.seen.Given as goal
 
 abbrev pub invariant-loop-k : goal.invariant-loop-k

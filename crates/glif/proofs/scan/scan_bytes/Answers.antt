@@ -1,8 +1,5 @@
 use native.Mathlib.Omega.{arith}
-use Prim.Native.Nat.{◌-◌, ◌≤◌}
-use mathlib.Core.Path.{◌≡◌, refl, ◌∙◌}
-use lib.ListN.{length}
-use Rattle.glif.specs.Scan.{pass, scanned}
+use mathlib.Core.Path.{refl, ◌∙◌}
 use Rattle.glif.proofs.Passing.{scan_starts, scan_more, scan_all}
 use Rattle.glif.proofs.scan.scan_bytes.Goals as goal
 

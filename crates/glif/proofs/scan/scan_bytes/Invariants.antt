@@ -1,10 +1,8 @@
 -- `glif::scan::scan_bytes` meets its contract. Assumes nothing.
-use native.Mathlib.Omega.{arith}
 use Prim.Native.Nat.{◌-◌, ◌≤◌}
-use mathlib.Core.Path.{◌≡◌, refl, ◌∙◌}
+use mathlib.Core.Path.{◌≡◌}
 use lib.ListN.{length}
 use Rattle.glif.specs.Scan.{pass, scanned}
-use Rattle.glif.proofs.Passing.{scan_starts, scan_more, scan_all}
 use Rattle.glif.proofs.scan.scan_bytes.Given as goal
 
 abbrev pub invariant-loop-i : goal.invariant-loop-i

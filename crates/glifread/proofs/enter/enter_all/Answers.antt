@@ -1,8 +1,5 @@
 use native.Mathlib.Omega.{arith}
-use Prim.Native.Nat.{◌-◌, ◌≤◌}
-use mathlib.Core.Path.{◌≡◌, refl, ◌∙◌}
-use lib.ListN.{length}
-use Rattle.glifread.specs.Enter.{rows, entering, enter_up_to}
+use mathlib.Core.Path.{refl, ◌∙◌}
 use Rattle.glifread.proofs.Entering.{contours_start, contours_more, contours_all}
 use Rattle.glifread.proofs.enter.enter_all.Goals as goal
 

@@ -1,10 +1,8 @@
 -- `glifread::enter::enter_all` meets its contract. Assumes nothing.
-use native.Mathlib.Omega.{arith}
 use Prim.Native.Nat.{◌-◌, ◌≤◌}
-use mathlib.Core.Path.{◌≡◌, refl, ◌∙◌}
+use mathlib.Core.Path.{◌≡◌}
 use lib.ListN.{length}
 use Rattle.glifread.specs.Enter.{rows, entering, enter_up_to}
-use Rattle.glifread.proofs.Entering.{contours_start, contours_more, contours_all}
 use Rattle.glifread.proofs.enter.enter_all.Given as goal
 
 abbrev pub invariant-loop-k : goal.invariant-loop-k

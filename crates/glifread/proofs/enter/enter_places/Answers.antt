@@ -1,8 +1,5 @@
 use native.Mathlib.Omega.{arith}
-use Prim.Native.Nat.{◌-◌, ◌≤◌}
-use mathlib.Core.Path.{◌≡◌, refl, ◌∙◌}
-use lib.ListN.{length}
-use Rattle.glifread.specs.Enter.{rows, drawn, enter_to}
+use mathlib.Core.Path.{refl, ◌∙◌}
 use Rattle.glifread.proofs.Entering.{places_start, places_more, places_all}
 use Rattle.glifread.proofs.enter.enter_places.Goals as goal
 

@@ -1,10 +1,8 @@
 -- `glifread::enter::enter_places` meets its contract. Assumes nothing.
-use native.Mathlib.Omega.{arith}
 use Prim.Native.Nat.{◌-◌, ◌≤◌}
-use mathlib.Core.Path.{◌≡◌, refl, ◌∙◌}
+use mathlib.Core.Path.{◌≡◌}
 use lib.ListN.{length}
 use Rattle.glifread.specs.Enter.{rows, drawn, enter_to}
-use Rattle.glifread.proofs.Entering.{places_start, places_more, places_all}
 use Rattle.glifread.proofs.enter.enter_places.Given as goal
 
 abbrev pub invariant-loop-k : goal.invariant-loop-k

@@ -1,8 +1,6 @@
 use borrow.Author.Rules.{rules}
 use native.Mathlib.Omega.{arith}
-use Prim.Native.Nat.{◌-◌}
-use mathlib.Core.Path.{◌≡◌, refl, sym, ◌∙◌}
-use Rattle.glifread.specs.Enter.{seek_from}
+use mathlib.Core.Path.{refl, sym, ◌∙◌}
 use Rattle.glifread.proofs.Entering.{tested, seek_hit, seek_on, seek_end}
 use Rattle.glifread.proofs.enter.seek.Goals as goal
 

@@ -1,10 +1,7 @@
 -- `glifread::enter::seek` meets its contract. Assumes nothing.
-use borrow.Author.Rules.{rules}
-use native.Mathlib.Omega.{arith}
 use Prim.Native.Nat.{◌-◌}
-use mathlib.Core.Path.{◌≡◌, refl, sym, ◌∙◌}
+use mathlib.Core.Path.{◌≡◌}
 use Rattle.glifread.specs.Enter.{seek_from}
-use Rattle.glifread.proofs.Entering.{tested, seek_hit, seek_on, seek_end}
 use Rattle.glifread.proofs.enter.seek.Given as goal
 
 abbrev pub invariant-loop-i : goal.invariant-loop-i

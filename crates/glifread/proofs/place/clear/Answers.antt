@@ -1,9 +1,7 @@
-use Prim.Native.Nat.{◌-◌}
-use mathlib.Core.Path.{◌≡◌, refl}
+use mathlib.Core.Path.{refl}
 use native.Mathlib.Omega.{arith}
 use borrow.Author.Rules.{rules}
-use lib.ListN.{length, replicate}
-use Rattle.rows.proofs.Filled.{Filled, blank_start, blank_more, blank_all}
+use Rattle.rows.proofs.Filled.{blank_start, blank_more, blank_all}
 use Rattle.glifread.specs.Enter.{no_place}
 use Rattle.glifread.proofs.place.clear.Goals as goal
 

@@ -1,10 +1,8 @@
 -- `glifread::place::clear` meets its contract. By the law of rows. Assumes nothing.
 use Prim.Native.Nat.{◌-◌}
-use mathlib.Core.Path.{◌≡◌, refl}
-use native.Mathlib.Omega.{arith}
-use borrow.Author.Rules.{rules}
+use mathlib.Core.Path.{◌≡◌}
 use lib.ListN.{length, replicate}
-use Rattle.rows.proofs.Filled.{Filled, blank_start, blank_more, blank_all}
+use Rattle.rows.proofs.Filled.{Filled}
 use Rattle.glifread.specs.Enter.{no_place}
 use Rattle.glifread.proofs.place.clear.Given as goal
 

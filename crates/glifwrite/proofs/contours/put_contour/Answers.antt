@@ -1,9 +1,5 @@
 use native.Mathlib.Omega.{arith}
-use Prim.Native.Nat.{◌-◌, ◌≤◌}
-use mathlib.Core.Path.{◌≡◌, refl, ◌∙◌}
-use lib.ListN.{length}
-use Rattle.glifwrite.specs.Puts.{put}
-use Rattle.glifwrite.specs.Contours.{put_to}
+use mathlib.Core.Path.{refl, ◌∙◌}
 use Rattle.glifwrite.proofs.Putting.{contour_start, contour_more, contour_all}
 use Rattle.glifwrite.proofs.contours.put_contour.Goals as goal
 

@@ -1,11 +1,9 @@
 -- `glifwrite::contours::put_contour` meets its contract. Assumes nothing.
-use native.Mathlib.Omega.{arith}
 use Prim.Native.Nat.{◌-◌, ◌≤◌}
-use mathlib.Core.Path.{◌≡◌, refl, ◌∙◌}
+use mathlib.Core.Path.{◌≡◌}
 use lib.ListN.{length}
 use Rattle.glifwrite.specs.Puts.{put}
 use Rattle.glifwrite.specs.Contours.{put_to}
-use Rattle.glifwrite.proofs.Putting.{contour_start, contour_more, contour_all}
 use Rattle.glifwrite.proofs.contours.put_contour.Given as goal
 
 abbrev pub invariant-loop-k : goal.invariant-loop-k

@@ -1,8 +1,4 @@
 use native.Mathlib.Omega.{arith}
-use Prim.Native.Nat.{◌-◌, ◌≤◌}
-use mathlib.Core.Path.{◌≡◌}
-use lib.ListN.{length}
-use Rattle.glifwrite.specs.Contours.{empty_to}
 use Rattle.glifwrite.proofs.Putting.{empty_none, empty_more, empty_all}
 use Rattle.glifwrite.proofs.contours.some_empty.Goals as goal
 

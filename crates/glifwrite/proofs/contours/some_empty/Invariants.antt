@@ -1,10 +1,8 @@
 -- `glifwrite::contours::some_empty` meets its contract. Assumes nothing.
-use native.Mathlib.Omega.{arith}
 use Prim.Native.Nat.{◌-◌, ◌≤◌}
 use mathlib.Core.Path.{◌≡◌}
 use lib.ListN.{length}
 use Rattle.glifwrite.specs.Contours.{empty_to}
-use Rattle.glifwrite.proofs.Putting.{empty_none, empty_more, empty_all}
 use Rattle.glifwrite.proofs.contours.some_empty.Given as goal
 
 abbrev pub invariant-loop-k : goal.invariant-loop-k

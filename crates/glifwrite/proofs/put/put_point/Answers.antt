@@ -1,5 +1,4 @@
 -- `glifwrite::put::put_point` meets its contract. Assumes nothing.
-use borrow.Author.Rules.{rules}
 use mir.Syntax.{w16}
 use mir.Facts.{to_z-of_z}
 use mathlib.Core.Path.{◌∙◌}

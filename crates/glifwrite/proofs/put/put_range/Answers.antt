@@ -1,8 +1,5 @@
 use native.Mathlib.Omega.{arith}
-use Prim.Native.Nat.{◌-◌, ◌≤◌}
-use mathlib.Core.Path.{◌≡◌, refl, ◌∙◌}
-use lib.ListN.{length}
-use Rattle.glifwrite.specs.Puts.{put, put_range}
+use mathlib.Core.Path.{refl, ◌∙◌}
 use Rattle.glifwrite.proofs.Putting.{range_start, range_more, range_all}
 use Rattle.glifwrite.proofs.put.put_range.Goals as goal
 

@@ -1,10 +1,8 @@
 -- `glifwrite::put::put_range` meets its contract. Assumes nothing.
-use native.Mathlib.Omega.{arith}
 use Prim.Native.Nat.{◌-◌, ◌≤◌}
-use mathlib.Core.Path.{◌≡◌, refl, ◌∙◌}
+use mathlib.Core.Path.{◌≡◌}
 use lib.ListN.{length}
 use Rattle.glifwrite.specs.Puts.{put, put_range}
-use Rattle.glifwrite.proofs.Putting.{range_start, range_more, range_all}
 use Rattle.glifwrite.proofs.put.put_range.Given as goal
 
 abbrev pub invariant-loop-k : goal.invariant-loop-k

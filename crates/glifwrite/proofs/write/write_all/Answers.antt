@@ -1,11 +1,7 @@
 use borrow.Author.Rules.{rules}
 use native.Mathlib.Omega.{arith}
-use Prim.Native.Nat.{◌-◌, ◌≤◌}
-use mathlib.Core.Path.{◌≡◌, refl, ◌∙◌}
-use lib.ListN.{length}
-use Rattle.glif.specs.Scan.{pass}
+use mathlib.Core.Path.{refl, ◌∙◌}
 use Rattle.glif.proofs.Passing.{scan_starts, scan_more}
-use Rattle.glifwrite.specs.Writes.{given, read_to, copying, no_copy, copy_to}
 use Rattle.glifwrite.proofs.Copying.{copy_starts, copy_more, copy_all}
 use Rattle.glifwrite.proofs.write.write_all.Goals as goal
 

@@ -1,13 +1,9 @@
 -- `glifwrite::write::write_all` meets its contract. Assumes nothing.
-use borrow.Author.Rules.{rules}
-use native.Mathlib.Omega.{arith}
 use Prim.Native.Nat.{◌-◌, ◌≤◌}
-use mathlib.Core.Path.{◌≡◌, refl, ◌∙◌}
+use mathlib.Core.Path.{◌≡◌}
 use lib.ListN.{length}
 use Rattle.glif.specs.Scan.{pass}
-use Rattle.glif.proofs.Passing.{scan_starts, scan_more}
 use Rattle.glifwrite.specs.Writes.{given, read_to, copying, no_copy, copy_to}
-use Rattle.glifwrite.proofs.Copying.{copy_starts, copy_more, copy_all}
 use Rattle.glifwrite.proofs.write.write_all.Given as goal
 
 abbrev pub invariant-loop-i : goal.invariant-loop-i

@@ -3,7 +3,6 @@ use Rattle.glyfread.specs.Steps.{ScanWithin}
 use native.Mathlib.Omega.{arith}
 use mathlib.Core.Path.{sym, ◌∙◌, subst}
 use Rattle.glyfread.proofs.Parts.{no_flags, no_points_lem, stands}
-use borrow.Author.Rules.{rules}
 use Rattle.glyfread.proofs.read.locate_points.Goals as goal
 
 pub points_of-points-requires : goal.points_of-points-requires

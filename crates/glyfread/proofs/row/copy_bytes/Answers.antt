@@ -1,8 +1,6 @@
 use native.Mathlib.Omega.{arith}
-use Prim.Native.Nat.{◌-◌, ◌≤◌}
-use lib.ListN.{take, drop}
 use Rattle.glyfread.proofs.Words.{length_part, part_is, laid_all}
-use Rattle.rows.proofs.Filled.{Filled, start, more}
+use Rattle.rows.proofs.Filled.{start, more}
 use Rattle.glyfread.proofs.row.copy_bytes.Goals as goal
 
 pub loop-i-init : goal.loop-i-init

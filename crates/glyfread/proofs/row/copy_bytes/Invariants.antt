@@ -1,9 +1,7 @@
 -- `glyfread::row::copy_bytes` meets its contract. The loop's invariant: the row's first i places are filled. Assumes nothing.
-use native.Mathlib.Omega.{arith}
 use Prim.Native.Nat.{◌-◌, ◌≤◌}
 use lib.ListN.{take, drop}
-use Rattle.glyfread.proofs.Words.{length_part, part_is, laid_all}
-use Rattle.rows.proofs.Filled.{Filled, start, more}
+use Rattle.rows.proofs.Filled.{Filled}
 use Rattle.glyfread.proofs.row.copy_bytes.Given as goal
 
 abbrev pub invariant-loop-i : goal.invariant-loop-i

@@ -1,9 +1,7 @@
 use native.Mathlib.Omega.{arith}
-use Prim.Native.Nat.{◌-◌, ◌≤◌}
 use mathlib.Core.Path.{sym, ◌∙◌}
-use Rattle.glyfread.specs.Steps.{words_at}
 use Rattle.glyfread.proofs.Words.{length_words, word_is, laid_all}
-use Rattle.rows.proofs.Filled.{Filled, start, more}
+use Rattle.rows.proofs.Filled.{start, more}
 use Rattle.glyfread.proofs.row.copy_words.Goals as goal
 
 pub loop-i-init : goal.loop-i-init

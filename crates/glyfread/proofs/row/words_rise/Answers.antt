@@ -1,9 +1,5 @@
 use native.Mathlib.Omega.{arith}
-use Prim.Native.Nat.{◌-◌, ◌≤◌}
-use mathlib.Core.Path.{◌≡◌, refl, sym, ◌∙◌}
-use lib.ListN.{drop}
-use Rattle.glyf.specs.Layout.{rising}
-use Rattle.glyfread.specs.Steps.{words_at}
+use mathlib.Core.Path.{refl, sym, ◌∙◌}
 use Rattle.glyfread.proofs.Words.{words_end, words_stop, words_go}
 use Rattle.glyfread.proofs.row.words_rise.Goals as goal
 

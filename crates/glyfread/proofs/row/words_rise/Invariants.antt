@@ -1,11 +1,9 @@
 -- `glyfread::row::words_rise` meets its contract. The loop's invariant: whether the words rise is not settled before place i - 1. Assumes nothing.
-use native.Mathlib.Omega.{arith}
 use Prim.Native.Nat.{◌-◌, ◌≤◌}
-use mathlib.Core.Path.{◌≡◌, refl, sym, ◌∙◌}
+use mathlib.Core.Path.{◌≡◌}
 use lib.ListN.{drop}
 use Rattle.glyf.specs.Layout.{rising}
 use Rattle.glyfread.specs.Steps.{words_at}
-use Rattle.glyfread.proofs.Words.{words_end, words_stop, words_go}
 use Rattle.glyfread.proofs.row.words_rise.Given as goal
 
 abbrev pub invariant-loop-i : goal.invariant-loop-i

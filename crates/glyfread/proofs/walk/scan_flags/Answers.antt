@@ -1,10 +1,7 @@
 use native.Mathlib.Omega.{arith}
-use Prim.Native.Nat.{◌-◌}
 use mathlib.Core.Path.{sym, ◌∙◌, subst}
-use lib.ListN.{length, drop}
-use Rattle.glyf.specs.Layout.{flags_of}
-use Rattle.glyfread.specs.Steps.{scan_of, FlagWithin}
-use Rattle.glyfread.proofs.Walking.{Scanning, scan_start, scan_cut, scan_more, scan_end}
+use Rattle.glyfread.specs.Steps.{FlagWithin}
+use Rattle.glyfread.proofs.Walking.{scan_start, scan_cut, scan_more, scan_end}
 use Rattle.glyfread.proofs.walk.scan_flags.Goals as goal
 
 pub loop-i-init : goal.loop-i-init

@@ -1,11 +1,9 @@
 -- `glyfread::walk::scan_flags` meets its contract. The loop's invariant: the flags from here on, with the bytes counted so far, give what they all give. Assumes nothing.
-use native.Mathlib.Omega.{arith}
 use Prim.Native.Nat.{◌-◌}
-use mathlib.Core.Path.{sym, ◌∙◌, subst}
 use lib.ListN.{length, drop}
 use Rattle.glyf.specs.Layout.{flags_of}
-use Rattle.glyfread.specs.Steps.{scan_of, FlagWithin}
-use Rattle.glyfread.proofs.Walking.{Scanning, scan_start, scan_cut, scan_more, scan_end}
+use Rattle.glyfread.specs.Steps.{scan_of}
+use Rattle.glyfread.proofs.Walking.{Scanning}
 use Rattle.glyfread.proofs.walk.scan_flags.Given as goal
 
 abbrev pub invariant-loop-i : goal.invariant-loop-i

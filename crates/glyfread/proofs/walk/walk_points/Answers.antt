@@ -1,10 +1,9 @@
 use mir.Syntax.{w16}
 use mir.Facts.{to_z-of_z}
 use native.Mathlib.Omega.{arith}
-use Prim.Native.Nat.{◌-◌}
 use mathlib.Core.Path.{refl, subst}
 use Rattle.glyfread.specs.Walks.{Advances}
-use Rattle.glyfread.proofs.Filling.{Walking, walk_starts, walk_stops, walk_goes, walk_fits, walked, walked_none}
+use Rattle.glyfread.proofs.Filling.{walk_starts, walk_stops, walk_goes, walk_fits, walked, walked_none}
 use Rattle.glyfread.proofs.walk.walk_points.Goals as goal
 
 pub loop-i-init : goal.loop-i-init

@@ -1,11 +1,6 @@
 use native.Mathlib.Omega.{arith}
 use borrow.Author.Rules.{sfits_of}
-use mathlib.Core.Path.{◌≡◌, sym, ◌∙◌}
-use Prim.Native.Nat.{◌-◌}
-use lib.ListN.{length, drop}
-use mir.Syntax.{w16}
-use mir.Val.{to_z}
-use Rattle.glyfwrite.specs.Outermost.{outermost, outermost_from}
+use mathlib.Core.Path.{sym, ◌∙◌}
 use Rattle.glyfwrite.proofs.Taking.{copied}
 use Rattle.glyfwrite.proofs.Outer.{none, first, next, last}
 use Rattle.glyfwrite.proofs.bounds.outermost_of.Goals as goal

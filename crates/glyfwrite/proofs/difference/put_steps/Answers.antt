@@ -1,14 +1,7 @@
 use borrow.Author.Rules.{sfits_of}
 use Rattle.glyfwrite.proofs.Taking.{copied}
 use native.Mathlib.Omega.{arith}
-use mathlib.Core.List.{map}
-use Prim.Native.Nat.{◌+◌, ◌-◌, ◌*◌, ◌≤◌}
-use lib.IntN.{pos}
-use lib.ListN.{length, drop}
-use mir.Syntax.{w16}
-use mir.Val.{to_z}
-use Rattle.glyf.specs.Layout.{steps, code_of, joined}
-use Rattle.glyfwrite.proofs.Putting.{Going, begin, more, all}
+use Rattle.glyfwrite.proofs.Putting.{begin, more, all}
 use Rattle.glyfwrite.proofs.Coding.{next_code, no_codes}
 use Rattle.glyfwrite.proofs.difference.put_steps.Goals as goal
 

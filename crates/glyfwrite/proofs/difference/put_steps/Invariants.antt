@@ -1,16 +1,10 @@
 -- `glyfwrite::difference::put_steps` meets its contract. Assumes nothing.
-use borrow.Author.Rules.{sfits_of}
-use Rattle.glyfwrite.proofs.Taking.{copied}
-use native.Mathlib.Omega.{arith}
 use mathlib.Core.List.{map}
 use Prim.Native.Nat.{◌+◌, ◌-◌, ◌*◌, ◌≤◌}
 use lib.IntN.{pos}
 use lib.ListN.{length, drop}
-use mir.Syntax.{w16}
-use mir.Val.{to_z}
 use Rattle.glyf.specs.Layout.{steps, code_of, joined}
-use Rattle.glyfwrite.proofs.Putting.{Going, begin, more, all}
-use Rattle.glyfwrite.proofs.Coding.{next_code, no_codes}
+use Rattle.glyfwrite.proofs.Putting.{Going}
 use Rattle.glyfwrite.proofs.difference.put_steps.Given as goal
 
 abbrev pub invariant-loop-i : goal.invariant-loop-i

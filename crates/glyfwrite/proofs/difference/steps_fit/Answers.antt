@@ -1,13 +1,7 @@
 use borrow.Author.Rules.{sfits_of}
 use Rattle.glyfwrite.proofs.Taking.{copied}
 use native.Mathlib.Omega.{arith}
-use mathlib.Core.Path.{◌≡◌, refl, sym, ◌∙◌}
-use Prim.Native.Nat.{◌-◌}
-use lib.IntN.{pos}
-use lib.ListN.{length, drop}
-use mir.Syntax.{w16}
-use mir.Val.{to_z}
-use Rattle.glyf.specs.Layout.{all16, steps}
+use mathlib.Core.Path.{refl, sym, ◌∙◌}
 use Rattle.glyfwrite.proofs.Coding.{next_fits, no_steps}
 use Rattle.glyfwrite.proofs.difference.steps_fit.Goals as goal
 

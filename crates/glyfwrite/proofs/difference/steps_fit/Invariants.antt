@@ -1,15 +1,9 @@
 -- `glyfwrite::difference::steps_fit` meets its contract. Assumes nothing.
-use borrow.Author.Rules.{sfits_of}
-use Rattle.glyfwrite.proofs.Taking.{copied}
-use native.Mathlib.Omega.{arith}
-use mathlib.Core.Path.{◌≡◌, refl, sym, ◌∙◌}
+use mathlib.Core.Path.{◌≡◌}
 use Prim.Native.Nat.{◌-◌}
 use lib.IntN.{pos}
 use lib.ListN.{length, drop}
-use mir.Syntax.{w16}
-use mir.Val.{to_z}
 use Rattle.glyf.specs.Layout.{all16, steps}
-use Rattle.glyfwrite.proofs.Coding.{next_fits, no_steps}
 use Rattle.glyfwrite.proofs.difference.steps_fit.Given as goal
 
 abbrev pub invariant-loop-i : goal.invariant-loop-i

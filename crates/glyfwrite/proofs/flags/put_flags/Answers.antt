@@ -2,13 +2,10 @@ use native.Mathlib.Omega.{arith}
 use borrow.Author.Rules.{sfits_of}
 use mathlib.Core.Path.{ap, ◌∙◌}
 use mathlib.Core.List.{List}
-use Prim.Native.Nat.{ℕ, ◌+◌, ◌-◌, ◌*◌, ◌<◌, ◌≤◌}
+use Prim.Native.Nat.{ℕ}
 use lib.IntN.{pos}
-use lib.ListN.{length, drop}
-use mir.Syntax.{w16}
-use mir.Val.{to_z}
-use Rattle.glyf.specs.Layout.{steps, packed, packed_flags, coded_flags}
-use Rattle.glyfwrite.proofs.Putting.{Going, begin, more, same_row}
+use Rattle.glyf.specs.Layout.{steps, packed, coded_flags}
+use Rattle.glyfwrite.proofs.Putting.{begin, more, same_row}
 use Rattle.glyfwrite.proofs.Taking.{copied}
 use Rattle.glyfwrite.proofs.Running.{starts, next_flag_lem, no_flag, last_run}
 use Rattle.glyfwrite.proofs.flags.put_flags.Goals as goal

@@ -1,7 +1,5 @@
 use native.Mathlib.Omega.{arith}
-use Prim.Native.Nat.{◌+◌, ◌-◌, ◌≤◌}
-use lib.ListN.{length, drop}
-use Rattle.glyfwrite.proofs.Putting.{Going, begin, more, all, next_byte, no_byte}
+use Rattle.glyfwrite.proofs.Putting.{begin, more, all, next_byte, no_byte}
 use Rattle.glyfwrite.proofs.put.put_bytes.Goals as goal
 
 pub loop-i-init : goal.loop-i-init

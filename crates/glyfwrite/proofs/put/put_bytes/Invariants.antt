@@ -1,8 +1,7 @@
 -- `glyfwrite::put::put_bytes` meets its contract. Assumes nothing.
-use native.Mathlib.Omega.{arith}
 use Prim.Native.Nat.{◌+◌, ◌-◌, ◌≤◌}
 use lib.ListN.{length, drop}
-use Rattle.glyfwrite.proofs.Putting.{Going, begin, more, all, next_byte, no_byte}
+use Rattle.glyfwrite.proofs.Putting.{Going}
 use Rattle.glyfwrite.proofs.put.put_bytes.Given as goal
 
 abbrev pub invariant-loop-i : goal.invariant-loop-i

@@ -1,9 +1,5 @@
 use native.Mathlib.Omega.{arith}
-use mathlib.Core.List.{map}
-use Prim.Native.Nat.{◌+◌, ◌-◌, ◌*◌, ◌≤◌}
-use lib.ListN.{length, drop}
-use Rattle.glyf.specs.Layout.{word_bytes, joined}
-use Rattle.glyfwrite.proofs.Putting.{Going, begin, more, all, next_word, no_word}
+use Rattle.glyfwrite.proofs.Putting.{begin, more, all, next_word, no_word}
 use Rattle.glyfwrite.proofs.put.put_words.Goals as goal
 
 pub loop-i-init : goal.loop-i-init

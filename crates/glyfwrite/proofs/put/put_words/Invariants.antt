@@ -1,10 +1,9 @@
 -- `glyfwrite::put::put_words` meets its contract. Assumes nothing.
-use native.Mathlib.Omega.{arith}
 use mathlib.Core.List.{map}
 use Prim.Native.Nat.{◌+◌, ◌-◌, ◌*◌, ◌≤◌}
 use lib.ListN.{length, drop}
 use Rattle.glyf.specs.Layout.{word_bytes, joined}
-use Rattle.glyfwrite.proofs.Putting.{Going, begin, more, all, next_word, no_word}
+use Rattle.glyfwrite.proofs.Putting.{Going}
 use Rattle.glyfwrite.proofs.put.put_words.Given as goal
 
 abbrev pub invariant-loop-i : goal.invariant-loop-i
