@@ -1,6 +1,4 @@
 -- `answering::around` is safe and ends. The point before lies in the rows too. Assumes nothing.
-use borrow.Author.Rules.{rules}
-use native.Mathlib.Omega.{arith}
 use Prim.Native.Nat.{◌-◌, ◌≤◌, ◌<◌}
 use lib.ListN.{length}
 use Rattle.answering.proofs.around.Given as goal

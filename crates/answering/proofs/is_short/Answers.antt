@@ -1,5 +1,4 @@
 -- `answering::is_short` meets its contract. Assumes nothing.
-use borrow.Author.Rules.{rules}
 use Rattle.answering.proofs.is_short.Goals as goal
 
 pub returns-in-Refused : goal.returns-in-Refused

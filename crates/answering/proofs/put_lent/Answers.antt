@@ -1,6 +1,5 @@
 -- `answering::put_lent` meets its contract. Assumes nothing.
 -- where the entry was called, and where all began
-use mathlib.Core.Path.{sym}
 use Rattle.rows.specs.Rows.{work}
 use Rattle.contour.specs.Output.{outputs}
 use Rattle.answering.proofs.Answers.{fits, says, short_same}

@@ -1,8 +1,7 @@
 use Prim.Native.Nat.{◌-◌}
 use native.Mathlib.Omega.{arith}
 use mathlib.Core.Path.{◌∙◌}
-use lib.ListN.{length}
-use Rattle.assembly.proofs.Going.{Running, running_start, running_few, no_more, all_seen, run_refused, run_ended, run_on}
+use Rattle.assembly.proofs.Going.{running_start, running_few, no_more, all_seen, run_refused, run_ended, run_on}
 use Rattle.assembly.proofs.crunch_runs.Goals as goal
 
 pub loop-k-init : goal.loop-k-init

@@ -1,9 +1,7 @@
 -- `assembly::crunch_runs` meets its contract. The invariant: what is left from run k on, after the points so far, is what there was to do. Assumes nothing.
 use Prim.Native.Nat.{◌-◌}
-use native.Mathlib.Omega.{arith}
-use mathlib.Core.Path.{◌∙◌}
 use lib.ListN.{length}
-use Rattle.assembly.proofs.Going.{Running, running_start, running_few, no_more, all_seen, run_refused, run_ended, run_on}
+use Rattle.assembly.proofs.Going.{Running}
 use Rattle.assembly.proofs.crunch_runs.Given as goal
 
 abbrev pub invariant-loop-k : goal.invariant-loop-k

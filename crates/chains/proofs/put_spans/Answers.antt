@@ -1,8 +1,6 @@
 use Prim.Native.Nat.{◌-◌}
 use native.Mathlib.Omega.{arith}
-use lib.ListN.{take}
-use Rattle.rows.proofs.Filled.{Filled, start}
-use Rattle.chains.specs.Spans.{spans_from}
+use Rattle.rows.proofs.Filled.{start}
 use Rattle.chains.proofs.Spans.{put_one, put_all}
 use borrow.Author.Rules.{rules}
 use Rattle.chains.proofs.put_spans.Goals as goal

@@ -1,11 +1,8 @@
 -- `chains::put_spans` meets its contract. The loop's invariant is `Filled`. Assumes nothing.
 use Prim.Native.Nat.{◌-◌}
-use native.Mathlib.Omega.{arith}
 use lib.ListN.{take}
-use Rattle.rows.proofs.Filled.{Filled, start}
+use Rattle.rows.proofs.Filled.{Filled}
 use Rattle.chains.specs.Spans.{spans_from}
-use Rattle.chains.proofs.Spans.{put_one, put_all}
-use borrow.Author.Rules.{rules}
 use Rattle.chains.proofs.put_spans.Given as goal
 
 abbrev pub invariant-loop-i : goal.invariant-loop-i

@@ -1,9 +1,8 @@
 use Prim.Native.Nat.{◌-◌}
 use native.Mathlib.Omega.{arith}
 use mathlib.Core.List.{[]}
-use lib.ListN.{take}
-use Rattle.rows.proofs.Filled.{Filled, start}
-use Rattle.contour.specs.Output.{flag_of, flags}
+use Rattle.rows.proofs.Filled.{start}
+use Rattle.contour.specs.Output.{flag_of}
 use Rattle.contour.proofs.Copying.{copy_more, copy_all}
 use Rattle.contour.proofs.copy_flags.Goals as goal
 

@@ -1,11 +1,8 @@
 -- `contour::copy_flags` meets its contract, by the law of proofs/Copying.antt. Assumes nothing.
 use Prim.Native.Nat.{◌-◌}
-use native.Mathlib.Omega.{arith}
-use mathlib.Core.List.{[]}
 use lib.ListN.{take}
-use Rattle.rows.proofs.Filled.{Filled, start}
-use Rattle.contour.specs.Output.{flag_of, flags}
-use Rattle.contour.proofs.Copying.{copy_more, copy_all}
+use Rattle.rows.proofs.Filled.{Filled}
+use Rattle.contour.specs.Output.{flags}
 use Rattle.contour.proofs.copy_flags.Given as goal
 
 abbrev pub invariant-loop-i : goal.invariant-loop-i

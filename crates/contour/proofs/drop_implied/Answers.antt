@@ -1,8 +1,7 @@
 use Prim.Native.Nat.{◌-◌}
 use mathlib.Core.Path.{sym, ◌∙◌}
 use native.Mathlib.Omega.{arith}
-use Rattle.contour.specs.Implied.{is_implied, first_place}
-use Rattle.contour.proofs.Dropping.{Dropping, drop_start, drop_one, keep_one, dropped}
+use Rattle.contour.proofs.Dropping.{drop_start, drop_one, keep_one, dropped}
 use Rattle.contour.proofs.drop_implied.Goals as goal
 
 pub first_place-i-requires : goal.first_place-i-requires

@@ -1,9 +1,7 @@
 -- `contour::drop_implied` meets its contract. The loop's invariant is `Dropping`. Assumes nothing.
 use Prim.Native.Nat.{◌-◌}
-use mathlib.Core.Path.{sym, ◌∙◌}
-use native.Mathlib.Omega.{arith}
 use Rattle.contour.specs.Implied.{is_implied, first_place}
-use Rattle.contour.proofs.Dropping.{Dropping, drop_start, drop_one, keep_one, dropped}
+use Rattle.contour.proofs.Dropping.{Dropping}
 use Rattle.contour.proofs.drop_implied.Given as goal
 
 abbrev pub invariant-loop-i : goal.invariant-loop-i

@@ -1,8 +1,7 @@
 -- `contour::middle` meets its contract. Assumes nothing.
 use mathlib.Core.Path.{◌∙◌}
-use native.Mathlib.Omega.{arith}
 use borrow.Author.Rules.{sfits_of}
-use Rattle.contour.proofs.Sixteen.{half_fits_16, half_is, sum_back}
+use Rattle.contour.proofs.Sixteen.{half_is, sum_back}
 use Rattle.contour.proofs.middle.Goals as goal
 
 pub wrapping_add_i16-requires : goal.wrapping_add_i16-requires

@@ -1,7 +1,6 @@
 -- `contour::put_first` meets its contract. The loop's invariant is `Shifting`. Assumes nothing.
 use Prim.Native.Nat.{◌-◌}
-use native.Mathlib.Omega.{arith}
-use Rattle.contour.proofs.Closing.{Shifting, shift_start, shift_more, shift_all}
+use Rattle.contour.proofs.Closing.{Shifting}
 use Rattle.contour.proofs.put_first.Given as goal
 
 abbrev pub invariant-loop-i : goal.invariant-loop-i

@@ -1,6 +1,6 @@
 use Prim.Native.Nat.{◌-◌}
 use native.Mathlib.Omega.{arith}
-use Rattle.contour.proofs.Dropping.{Moving, move_start, move_more, move_all}
+use Rattle.contour.proofs.Dropping.{move_start, move_more, move_all}
 use Rattle.contour.proofs.remove.Goals as goal
 
 pub overflow_add-i : goal.overflow_add-i

@@ -1,7 +1,6 @@
 -- `contour::remove` meets its contract. The loop's invariant is `Moving`. Assumes nothing.
 use Prim.Native.Nat.{◌-◌}
-use native.Mathlib.Omega.{arith}
-use Rattle.contour.proofs.Dropping.{Moving, move_start, move_more, move_all}
+use Rattle.contour.proofs.Dropping.{Moving}
 use Rattle.contour.proofs.remove.Given as goal
 
 abbrev pub invariant-loop-i : goal.invariant-loop-i

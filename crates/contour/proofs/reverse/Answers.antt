@@ -1,10 +1,8 @@
-use mathlib.Core.List.{[], ◌++◌}
-use mathlib.Core.List as List
-use mathlib.Core.Path.{◌≡◌, refl, ◌∙◌}
-use Prim.Native.Nat.{◌-◌, ◌≤◌}
+use mathlib.Core.List.{[]}
+use mathlib.Core.Path.{refl, ◌∙◌}
+use Prim.Native.Nat.{◌-◌}
 use native.Mathlib.Omega.{arith}
-use lib.ListN.{length, take, drop}
-use Rattle.contour.proofs.Reversal.{Turning, turn_start, turn_more, turned}
+use Rattle.contour.proofs.Reversal.{turn_start, turn_more, turned}
 use Rattle.contour.proofs.reverse.Goals as goal
 
 pub loop-i-init : goal.loop-i-init

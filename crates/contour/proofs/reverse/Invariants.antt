@@ -1,11 +1,10 @@
 -- `contour::reverse` meets its contract. The loop's invariant: what is left to reverse lies from i up to j. Assumes nothing.
-use mathlib.Core.List.{[], ◌++◌}
+use mathlib.Core.List.{◌++◌}
 use mathlib.Core.List as List
-use mathlib.Core.Path.{◌≡◌, refl, ◌∙◌}
+use mathlib.Core.Path.{◌≡◌}
 use Prim.Native.Nat.{◌-◌, ◌≤◌}
-use native.Mathlib.Omega.{arith}
 use lib.ListN.{length, take, drop}
-use Rattle.contour.proofs.Reversal.{Turning, turn_start, turn_more, turned}
+use Rattle.contour.proofs.Reversal.{Turning}
 use Rattle.contour.proofs.reverse.Given as goal
 
 abbrev pub invariant-loop-i : goal.invariant-loop-i

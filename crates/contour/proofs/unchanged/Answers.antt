@@ -1,8 +1,7 @@
 use Prim.Native.Nat.{◌-◌}
 use mathlib.Core.Path.{◌∙◌}
 use native.Mathlib.Omega.{arith}
-use lib.ListN.{length}
-use Rattle.contour.proofs.Pushing.{Going, going_start, going_more, gone}
+use Rattle.contour.proofs.Pushing.{going_start, going_more, gone}
 use Rattle.contour.proofs.unchanged.Goals as goal
 
 pub count-m-requires : goal.count-m-requires

@@ -1,9 +1,7 @@
 -- `contour::unchanged` meets its contract. The loop's invariant is `Going`. Assumes nothing.
 use Prim.Native.Nat.{◌-◌}
-use mathlib.Core.Path.{◌∙◌}
-use native.Mathlib.Omega.{arith}
 use lib.ListN.{length}
-use Rattle.contour.proofs.Pushing.{Going, going_start, going_more, gone}
+use Rattle.contour.proofs.Pushing.{Going}
 use Rattle.contour.proofs.unchanged.Given as goal
 
 abbrev pub invariant-loop-k : goal.invariant-loop-k

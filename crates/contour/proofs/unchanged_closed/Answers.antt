@@ -1,8 +1,7 @@
 use Prim.Native.Nat.{◌-◌}
 use mathlib.Core.Path.{refl}
 use native.Mathlib.Omega.{arith}
-use lib.ListN.{length}
-use Rattle.contour.proofs.Closing.{Coming, coming_start, coming_more, all_came}
+use Rattle.contour.proofs.Closing.{coming_start, coming_more, all_came}
 use Rattle.contour.proofs.unchanged_closed.Goals as goal
 
 pub nothing-w-requires : goal.nothing-w-requires

@@ -1,9 +1,7 @@
 -- `contour::unchanged_closed` meets its contract. The loop's invariant is `Coming`. Assumes nothing.
 use Prim.Native.Nat.{◌-◌}
-use mathlib.Core.Path.{refl}
-use native.Mathlib.Omega.{arith}
 use lib.ListN.{length}
-use Rattle.contour.proofs.Closing.{Coming, coming_start, coming_more, all_came}
+use Rattle.contour.proofs.Closing.{Coming}
 use Rattle.contour.proofs.unchanged_closed.Given as goal
 
 abbrev pub invariant-loop-i : goal.invariant-loop-i

@@ -1,18 +1,15 @@
 -- `optimize::find_bend` meets its contract. Assumes nothing.
 -- once it is known whether the bent piece is allowed
 use borrow.Author.Rules.{rules}
-use mathlib.Core.Bool.{Bool, true, false}
-use mathlib.Core.List.{List}
+use mathlib.Core.Bool.{true, false}
 use mathlib.Core.Path.{◌≡◌, refl, sym, ◌∙◌}
-use Prim.Native.Nat.{ℕ, ◌≤◌}
 use Rattle.geometry.specs.Geometry.{round_point_of, intersect_of}
 use Rattle.geometry.specs.declared.Crossing.TheVariants as Crossing
 use Rattle.geometry.specs.declared.Point.{Point}
 use Rattle.geometry.specs.declared.Quad.{Quad}
 use Rattle.breaks.specs.Breaks.{Row, break_at}
-use Rattle.attempt.specs.Answers.{Best, ok_for_half}
+use Rattle.attempt.specs.Answers.{ok_for_half}
 use Rattle.optimize.specs.Optimize.{best_at}
-use Rattle.optimize.specs.Stored.{Phase, Rep}
 use Rattle.optimize.proofs.Attempt.{stands_half}
 use Rattle.optimize.proofs.Trying.{crossing_of, quad_of_lem, half_of, bend_nowhere, bend_allowed, bend_not_allowed}
 use Rattle.optimize.proofs.find_bend.Goals as goal

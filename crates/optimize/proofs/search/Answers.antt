@@ -1,12 +1,10 @@
-use Prim.Native.Nat.{◌+◌, ◌-◌, ◌≤◌, ◌<◌}
+use Prim.Native.Nat.{◌+◌, ◌-◌}
 use native.Mathlib.Omega.{arith}
 use mathlib.Core.Path.{◌≡◌, refl, ap, ◌∙◌}
 use borrow.Author.Tests.{not-true, not-false}
-use Rattle.optimize.specs.Optimize.{measure_by, search, search_from}
-use Rattle.optimize.specs.Fallen.{fallen_between}
 use Rattle.optimize.specs.Stored.{late}
 use Rattle.optimize.specs.Laws.{few_pairs}
-use Rattle.optimize.proofs.Phases.{between_most, next_search, search_more, search_none, Reaching, sets_out, holding, moves, counts, breaks_off, arrives, rephased}
+use Rattle.optimize.proofs.Phases.{between_most, next_search, search_more, search_none, sets_out, holding, moves, counts, breaks_off, arrives, rephased}
 use Rattle.optimize.proofs.search.Goals as goal
 
 pub loop-i-init : goal.loop-i-init

@@ -1,13 +1,9 @@
 -- `optimize::search` meets its contract. The loop's invariant is `Reaching`, and where the search has come to; the measure is what is left of it. Assumes nothing.
 use Prim.Native.Nat.{◌+◌, ◌-◌, ◌≤◌, ◌<◌}
-use native.Mathlib.Omega.{arith}
-use mathlib.Core.Path.{◌≡◌, refl, ap, ◌∙◌}
-use borrow.Author.Tests.{not-true, not-false}
 use Rattle.optimize.specs.Optimize.{measure_by, search, search_from}
 use Rattle.optimize.specs.Fallen.{fallen_between}
 use Rattle.optimize.specs.Stored.{late}
-use Rattle.optimize.specs.Laws.{few_pairs}
-use Rattle.optimize.proofs.Phases.{between_most, next_search, search_more, search_none, Reaching, sets_out, holding, moves, counts, breaks_off, arrives, rephased}
+use Rattle.optimize.proofs.Phases.{Reaching}
 use Rattle.optimize.proofs.search.Given as goal
 
 abbrev pub invariant-loop-i : goal.invariant-loop-i

@@ -1,13 +1,9 @@
 -- `optimize::search_into` meets its contract. The loop's invariant is `Reaching`; the measure is j. Assumes nothing.
 use Prim.Native.Nat.{◌-◌, ◌≤◌}
-use native.Mathlib.Omega.{arith}
-use mathlib.Core.Path.{refl, ◌∙◌}
-use borrow.Author.Tests.{not-true, not-false}
 use Rattle.optimize.specs.Optimize.{measure_by, falling}
 use Rattle.optimize.specs.Fallen.{fallen_between}
 use Rattle.optimize.specs.Stored.{late}
-use Rattle.optimize.specs.Laws.{falling_count}
-use Rattle.optimize.proofs.Phases.{between_most, into_search, fall_none, Reaching, sets_out, holding, skips, arrives, next_moves, next_counts, next_breaks_off, ready}
+use Rattle.optimize.proofs.Phases.{Reaching}
 use Rattle.optimize.proofs.search_into.Given as goal
 
 abbrev pub invariant-loop-j : goal.invariant-loop-j

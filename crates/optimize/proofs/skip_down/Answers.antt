@@ -4,8 +4,6 @@ use Prim.Native.Nat.{◌-◌, ◌≤◌, ◌<◌}
 use native.Mathlib.Omega.{arith}
 use mathlib.Core.Path.{refl, ◌∙◌}
 use lib.ListN.{length}
-use Rattle.optimize.specs.Optimize.{falling}
-use Rattle.optimize.specs.Steps.{by_all, Skips}
 use Rattle.optimize.proofs.Attempt.{readable}
 use Rattle.optimize.proofs.Trying.{break_to, readable_to}
 use Rattle.optimize.proofs.Idle.{passed}

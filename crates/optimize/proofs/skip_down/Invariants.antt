@@ -1,15 +1,7 @@
 -- `optimize::skip_down` meets its contract: each turn passes over one pair, by the law `passed`; the measure is r. Assumes nothing.
-use borrow.Author.Rules.{rules}
-use borrow.Author.Tests.{not-false}
-use Prim.Native.Nat.{◌-◌, ◌≤◌, ◌<◌}
-use native.Mathlib.Omega.{arith}
-use mathlib.Core.Path.{refl, ◌∙◌}
-use lib.ListN.{length}
+use Prim.Native.Nat.{◌-◌, ◌≤◌}
 use Rattle.optimize.specs.Optimize.{falling}
 use Rattle.optimize.specs.Steps.{by_all, Skips}
-use Rattle.optimize.proofs.Attempt.{readable}
-use Rattle.optimize.proofs.Trying.{break_to, readable_to}
-use Rattle.optimize.proofs.Idle.{passed}
 use Rattle.optimize.proofs.skip_down.Given as goal
 
 abbrev pub invariant-loop-r : goal.invariant-loop-r

@@ -1,12 +1,10 @@
-use Prim.Native.Nat.{◌-◌, ◌≤◌, ◌<◌}
+use Prim.Native.Nat.{◌-◌}
 use native.Mathlib.Omega.{arith}
 use mathlib.Core.Path.{◌≡◌, refl, ap, ◌∙◌}
 use borrow.Author.Tests.{not-true, not-false}
-use Rattle.optimize.specs.Optimize.{measure_by, splits, splits_from}
-use Rattle.optimize.specs.Fallen.{fallen_between}
 use Rattle.optimize.specs.Stored.{early}
 use Rattle.optimize.specs.Laws.{split_pairs}
-use Rattle.optimize.proofs.Phases.{between_most, split_more, split_none, Reaching, sets_out, holding, moves, counts, breaks_off, arrives}
+use Rattle.optimize.proofs.Phases.{between_most, split_more, split_none, sets_out, holding, moves, counts, breaks_off, arrives}
 use Rattle.optimize.proofs.try_splits.Goals as goal
 
 pub loop-i-init : goal.loop-i-init

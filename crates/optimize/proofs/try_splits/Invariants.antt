@@ -1,13 +1,9 @@
 -- `optimize::try_splits` meets its contract. The loop's invariant is `Reaching`, and where the splits have come to; the measure is what is left of them. Assumes nothing.
 use Prim.Native.Nat.{◌-◌, ◌≤◌, ◌<◌}
-use native.Mathlib.Omega.{arith}
-use mathlib.Core.Path.{◌≡◌, refl, ap, ◌∙◌}
-use borrow.Author.Tests.{not-true, not-false}
 use Rattle.optimize.specs.Optimize.{measure_by, splits, splits_from}
 use Rattle.optimize.specs.Fallen.{fallen_between}
 use Rattle.optimize.specs.Stored.{early}
-use Rattle.optimize.specs.Laws.{split_pairs}
-use Rattle.optimize.proofs.Phases.{between_most, split_more, split_none, Reaching, sets_out, holding, moves, counts, breaks_off, arrives}
+use Rattle.optimize.proofs.Phases.{Reaching}
 use Rattle.optimize.proofs.try_splits.Given as goal
 
 abbrev pub invariant-loop-i : goal.invariant-loop-i

@@ -1,8 +1,8 @@
 use Prim.Native.Nat.{◌-◌}
 use native.Mathlib.Omega.{arith}
 use lib.ListN.{length, get_or}
-use Rattle.pieces.specs.Slots.{stored_quad, Legible}
-use Rattle.pieces.proofs.Going.{from_on, Pushing, push_start, push_more, push_done}
+use Rattle.pieces.specs.Slots.{Legible}
+use Rattle.pieces.proofs.Going.{from_on, push_start, push_more, push_done}
 use Rattle.pieces.proofs.push_pieces.Goals as goal
 
 pub loop-i-init : goal.loop-i-init

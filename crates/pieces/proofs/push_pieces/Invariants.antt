@@ -1,9 +1,8 @@
 -- `pieces::push_pieces` meets its contract. The loop's invariant is `Pushing`. Assumes nothing.
 use Prim.Native.Nat.{◌-◌}
-use native.Mathlib.Omega.{arith}
-use lib.ListN.{length, get_or}
-use Rattle.pieces.specs.Slots.{stored_quad, Legible}
-use Rattle.pieces.proofs.Going.{from_on, Pushing, push_start, push_more, push_done}
+use lib.ListN.{length}
+use Rattle.pieces.specs.Slots.{stored_quad}
+use Rattle.pieces.proofs.Going.{Pushing}
 use Rattle.pieces.proofs.push_pieces.Given as goal
 
 abbrev pub invariant-loop-i : goal.invariant-loop-i

@@ -3,7 +3,7 @@
 use Prim.Native.Nat.{min}
 use mathlib.Core.Path.{◌≡◌, refl, ◌∙◌}
 use native.Mathlib.Omega.{arith}
-use Rattle.pieces.specs.Slots.{Chain, chain, room_of}
+use Rattle.pieces.specs.Slots.{chain, room_of}
 use Rattle.pieces.proofs.Whole.{walkable, all_held, enough, put_over, put_in}
 use borrow.Author.Rules.{rules}
 use Rattle.pieces.proofs.put_chain.Goals as goal

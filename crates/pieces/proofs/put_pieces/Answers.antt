@@ -1,8 +1,8 @@
 use Prim.Native.Nat.{◌-◌, ◌<◌}
 use native.Mathlib.Omega.{arith}
 use lib.ListN.{length, get_or}
-use Rattle.pieces.specs.Slots.{piece_of, Legible}
-use Rattle.pieces.proofs.Going.{from_on, Putting, put_start, put_room, put_more, put_done}
+use Rattle.pieces.specs.Slots.{Legible}
+use Rattle.pieces.proofs.Going.{from_on, put_start, put_room, put_more, put_done}
 use Rattle.pieces.proofs.put_pieces.Goals as goal
 
 pub loop-i-init : goal.loop-i-init

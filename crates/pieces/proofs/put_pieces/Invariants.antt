@@ -1,9 +1,8 @@
 -- `pieces::put_pieces` meets its contract. The loop's invariant is `Putting`. Assumes nothing.
-use Prim.Native.Nat.{◌-◌, ◌<◌}
-use native.Mathlib.Omega.{arith}
-use lib.ListN.{length, get_or}
-use Rattle.pieces.specs.Slots.{piece_of, Legible}
-use Rattle.pieces.proofs.Going.{from_on, Putting, put_start, put_room, put_more, put_done}
+use Prim.Native.Nat.{◌-◌}
+use lib.ListN.{length}
+use Rattle.pieces.specs.Slots.{piece_of}
+use Rattle.pieces.proofs.Going.{Putting}
 use Rattle.pieces.proofs.put_pieces.Given as goal
 
 abbrev pub invariant-loop-i : goal.invariant-loop-i

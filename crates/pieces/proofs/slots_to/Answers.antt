@@ -1,7 +1,7 @@
 use mathlib.Core.Path.{◌≡◌, ◌∙◌}
 use native.Mathlib.Omega.{arith}
 use lib.ListN.{length, length-set}
-use Rattle.pieces.proofs.Slots.{Walking, walk_start, walk_more, walked, opens, in_links}
+use Rattle.pieces.proofs.Slots.{walk_start, walk_more, walked, opens, in_links}
 use Rattle.pieces.proofs.slots_to.Goals as goal
 
 pub overflow_sub-i : goal.overflow_sub-i

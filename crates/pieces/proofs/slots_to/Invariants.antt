@@ -1,8 +1,5 @@
 -- `pieces::slots_to` meets its contract. The loop's invariant is `Walking`; the measure is the stored answer, which goes down. Assumes nothing.
-use mathlib.Core.Path.{◌≡◌, ◌∙◌}
-use native.Mathlib.Omega.{arith}
-use lib.ListN.{length, length-set}
-use Rattle.pieces.proofs.Slots.{Walking, walk_start, walk_more, walked, opens, in_links}
+use Rattle.pieces.proofs.Slots.{Walking}
 use Rattle.pieces.proofs.slots_to.Given as goal
 
 abbrev pub invariant-loop-at : goal.invariant-loop-at

@@ -1,9 +1,8 @@
-use Prim.Native.Nat.{◌≤◌, ◌-◌}
+use Prim.Native.Nat.{◌-◌}
 use mathlib.Core.Bool.{false≢true}
 use mathlib.Core.Path.{◌≡◌}
 use native.Mathlib.Omega.{arith}
 use borrow.Author.Count.{below_none, below_more}
-use Rattle.quickmeasure.specs.Terms.{Before}
 use Rattle.quickmeasure.proofs.all_before.Goals as goal
 
 pub loop-k-init : goal.loop-k-init

@@ -1,9 +1,5 @@
 -- `quickmeasure::all_before` meets its contract. The loop's invariant: the stages passed lie before the end. Assumes nothing.
 use Prim.Native.Nat.{◌≤◌, ◌-◌}
-use mathlib.Core.Bool.{false≢true}
-use mathlib.Core.Path.{◌≡◌}
-use native.Mathlib.Omega.{arith}
-use borrow.Author.Count.{below_none, below_more}
 use Rattle.quickmeasure.specs.Terms.{Before}
 use Rattle.quickmeasure.proofs.all_before.Given as goal
 

@@ -1,10 +1,7 @@
 -- `quickmeasure::count` meets its contract. The loop's invariant: n counts the stages passed, so that it is at most twice their number. Assumes nothing.
-use Prim.Native.Nat.{suc, ◌≤◌, ◌-◌}
-use mathlib.Core.Path.{◌≡◌, refl}
-use native.Mathlib.Numerals.{add-one}
-use native.Mathlib.Omega.{arith}
+use Prim.Native.Nat.{◌≤◌, ◌-◌}
+use mathlib.Core.Path.{◌≡◌}
 use Rattle.quickmeasure.specs.Counting.{fallen_below}
-use Rattle.quickmeasure.proofs.Asked.{below_most}
 use Rattle.quickmeasure.proofs.count.Given as goal
 
 abbrev pub invariant-loop-k : goal.invariant-loop-k

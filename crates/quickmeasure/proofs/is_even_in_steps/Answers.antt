@@ -1,12 +1,10 @@
-use Prim.Native.Nat.{◌≤◌, ◌-◌}
+use Prim.Native.Nat.{◌-◌}
 use mathlib.Core.Bool.{false≢true}
 use mathlib.Core.Path.{◌≡◌, refl}
 use native.Mathlib.Numerals.{add-one}
 use native.Mathlib.Omega.{arith}
 use borrow.Author.Count.{below_none}
-use Rattle.arclen.specs.Arclen.{tenth}
 use Rattle.quickarclen.specs.Stages.{time_at}
-use Rattle.quickmeasure.specs.Ahead.{square_at, Even}
 use Rattle.quickmeasure.proofs.Even.{one_more}
 use Rattle.quickmeasure.proofs.is_even_in_steps.Goals as goal
 

@@ -1,14 +1,9 @@
 -- `quickmeasure::is_even_in_steps` meets its contract. The loop's invariant: the steps passed are even. Assumes nothing.
 use Prim.Native.Nat.{◌≤◌, ◌-◌}
-use mathlib.Core.Bool.{false≢true}
-use mathlib.Core.Path.{◌≡◌, refl}
-use native.Mathlib.Numerals.{add-one}
-use native.Mathlib.Omega.{arith}
-use borrow.Author.Count.{below_none}
+use mathlib.Core.Path.{◌≡◌}
 use Rattle.arclen.specs.Arclen.{tenth}
 use Rattle.quickarclen.specs.Stages.{time_at}
 use Rattle.quickmeasure.specs.Ahead.{square_at, Even}
-use Rattle.quickmeasure.proofs.Even.{one_more}
 use Rattle.quickmeasure.proofs.is_even_in_steps.Given as goal
 
 abbrev pub invariant-loop-i : goal.invariant-loop-i

@@ -1,12 +1,10 @@
-use Prim.Native.Nat.{◌≤◌, ◌-◌}
-use mathlib.Core.Path.{◌≡◌, sym, ◌∙◌}
+use Prim.Native.Nat.{◌-◌}
+use mathlib.Core.Path.{sym, ◌∙◌}
 use native.Mathlib.Omega.{arith}
-use Rattle.arclen.specs.Arclen.{tenth}
 use Rattle.quickarclen.specs.Stages.{time_at}
-use Rattle.quickmeasure.specs.Terms.{node_of}
 use Rattle.quickmeasure.proofs.Stored.{follows}
 use Rattle.quickmeasure.proofs.Asked.{counted}
-use Rattle.quickmeasure.proofs.Early.{Going, start, more, lost, all_done, over, by_nodes}
+use Rattle.quickmeasure.proofs.Early.{start, more, lost, all_done, over, by_nodes}
 use Rattle.quickmeasure.proofs.judge.Goals as goal
 
 pub node_at-n-requires : goal.node_at-n-requires

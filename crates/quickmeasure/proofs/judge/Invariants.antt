@@ -1,13 +1,10 @@
 -- `quickmeasure::judge` meets its contract. The loop's invariant: e is the error after i steps, and n is the node of the step's start. Assumes nothing.
 use Prim.Native.Nat.{◌≤◌, ◌-◌}
-use mathlib.Core.Path.{◌≡◌, sym, ◌∙◌}
-use native.Mathlib.Omega.{arith}
+use mathlib.Core.Path.{◌≡◌}
 use Rattle.arclen.specs.Arclen.{tenth}
 use Rattle.quickarclen.specs.Stages.{time_at}
 use Rattle.quickmeasure.specs.Terms.{node_of}
-use Rattle.quickmeasure.proofs.Stored.{follows}
-use Rattle.quickmeasure.proofs.Asked.{counted}
-use Rattle.quickmeasure.proofs.Early.{Going, start, more, lost, all_done, over, by_nodes}
+use Rattle.quickmeasure.proofs.Early.{Going}
 use Rattle.quickmeasure.proofs.judge.Given as goal
 
 abbrev pub invariant-loop-i : goal.invariant-loop-i

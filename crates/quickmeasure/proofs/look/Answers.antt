@@ -1,8 +1,7 @@
-use Prim.Native.Nat.{◌≤◌, ◌<◌, ◌-◌}
+use Prim.Native.Nat.{◌<◌, ◌-◌}
 use mathlib.Core.Path.{◌≡◌, sym, ◌∙◌}
 use native.Mathlib.Omega.{arith}
 use lib.ListN.{length, length-set}
-use Rattle.quickmeasure.specs.Terms.{Seen}
 use Rattle.quickmeasure.proofs.Stored.{none, one_more, broken}
 use Rattle.quickmeasure.proofs.look.Goals as goal
 

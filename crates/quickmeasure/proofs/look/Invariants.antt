@@ -1,10 +1,8 @@
 -- `quickmeasure::look` meets its contract. The loop's invariant: what the samples have at the stages passed is written. Assumes nothing.
-use Prim.Native.Nat.{◌≤◌, ◌<◌, ◌-◌}
-use mathlib.Core.Path.{◌≡◌, sym, ◌∙◌}
-use native.Mathlib.Omega.{arith}
-use lib.ListN.{length, length-set}
+use Prim.Native.Nat.{◌≤◌, ◌-◌}
+use mathlib.Core.Path.{◌≡◌}
+use lib.ListN.{length}
 use Rattle.quickmeasure.specs.Terms.{Seen}
-use Rattle.quickmeasure.proofs.Stored.{none, one_more, broken}
 use Rattle.quickmeasure.proofs.look.Given as goal
 
 abbrev pub invariant-loop-k : goal.invariant-loop-k

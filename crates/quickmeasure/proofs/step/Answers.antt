@@ -1,8 +1,8 @@
-use Prim.Native.Nat.{◌≤◌, ◌<◌, ◌-◌}
+use Prim.Native.Nat.{◌<◌, ◌-◌}
 use mathlib.Core.Path.{◌≡◌, refl, sym, ◌∙◌}
 use native.Mathlib.Omega.{arith}
 use lib.ListN.{length, length-set}
-use Rattle.quickmeasure.proofs.Four.{Rated, none_rated, one_rated, step_missing, step_summed}
+use Rattle.quickmeasure.proofs.Four.{none_rated, one_rated, step_missing, step_summed}
 use Rattle.quickmeasure.proofs.step.Goals as goal
 
 pub loop-k-init : goal.loop-k-init

@@ -1,9 +1,8 @@
 -- `quickmeasure::step` meets its contract. The loop's invariant: the rates of the stages passed are known. Assumes nothing.
-use Prim.Native.Nat.{◌≤◌, ◌<◌, ◌-◌}
-use mathlib.Core.Path.{◌≡◌, refl, sym, ◌∙◌}
-use native.Mathlib.Omega.{arith}
-use lib.ListN.{length, length-set}
-use Rattle.quickmeasure.proofs.Four.{Rated, none_rated, one_rated, step_missing, step_summed}
+use Prim.Native.Nat.{◌≤◌, ◌-◌}
+use mathlib.Core.Path.{◌≡◌}
+use lib.ListN.{length}
+use Rattle.quickmeasure.proofs.Four.{Rated}
 use Rattle.quickmeasure.proofs.step.Given as goal
 
 abbrev pub invariant-loop-k : goal.invariant-loop-k

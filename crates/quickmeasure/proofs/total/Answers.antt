@@ -1,9 +1,8 @@
-use Prim.Native.Nat.{◌≤◌, ◌-◌}
+use Prim.Native.Nat.{◌-◌}
 use mathlib.Core.Path.{◌≡◌, refl, ◌∙◌}
 use native.Mathlib.Omega.{arith}
-use Rattle.arclen.specs.Arclen.{tenth}
 use Rattle.quickarclen.specs.Stages.{time_at}
-use Rattle.quickmeasure.specs.Terms.{node_of, term_in, sums_of}
+use Rattle.quickmeasure.specs.Terms.{sums_of}
 use Rattle.quickmeasure.proofs.Laws.{sums_next}
 use Rattle.quickmeasure.proofs.Stored.{starts, middles, follows}
 use Rattle.quickmeasure.proofs.total.Goals as goal

@@ -1,13 +1,10 @@
 -- `quickmeasure::total` meets its contract. The loop's invariant: the error so far is the sum of the terms so far, and n is the node of the step's start.
 -- Assumes nothing.
 use Prim.Native.Nat.{◌≤◌, ◌-◌}
-use mathlib.Core.Path.{◌≡◌, refl, ◌∙◌}
-use native.Mathlib.Omega.{arith}
+use mathlib.Core.Path.{◌≡◌}
 use Rattle.arclen.specs.Arclen.{tenth}
 use Rattle.quickarclen.specs.Stages.{time_at}
 use Rattle.quickmeasure.specs.Terms.{node_of, term_in, sums_of}
-use Rattle.quickmeasure.proofs.Laws.{sums_next}
-use Rattle.quickmeasure.proofs.Stored.{starts, middles, follows}
 use Rattle.quickmeasure.proofs.total.Given as goal
 
 abbrev pub invariant-loop-i : goal.invariant-loop-i

@@ -1,8 +1,6 @@
 use Prim.Native.Nat.{◌-◌}
 use native.Mathlib.Omega.{arith}
-use lib.ListN.{length}
-use Rattle.editions.specs.Editions.{settings_a, settings_b}
-use Rattle.editions.proofs.Going.{Running, running_start, running_few, no_more, all_seen, run_on}
+use Rattle.editions.proofs.Going.{running_start, running_few, no_more, all_seen, run_on}
 use Rattle.editions.proofs.work.crunch_runs.Goals as goal
 
 pub loop-k-init : goal.loop-k-init

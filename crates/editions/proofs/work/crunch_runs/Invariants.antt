@@ -1,9 +1,8 @@
 -- `editions::work::crunch_runs` meets its contract: the law of proofs/Going.antt for each edition. Assumes nothing.
 use Prim.Native.Nat.{◌-◌}
-use native.Mathlib.Omega.{arith}
 use lib.ListN.{length}
 use Rattle.editions.specs.Editions.{settings_a, settings_b}
-use Rattle.editions.proofs.Going.{Running, running_start, running_few, no_more, all_seen, run_on}
+use Rattle.editions.proofs.Going.{Running}
 use Rattle.editions.proofs.work.crunch_runs.Given as goal
 
 abbrev pub invariant-loop-k : goal.invariant-loop-k

@@ -1,10 +1,9 @@
 use Prim.Native.Nat.{◌-◌}
 use native.Mathlib.Omega.{arith}
-use mathlib.Core.Path.{◌≡◌, refl}
+use mathlib.Core.Path.{refl}
 use borrow.Author.Rules.{rules}
-use lib.ListN.{length, replicate}
 use lib.IntN.{pos}
-use Rattle.rows.proofs.Filled.{Filled, blank_start, blank_more, blank_all}
+use Rattle.rows.proofs.Filled.{blank_start, blank_more, blank_all}
 use Rattle.glyphs.proofs.clear.clear_i16.Goals as goal
 
 pub loop-i-init : goal.loop-i-init

@@ -1,10 +1,8 @@
 -- `glyphs::clear::clear_u8` meets its contract, by the law of rows/proofs/Filled.antt. Assumes nothing.
 use Prim.Native.Nat.{◌-◌}
-use native.Mathlib.Omega.{arith}
-use mathlib.Core.Path.{◌≡◌, refl}
-use borrow.Author.Rules.{rules}
+use mathlib.Core.Path.{◌≡◌}
 use lib.ListN.{length, replicate}
-use Rattle.rows.proofs.Filled.{Filled, blank_start, blank_more, blank_all}
+use Rattle.rows.proofs.Filled.{Filled}
 use Rattle.glyphs.proofs.clear.clear_u8.Given as goal
 
 abbrev pub invariant-loop-i : goal.invariant-loop-i

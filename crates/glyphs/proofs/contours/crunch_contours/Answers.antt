@@ -1,11 +1,8 @@
 use Prim.Native.Nat.{ℕ, ◌+◌, ◌-◌}
 use native.Mathlib.Omega.{arith}
-use mathlib.Core.Path.{◌≡◌, refl, ap, ◌∙◌}
-use lib.ListN.{length}
-use Rattle.rows.specs.Rows.{work}
+use mathlib.Core.Path.{refl, ap, ◌∙◌}
 use Rattle.edition.specs.Edition.{Rooms}
-use Rattle.edition.specs.Scratch.{rooms_of}
-use Rattle.glyphs.proofs.Going.{Going, start, part, in_points, refuses, fits_after, again, ended}
+use Rattle.glyphs.proofs.Going.{start, part, in_points, refuses, fits_after, again, ended}
 use Rattle.glyphs.proofs.contours.crunch_contours.Goals as goal
 
 pub loop-k-init : goal.loop-k-init

@@ -1,13 +1,11 @@
 -- `glyphs::contours::crunch_contours` meets its contract. Assumes nothing.
 -- the rows that runs are worked in are as long as they were; and the contours so far
-use Prim.Native.Nat.{ℕ, ◌+◌, ◌-◌}
-use native.Mathlib.Omega.{arith}
-use mathlib.Core.Path.{◌≡◌, refl, ap, ◌∙◌}
+use Prim.Native.Nat.{◌-◌}
+use mathlib.Core.Path.{◌≡◌}
 use lib.ListN.{length}
 use Rattle.rows.specs.Rows.{work}
-use Rattle.edition.specs.Edition.{Rooms}
 use Rattle.edition.specs.Scratch.{rooms_of}
-use Rattle.glyphs.proofs.Going.{Going, start, part, in_points, refuses, fits_after, again, ended}
+use Rattle.glyphs.proofs.Going.{Going}
 use Rattle.glyphs.proofs.contours.crunch_contours.Given as goal
 
 abbrev pub invariant-loop-k : goal.invariant-loop-k

@@ -1,6 +1,6 @@
 use Prim.Native.Nat.{◌-◌}
 use native.Mathlib.Omega.{arith}
-use Rattle.measure.proofs.Steps.{Walking, sets_out, steps_on, stops_here_lem, arrives}
+use Rattle.measure.proofs.Steps.{sets_out, steps_on, stops_here_lem, arrives}
 use Rattle.measure.proofs.MeasureFunctor.walk.Goals as goal
 
 pub loop-i-init : goal.loop-i-init

@@ -1,7 +1,6 @@
 -- `measure::MeasureFunctor::walk` meets its contract. The loop's invariant is `Walking`; the measure is the steps left. Assumes nothing.
 use Prim.Native.Nat.{◌-◌}
-use native.Mathlib.Omega.{arith}
-use Rattle.measure.proofs.Steps.{Walking, sets_out, steps_on, stops_here_lem, arrives}
+use Rattle.measure.proofs.Steps.{Walking}
 use Rattle.measure.proofs.MeasureFunctor.walk.Given as goal
 
 abbrev pub invariant-loop-i : goal.invariant-loop-i

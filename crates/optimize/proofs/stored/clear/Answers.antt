@@ -1,11 +1,11 @@
-use Prim.Native.Nat.{ℕ, ◌-◌, ◌≤◌, ◌<◌}
+use Prim.Native.Nat.{ℕ, ◌-◌, ◌<◌}
 use mathlib.Core.List.{List}
 use mathlib.Core.Path.{◌≡◌, sym}
 use native.Mathlib.Nat.{le_refl}
 use native.Mathlib.Omega.{arith}
 use lib.ListN.{take, replicate, length-replicate, get_or-replicate}
 use lib.Seq.{take_all}
-use Rattle.rows.proofs.Filled.{Filled, start, more, filled}
+use Rattle.rows.proofs.Filled.{start, more, filled}
 use Rattle.optimize.proofs.stored.clear.Goals as goal
 
 pub loop-i-init : goal.loop-i-init

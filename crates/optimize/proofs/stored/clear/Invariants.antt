@@ -1,12 +1,7 @@
 -- `optimize::stored::clear` meets its contract. The loop's invariant: as many links as turns are those of n zeros. Assumes nothing.
-use Prim.Native.Nat.{ℕ, ◌-◌, ◌≤◌, ◌<◌}
-use mathlib.Core.List.{List}
-use mathlib.Core.Path.{◌≡◌, sym}
-use native.Mathlib.Nat.{le_refl}
-use native.Mathlib.Omega.{arith}
-use lib.ListN.{take, replicate, length-replicate, get_or-replicate}
-use lib.Seq.{take_all}
-use Rattle.rows.proofs.Filled.{Filled, start, more, filled}
+use Prim.Native.Nat.{◌-◌, ◌≤◌}
+use lib.ListN.{replicate}
+use Rattle.rows.proofs.Filled.{Filled}
 use Rattle.optimize.proofs.stored.clear.Given as goal
 
 abbrev pub invariant-loop-i : goal.invariant-loop-i
