@@ -1,6 +1,5 @@
 // The published sum of a chain whose shape is good.
 ghost use Rattle.std.specs.Prelude.{◌≡◌, true, ◌-◌, ◌<◌, ◌≤◌, length};
-ghost use Rattle.rows.specs.Lent.{before};
 ghost use Rattle.chain.specs.Valid.{joint_of, joined, sum_of, chain_in, even_rows};
 ghost use Rattle.chain.specs.Fallen.{fallen_of_sum};
 

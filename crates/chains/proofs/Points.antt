@@ -1,5 +1,5 @@
 -- The points of a contour that comes out are those of its runs' chains: `PointsAreChains` of specs/Points. Assumes nothing.
-use Prim.Native.Nat.{ℕ, zero, suc, ◌+◌, ◌≤◌, ◌<◌}
+use Prim.Native.Nat.{ℕ, zero, suc, ◌+◌, ◌<◌}
 use native.Mathlib.Omega.{arith}
 use mathlib.Core.Bool.{Bool, true, false}
 use mathlib.Core.List.{List, [], ◌∷◌, ◌++◌, append_assoc, append-nil}
@@ -9,10 +9,8 @@ use lib.Dec.{ltb}
 use lib.IntN.{ℤ}
 use lib.ListN.{length, get_or}
 use Rattle.refusals.specs.declared.Judged.{Judged}
-use Rattle.refusals.specs.declared.Judged.TheVariants as Judged
 use Rattle.outline.specs.Segments.{start_of, seg_at}
 use Rattle.runs.specs.Runs.{Span, between, stops_of, runs_of, run_at, is_copied, unless_copied, numbered_run}
-use Rattle.runs.specs.declared.Run.{Run}
 use Rattle.runs.specs.declared.Run.TheVariants.{Between}
 use Rattle.settings.specs.Settings.{grid_of, penalty_of, judged_for}
 use Rattle.settings.specs.declared.Settings.{Settings}
@@ -30,12 +28,11 @@ use Rattle.pieces.specs.Slots.{quads_of}
 use Rattle.pieces.proofs.Drawn.{quads_drawn}
 use Rattle.pieces.proofs.Accepted.{accepted_any}
 use Rattle.assembly.specs.Assembly.{State, added, closed_up, itself, result_of, run_if, after_run, crunch_all, crunch_in, crunch_runs}
-use Rattle.assembly.specs.Assembly as State
 use Rattle.assembly.specs.Laws.{stays_refused, stays_ended}
-use Rattle.crunch.specs.Crunch.{Outcome, refused, crunched, over_if, outcome_of, after_judging, crunch_of}
+use Rattle.crunch.specs.Crunch.{crunched, over_if, outcome_of, after_judging, crunch_of}
 use Rattle.chains.specs.Chains as Chains
 use Rattle.chains.specs.Chains.{of_run, chain_out, chain_of}
-use Rattle.chains.specs.Points.{all_of, Adds, by_chain, by_copy, joined_in, Left, by_run, no_corner, OfRuns, ComesOut, of_runs, left, PointsAreChains}
+use Rattle.chains.specs.Points.{all_of, Adds, by_chain, by_copy, joined_in, Left, by_run, no_corner, ComesOut, of_runs, left, PointsAreChains}
 
 module _ (rooms : Rooms) (settings : Settings) (xs ys : List ℤ) (fs : List ℕ) (fine : judged_for settings xs ys fs ≡ Judged.Fine) where
   abbrev runs : List Span

@@ -6,7 +6,7 @@ use native.Mathlib.Omega.{arith}
 use mathlib.Core.Bool.{Bool, true, false, ◌&&◌, true≢false}
 use mathlib.Core.List.{List, [], ◌∷◌}
 use mathlib.Core.Logic.{◌⊎◌, inl, inr}
-use mathlib.Core.Path.{◌≡◌, refl, sym, ap, ◌∙◌, subst}
+use mathlib.Core.Path.{◌≡◌, refl, sym, ap, subst}
 use borrow.Author.Tests.{ltb-true, ltb-false, eqb-true, leb-true}
 use lib.Dec.{T, eqb, ltb, leb}
 use lib.IntN.{ℤ}
@@ -18,14 +18,12 @@ use lib.Ieee.Positive.{through}
 use Rattle.float.specs.Numbers.{nought}
 use Rattle.float.proofs.NotNegative.{NotNegative, no_number, endless, number}
 use Rattle.float.proofs.Nearly.{at_most}
-use Rattle.breaks.specs.Breaks.{Row, break_at}
-use Rattle.chain.specs.Valid.{leads, stays, joined}
+use Rattle.breaks.specs.Breaks.{break_at}
+use Rattle.chain.specs.Valid.{leads, joined}
 use Rattle.chain.specs.declared.Piece.{Piece}
-use Rattle.outline.specs.Segments.{start_of, end_of, seg_from, count_of}
-use Rattle.runs.specs.Runs.{numbered_run}
-use Rattle.runs.specs.declared.Run.TheVariants.{Between}
+use Rattle.outline.specs.Segments.{start_of, end_of, count_of}
 use Rattle.runs.proofs.Strict.{run_has_segments}
-use Rattle.samples.specs.Samples.{quad_of, quads_from, length_after}
+use Rattle.samples.specs.Samples.{quads_from}
 use Rattle.segments.specs.Laws.{held_few, ends_few}
 use Rattle.segments.specs.Segments.{ends_from, ends_of, first_holding, here_if, place_in, round_if, number_of}
 use Rattle.survey.proofs.Along.{lies, lengths_plus, lengths_rising}
@@ -33,7 +31,7 @@ use Rattle.survey.proofs.Speeds.{Size, after_size}
 use Rattle.survey.proofs.Speeds as Speeds
 use Rattle.survey.specs.Never.{Sixteen}
 use Rattle.settings.specs.Settings.{grid_of}
-use Rattle.chains.specs.Replaced.{place_of, InRun, BreaksInRun, Rising, none, next, SpansRise}
+use Rattle.chains.specs.Replaced.{place_of, BreaksInRun, Rising, none, next, SpansRise}
 use Rattle.chains.proofs.Own.{breaks_carry}
 
 -- ---- floats that are not negative, in order

@@ -20,7 +20,6 @@ use Rattle.attempt.specs.Answers.{Statelet, score_of}
 use Rattle.optimize.specs.declared.Tally.{Tally}
 use Rattle.pieces.specs.Pieces.{pieces_of}
 use Rattle.refusals.specs.declared.Judged.{Judged}
-use Rattle.refusals.specs.declared.Judged.TheVariants as Judged
 use Rattle.chains.specs.Chains.{Outcome, refused, unchanged, chained, over_if, chain_out, of_run, after_judging, chain_of}
 
 abbrev is_chained : Outcome → ℕ

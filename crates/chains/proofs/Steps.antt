@@ -12,7 +12,6 @@ use lib.ListN.{length, get_or, take}
 use Rattle.refusals.specs.Accepted.{accepted}
 use Rattle.refusals.specs.Refusals.{judged}
 use Rattle.refusals.specs.declared.Judged.{Judged}
-use Rattle.refusals.specs.declared.Judged.TheVariants as Judged
 use Rattle.runs.specs.Runs.{numbered_run}
 use Rattle.runs.specs.declared.Run.{Run}
 use Rattle.runs.specs.declared.Run.TheVariants.{Between}

@@ -1,7 +1,6 @@
 -- The optimiser's chain of one run of a contour, given how many places the rows have. Definitions only.
 use Rattle.std.specs.Prelude.{ℕ, Bool, true, false, List, ltb, Float, ℤ, length}
 use Rattle.refusals.specs.declared.Judged.{Judged}
-use Rattle.refusals.specs.declared.Judged.TheVariants as Judged
 use Rattle.runs.specs.declared.Run.{Run}
 use Rattle.runs.specs.declared.Run.TheVariants.{Between, Nothing}
 use Rattle.runs.specs.Runs.{numbered_run}

@@ -11,7 +11,6 @@ use lib.IntN.{ℤ}
 use lib.ListN.{length}
 use Rattle.refusals.specs.Refusals.{refuse, judged, rows_differ, no_point, too_many, first_off, off_neighbours}
 use Rattle.refusals.specs.declared.Judged.{Judged}
-use Rattle.refusals.specs.declared.Judged.TheVariants as Judged
 use Rattle.runs.specs.declared.Run.{Run}
 use Rattle.runs.specs.declared.Run.TheVariants.{Between, Nothing}
 use Rattle.runs.specs.Runs.{numbered_run}
@@ -31,7 +30,6 @@ use Rattle.chain.specs.Laws.{refuses_exactly}
 use Rattle.chain.specs.Rule.{Valid}
 use Rattle.chain.proofs.Rule.{valid_exactly}
 use Rattle.chain.specs.declared.Checked.{Checked}
-use Rattle.chain.specs.declared.Checked.TheVariants as Checked
 use Rattle.rows.specs.Scratch.{Rooms, answer_room, rooms_of}
 use Rattle.checks.specs.Checks.{GivenChain, verdict_of, unless_short, of_survey, of_run, after_judging}
 use Rattle.checks.specs.Checks as Checks

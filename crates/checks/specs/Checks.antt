@@ -1,18 +1,15 @@
 -- Demand 3 for one run of a contour: what the checker says of a chain, given how many places the scratch rows have. Definitions only.
 use Rattle.std.specs.Prelude.{ℕ, Bool, true, false, List, ltb, Float, ℤ, length}
 use Rattle.refusals.specs.declared.Judged.{Judged}
-use Rattle.refusals.specs.declared.Judged.TheVariants as Judged
 use Rattle.runs.specs.declared.Run.{Run}
 use Rattle.runs.specs.declared.Run.TheVariants.{Between, Nothing}
 use Rattle.runs.specs.Runs.{numbered_run}
 use Rattle.settings.specs.Settings.{grid_of, penalty_of, judged_for}
 use Rattle.settings.specs.declared.Settings.{Settings}
 use Rattle.survey.specs.Survey.{Survey, survey_of}
-use Rattle.survey.specs.Survey as Survey
 use Rattle.chain.specs.Valid.{check_rows}
 use Rattle.chain.specs.Fallen.{fallen_rows}
 use Rattle.chain.specs.declared.Checked.{Checked}
-use Rattle.chain.specs.declared.Checked.TheVariants as Checked
 use Rattle.rows.specs.Scratch.{Rooms, answer_room}
 use Rattle.checks.specs.declared.Verdict as D
 use Rattle.checks.specs.declared.Verdict.TheVariants as Verdict

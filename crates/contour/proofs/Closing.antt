@@ -13,7 +13,7 @@ use lib.Seq.{length-take-le, take-append-le, take_all}
 use Rattle.outline.specs.Segments.{on_at}
 use Rattle.contour.specs.declared.Written.{Written}
 use Rattle.contour.specs.Points.{Points, point_as, came_to, around}
-use Rattle.contour.specs.Writing.{so, over, written, extended, writing_in, Wrote, Closed}
+use Rattle.contour.specs.Writing.{so, written, extended, writing_in, Wrote, Closed}
 use Rattle.contour.specs.Laws.{nothing_written, wrote_after, wrote_over, wrote_all, holds_count}
 
 -- ---- the first k points as they came, in a row of so many places

@@ -1,11 +1,11 @@
 -- The statements of specs/Kept, by the walk of proofs/Walk. Assumes nothing.
-use Prim.Native.Nat.{ℕ, zero, suc, ◌+◌, ◌-◌, ◌%◌, ◌<◌, ◌≤◌}
+use Prim.Native.Nat.{ℕ, suc, ◌+◌, ◌-◌, ◌%◌, ◌<◌}
 use mathlib.Core.Bool.{Bool, true, false, not, cond, ◌&&◌, false≢true}
 use mathlib.Core.List.{List, [], ◌∷◌, ◌++◌, append-nil, append_assoc, map, reverse, reverse-cons, reverse-reverse}
 use mathlib.Core.Path.{◌≡◌, refl, sym, ap, subst, ◌∙◌}
 use native.Mathlib.Nat.{mod-eq_of_lt, mod_self}
 use native.Mathlib.Omega.{arith}
-use lib.IntN.{ℤ, pos, ◌+ℤ◌}
+use lib.IntN.{ℤ, pos}
 use lib.ListN.{length, get_or, take, drop, length-append, length-drop}
 use lib.Seq.{append_snoc, drop-drop, get_or-drop, get_or_at}
 use Rattle.refusals.specs.Refusals.{judged}
@@ -14,15 +14,14 @@ use Rattle.rows.specs.Sixteen.{SixteenBits}
 use Rattle.geometry.specs.declared.Quad.{Quad}
 use Rattle.geometry.specs.Geometry.{is_line}
 use Rattle.outline.specs.declared.Seg.{Seg}
-use Rattle.outline.specs.declared.Seg.TheVariants as Seg
 use Rattle.outline.specs.declared.Seg.TheVariants.{Line}
 use Rattle.outline.specs.Segments.{point}
 use Rattle.refusals.specs.Accepted.{Accepted, accepted}
-use Rattle.contour.specs.Points.{Points, on_point, off_point, points_of, piece_if, piece_points, pieces_points, flag_if, start_point, unchanged_in, around}
+use Rattle.contour.specs.Points.{Points, on_point, off_point, points_of, piece_if, piece_points, pieces_points, start_point, unchanged_in, around}
 use Rattle.contour.specs.Implied.{number, off_curve, midway_in, is_implied, implied_at, drop_from, finished}
-use Rattle.contour.specs.Standard.{Midpoint, AtMidpoint}
+use Rattle.contour.specs.Standard.{AtMidpoint}
 use Rattle.contour.specs.Unchanged.{as_uploaded}
-use Rattle.contour.specs.Kept.{StartStays, StartsOn, OnBothEnds, StartsOnCurve, CratesRows, doubled, middle_doubled, only_if, between, traced, outline_of, WholeOutlineKept, WholeMidpoint, Round, ends, goes, point_at, Next, Stay, NoHalfPoint, NotBothOff, WholeIfOff, Neighbours, AllWhole}
+use Rattle.contour.specs.Kept.{StartStays, StartsOn, OnBothEnds, StartsOnCurve, CratesRows, doubled, between, traced, outline_of, WholeOutlineKept, WholeMidpoint, Round, ends, goes, point_at, Next, NoHalfPoint, NotBothOff, WholeIfOff, Neighbours, AllWhole}
 use Rattle.contour.proofs.Dropping.{keeps}
 use Rattle.contour.proofs.Standard.{implied_at_midpoint}
 use Rattle.contour.proofs.Came.{in_crates_mode, in_closed_mode_lem}

@@ -1,12 +1,12 @@
 -- Dropping from place 1 on, as a walk along the points after the first: each is looked at with the one that stayed before it. Assumes nothing.
-use Prim.Native.Nat.{ℕ, zero, suc, ◌+◌, ◌%◌, ◌<◌, ◌≤◌}
+use Prim.Native.Nat.{ℕ, ◌+◌, ◌%◌, ◌<◌}
 use mathlib.Core.Bool.{Bool, true, false, cond}
 use mathlib.Core.List.{List, [], ◌∷◌, ◌++◌}
 use mathlib.Core.Path.{◌≡◌, refl, sym, ap, ◌∙◌}
 use native.Mathlib.Nat.{mod-eq_of_lt, mod_self}
 use native.Mathlib.Omega.{arith}
 use lib.IntN.{ℤ}
-use lib.ListN.{length, get_or, take, drop, length-append, get_or-append}
+use lib.ListN.{length, get_or, length-append, get_or-append}
 use lib.Seq.{append_snoc, take-append_seam, drop-append-add, get_or-append_seam, get_or-append-add, get_or_at}
 use Rattle.contour.specs.Points.{Points}
 use Rattle.contour.specs.Implied.{implied_at, removed, drop_from}

@@ -1,7 +1,7 @@
 -- Implied points by OpenType, for a reader: between two off-curve points that follow each other an on-curve point is implied at their midpoint.
 -- Each statement is a type here, and a theorem of proofs/Standard is of that type: `tests_agree`, `implied_at_midpoint`, `midpoint_implied`,
 -- `outline_kept`. Definitions and statements only.
-use Rattle.std.specs.Prelude.{ℕ, ◌+◌, ◌%◌, ◌^◌, ◌<◌, true, false, List, [], ◌∷◌, ◌++◌, ◌≡◌, ℤ, pos, ◌+ℤ◌, length, get_or, take, drop}
+use Rattle.std.specs.Prelude.{ℕ, ◌%◌, ◌^◌, ◌<◌, true, false, List, [], ◌∷◌, ◌++◌, ◌≡◌, ℤ, pos, ◌+ℤ◌, length, get_or, take, drop}
 use Rattle.std.specs.Int.Signed.{mag, quot_z}
 use Rattle.outline.specs.Segments.{previous}
 use Rattle.contour.specs.Points.{Points}

@@ -11,7 +11,6 @@ use lib.ListN.{length}
 use Rattle.geometry.specs.declared.Quad.{Quad}
 use Rattle.refusals.specs.Refusals.{refuse, judged}
 use Rattle.refusals.specs.declared.Judged.{Judged}
-use Rattle.refusals.specs.declared.Judged.TheVariants as Judged
 use Rattle.outline.specs.declared.Seg.{Seg}
 use Rattle.outline.specs.Segments.{seg_at, start_of}
 use Rattle.runs.specs.Runs.{Span, between, stops_of, is_copied}
@@ -25,9 +24,7 @@ use Rattle.contour.specs.Points.{Points, points_of, pieces_points, point_as, sta
 use Rattle.contour.specs.Implied.{finished}
 use Rattle.pieces.specs.Slots.{quads_of}
 use Rattle.assembly.specs.Assembly.{State, ended, going, added, closed_up, itself, run_if, result_of, after_run, onward, crunch_all, crunch_round, crunch_in, crunch_runs}
-use Rattle.assembly.specs.Assembly as State
 use Rattle.crunch.specs.Crunch.{Outcome, crunched, over_if, outcome_of, after_judging, crunch_of}
-use Rattle.crunch.specs.Crunch as Outcome
 
 -- ---- along the runs
 

@@ -8,7 +8,6 @@ use lib.IntN.{ℤ}
 use lib.ListN.{length}
 use Rattle.outline.specs.Segments.{start_of}
 use Rattle.refusals.specs.declared.Judged.{Judged}
-use Rattle.refusals.specs.declared.Judged.TheVariants as Judged
 use Rattle.runs.specs.Runs.{Span, between, stops_of, is_copied}
 use Rattle.runs.specs.declared.Run.TheVariants.{Between}
 use Rattle.settings.specs.Settings.{grid_of, penalty_of, judged_for}

@@ -12,10 +12,8 @@ use Rattle.geometry.specs.Geometry.{is_line}
 use Rattle.refusals.specs.Refusals.{is_on, both_off, too_many, first_off, off_neighbours, refuse, judged}
 use Rattle.refusals.specs.Accepted.{Accepted, accepted}
 use Rattle.refusals.specs.declared.Judged.{Judged}
-use Rattle.refusals.specs.declared.Judged.TheVariants as Judged
 use Rattle.outline.specs.declared.Seg.{Seg}
-use Rattle.outline.specs.declared.Seg.TheVariants as Seg
-use Rattle.outline.specs.Segments.{point, count_of, start_of, seg_at}
+use Rattle.outline.specs.Segments.{count_of, start_of, seg_at}
 use Rattle.runs.specs.Runs.{corner_list, going_round, stops_of}
 use Rattle.settings.specs.declared.Settings.{Settings}
 use Rattle.optimize.specs.declared.Tally.{Tally}
@@ -31,7 +29,6 @@ use Rattle.assembly.specs.Assembly.{State, ended, crunch_runs}
 use Rattle.crunch.specs.Crunch.{crunched, crunch_of}
 use Rattle.crunch.specs.Written.{StartsAt, the_corner, FirstPoint, judged_again, CanComeBack, ComesBack, OutlineIs, OutlineWritten, NoHalfPointWritten}
 use Rattle.crunch.specs.Written as Written
-use Rattle.crunch.proofs.Along as Along
 use Rattle.crunch.proofs.Along.{Along, Carried, runs_along, From, stopped, went, came_fine, came_from, comes_out}
 
 -- ---- closed mode: where it starts

@@ -1,7 +1,6 @@
 -- The whole: what becomes of a contour, given how many places the rows have and what the caller chooses. Definitions only.
 use Rattle.std.specs.Prelude.{ℕ, Bool, true, false, List, ltb, ℤ, length}
 use Rattle.refusals.specs.declared.Judged.{Judged}
-use Rattle.refusals.specs.declared.Judged.TheVariants as Judged
 use Rattle.settings.specs.Settings.{judged_for}
 use Rattle.settings.specs.declared.Settings.{Settings}
 use Rattle.optimize.specs.declared.Tally.{Tally}
@@ -9,7 +8,6 @@ use Rattle.edition.specs.Edition.{Rooms}
 use Rattle.contour.specs.Points.{Points}
 use Rattle.contour.specs.Implied.{finished}
 use Rattle.assembly.specs.Assembly.{State, crunch_runs}
-use Rattle.assembly.specs.Assembly as State
 
 -- the number of a refusal; or the points out, the pairs tried and the lookups that fell in them
 pub data Outcome : Type 0 where

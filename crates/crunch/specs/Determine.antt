@@ -4,7 +4,7 @@ use Rattle.std.specs.Prelude.{ℕ, min, List, [], ◌≡◌, refl, ℤ, length, 
 use Rattle.std.proofs.Common.{le_refl, sym, ap, ◌∙◌}
 use Rattle.std.proofs.lemmas.List.{length-map, take-append-le}
 use Rattle.std.proofs.Math.Seq.{take-length}
-use Rattle.rows.specs.Rows.{work, point_zero}
+use Rattle.rows.specs.Rows.{point_zero}
 use Rattle.rows.specs.Lent.{Inputs, inputs}
 use Rattle.settings.specs.declared.Settings.{Settings}
 use Rattle.contour.specs.Implied.{number}

@@ -8,7 +8,6 @@ use mathlib.Core.List.{List, [], ◌∷◌}
 use Rattle.std.proofs.Math.Path.{refl, ap}
 use Rattle.std.proofs.Math.Dec.{eqb}
 use Rattle.refusals.specs.declared.Judged.{Judged}
-use Rattle.refusals.specs.declared.Judged.TheVariants as Judged
 use Rattle.rows.specs.Lent.{Inputs, inputs}
 use Rattle.runs.specs.Runs.{Span, between, stops_of, is_copied}
 use Rattle.runs.specs.declared.Run.TheVariants.{Between}
@@ -24,9 +23,7 @@ use Rattle.contour.specs.Points.{Points}
 use Rattle.contour.specs.Laws.{finished_shorter}
 use Rattle.assembly.specs.Assembly.{State, ended, going, added, closed_up, itself, result_of, run_if, after_run, onward}
 use Rattle.assembly.specs.Assembly.{crunch_all, crunch_round, crunch_in, crunch_runs}
-use Rattle.assembly.specs.Assembly as State
 use Rattle.crunch.specs.Crunch.{Outcome, crunched, over_if, outcome_of, after_judging, crunch_of}
-use Rattle.crunch.specs.Crunch as Outcome
 use Rattle.crunch.specs.Entry.{report, answer_of, Rows, point_room, whole_of}
 
 -- how many points are written

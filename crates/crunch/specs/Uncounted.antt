@@ -3,7 +3,6 @@
 use Rattle.std.specs.Prelude.{ℕ, ◌+◌, Bool, true, false, List, [], ◌∷◌, ◌++◌, ◌≡◌, ltb, ℤ, length}
 use Rattle.outline.specs.Segments.{start_of, seg_at}
 use Rattle.refusals.specs.declared.Judged.{Judged}
-use Rattle.refusals.specs.declared.Judged.TheVariants as Judged
 use Rattle.runs.specs.Runs.{Span, between, stops_of, is_copied}
 use Rattle.runs.specs.declared.Run.TheVariants.{Between}
 use Rattle.settings.specs.Settings.{grid_of, penalty_of, judged_for}

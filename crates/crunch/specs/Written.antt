@@ -3,7 +3,6 @@
 use Rattle.std.specs.Prelude.{ℕ, true, List, [], ◌∷◌, ◌≡◌, ℤ, take}
 use Rattle.refusals.specs.Refusals.{judged}
 use Rattle.refusals.specs.declared.Judged.{Judged}
-use Rattle.refusals.specs.declared.Judged.TheVariants as Judged
 use Rattle.outline.specs.Segments.{start_of}
 use Rattle.runs.specs.Runs.{corner_list}
 use Rattle.settings.specs.declared.Settings.{Settings}

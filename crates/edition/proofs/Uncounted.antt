@@ -8,7 +8,6 @@ use lib.ListN.{length}
 use Rattle.optimize.specs.Optimize.{Optimised, measure_by, optimize_of}
 use Rattle.optimize.specs.Optimize as O
 use Rattle.survey.specs.Survey.{Survey, survey_of}
-use Rattle.survey.specs.Survey as Survey
 use Rattle.edition.specs.Edition.{answer_room, fell_in, edition_of}
 use Rattle.edition.specs.Edition as Counted
 use Rattle.edition.specs.Uncounted.{result_of, unless_short, after_survey, without, CountingChangesNothing}

@@ -12,7 +12,6 @@ use Rattle.optimize.specs.Stored.{Anywhere, Holds}
 use Rattle.optimize.specs.Tally.{tally, untried}
 use Rattle.optimize.specs.declared.Tally.{Tally}
 use Rattle.survey.specs.Survey.{Survey, survey_of}
-use Rattle.survey.specs.Survey as Survey
 pub use Rattle.survey.specs.Laws.{FoundBreaks}
 use Rattle.edition.specs.declared.Worked as W
 use Rattle.edition.specs.declared.Worked.TheVariants as Worked

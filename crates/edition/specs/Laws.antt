@@ -19,7 +19,6 @@ use Rattle.optimize.specs.Optimize as O
 use Rattle.survey.specs.Laws.{survey_same}
 pub use Rattle.survey.specs.Laws.{surveyed_found, found_rows, in_row}
 use Rattle.survey.specs.Survey.{Survey, survey_of}
-use Rattle.survey.specs.Survey as Survey
 use Rattle.optimize.specs.Tally.{untried}
 use Rattle.optimize.specs.declared.Tally.{Tally}
 use Rattle.edition.specs.Edition.{Result, refused, unchanged, solved, answer_room, result_of, fell_in, unless_short, edition_of}

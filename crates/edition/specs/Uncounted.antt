@@ -6,7 +6,6 @@ use Rattle.attempt.specs.Answers.{Statelet}
 use Rattle.optimize.specs.Optimize.{Optimised, measure_by, optimize_of}
 use Rattle.optimize.specs.Optimize as O
 use Rattle.survey.specs.Survey.{Survey, survey_of}
-use Rattle.survey.specs.Survey as Survey
 use Rattle.edition.specs.Edition.{answer_room, Rooms}
 use Rattle.edition.specs.Edition as Counted
 

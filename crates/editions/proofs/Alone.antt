@@ -9,7 +9,6 @@ use lib.ListN.{length, get_or}
 use Rattle.outline.specs.Segments.{start_of}
 use Rattle.refusals.specs.Refusals.{judged, refuse}
 use Rattle.refusals.specs.declared.Judged.{Judged}
-use Rattle.refusals.specs.declared.Judged.TheVariants as Judged
 use Rattle.runs.specs.Runs.{between, stops_of}
 use Rattle.settings.specs.Settings.{settings_fine, then_settings, judged_for}
 use Rattle.settings.specs.declared.Settings.{Settings}
@@ -26,7 +25,6 @@ use Rattle.assembly.specs.Stands as S
 use Rattle.assembly.specs.declared.Crunching as C
 use Rattle.assembly.specs.declared.Crunching.TheVariants as Crunching
 use Rattle.crunch.specs.Crunch.{Outcome, outcome_of, after_judging, crunch_of}
-use Rattle.crunch.specs.Crunch as Outcome
 use Rattle.crunch.specs.Stands.{Gives, no}
 use Rattle.crunch.specs.declared.Crunched as D
 use Rattle.crunch.specs.declared.Crunched.TheVariants as Crunched

@@ -21,7 +21,6 @@ use Rattle.samples.specs.Samples as Samples
 use Rattle.settings.specs.Settings.{grid_of, penalty_of, settings_fine}
 use Rattle.settings.specs.declared.Settings.{Settings}
 use Rattle.survey.specs.Survey.{Survey, sample_room, break_room, searched, after_sampling, survey_of}
-use Rattle.survey.specs.Survey as Survey
 use Rattle.optimize.specs.Optimize.{measure_by, optimize_of}
 use Rattle.optimize.specs.declared.Tally.{Tally}
 use Rattle.edition.specs.Edition.{Result, Rooms, answer_room, unless_short, edition_of, after_survey, fell_in}

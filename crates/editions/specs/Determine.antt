@@ -6,13 +6,11 @@ use Rattle.rows.specs.Lent.{Inputs}
 use Rattle.contour.specs.Output.{Outputs}
 use Rattle.settings.specs.declared.Settings.{Settings}
 use Rattle.crunch.specs.Crunch.{Outcome}
-use Rattle.crunch.specs.Crunch as Outcome
 use Rattle.crunch.specs.Entry.{answer_of, outputs_of, whole_of}
 use Rattle.crunch.specs.Entry as Crunch
 use Rattle.crunch.specs.Determine.{Same, Alike, Equal}
 use Rattle.crunch.specs.Determine as Alone
 use Rattle.crunch.specs.declared.Crunched.{Crunched}
-use Rattle.crunch.specs.declared.Crunched.TheVariants as Crunched
 use Rattle.editions.specs.Entry.{Rows, LentRows, rows_a, rows_b, Promise}
 use Rattle.editions.specs.declared.entry.Editions.{Editions}
 use Rattle.editions.specs.declared.work.Order.{Order}

@@ -12,7 +12,6 @@ use Rattle.samples.specs.Samples as Samples
 use Rattle.settings.specs.Settings.{grid_by, penalty_of, settings_fine}
 use Rattle.settings.specs.declared.Settings.{Settings}
 use Rattle.survey.specs.Survey.{Survey, sample_room, break_room, survey_of}
-use Rattle.survey.specs.Survey as Survey
 use Rattle.optimize.specs.Optimize.{Optimised, measure_by, optimize_of}
 use Rattle.optimize.specs.Optimize as O
 use Rattle.optimize.specs.declared.Tally.{Tally}
@@ -25,9 +24,8 @@ use Rattle.crunch.specs.Crunch.{outcome_of}
 use Rattle.crunch.specs.Entry.{answer_of, point_room}
 use Rattle.crunch.specs.Entry as Crunch
 use Rattle.crunch.specs.declared.Crunched.{Crunched}
-use Rattle.crunch.specs.declared.Crunched.TheVariants as Crunched
 use Rattle.editions.specs.Editions.{settings_a, settings_b, begins, ends, worked_on}
-use Rattle.editions.specs.Entry.{Rows, LentRows, rows_a, rows_b, Promise}
+use Rattle.editions.specs.Entry.{LentRows, rows_a, rows_b, Promise}
 use Rattle.editions.specs.declared.entry.Editions.{Editions}
 use Rattle.editions.specs.declared.work.Order.{Order}
 

@@ -1,6 +1,5 @@
 -- How an edition's progress, with its row for points, stands for a state of the definition, from one step to the next. Definitions only.
 use Rattle.std.specs.Prelude.{ℕ, ◌+◌, Bool, true, false, ◌≡◌, length, replicate}
-use Rattle.rows.specs.Lent.{room}
 use Rattle.rows.specs.Rows.{point_zero}
 use Rattle.optimize.specs.Fallen.{Upto}
 use Rattle.optimize.specs.Tally.{untried}

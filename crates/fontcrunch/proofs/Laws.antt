@@ -4,7 +4,6 @@ use native.Mathlib.Omega.{arith}
 use mathlib.Core.Path.{◌≡◌, refl, sym, ap, subst, ◌∙◌}
 use lib.Dec.{lit≤}
 use Rattle.rows.specs.Rows.{Work, work}
-use Rattle.rows.specs.Lent.{Shown}
 use Rattle.contour.specs.Output.{Outputs, outputs}
 use Rattle.contour.specs.Points.{Points}
 use Rattle.pieces.specs.Slots.{chain}

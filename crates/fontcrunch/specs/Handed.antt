@@ -14,7 +14,6 @@ use Rattle.chains.specs.Chains.{Outcome, refused, unchanged, chained}
 use Rattle.chains.specs.Entry as Chains
 use Rattle.chains.specs.Determine.{places_of}
 use Rattle.chains.specs.declared.Chained.{Chained}
-use Rattle.chains.specs.declared.Chained.TheVariants as Chained
 use Rattle.chain.specs.declared.Piece.{Piece}
 use Rattle.checks.specs.Checks.{GivenChain}
 use Rattle.checks.specs.Entry as Checks

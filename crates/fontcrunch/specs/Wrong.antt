@@ -5,7 +5,6 @@ use Rattle.std.proofs.Common.{arith, sym, ap, subst, ◌∙◌, ne_eqb}
 use mathlib.Core.List.{List, [], ◌∷◌, Memᴰ}
 use Rattle.refusals.specs.Refusals.{off_neighbours, judged}
 use Rattle.refusals.specs.declared.Judged.{Judged}
-use Rattle.refusals.specs.declared.Judged.TheVariants as Judged
 use Rattle.rows.specs.Lent.{Inputs, inputs}
 use Rattle.outline.specs.Segments.{count_of, place_after, seg_from}
 use Rattle.runs.specs.declared.Run.{Run}
@@ -13,7 +12,6 @@ use Rattle.runs.specs.declared.Run.TheVariants.{Between, Nothing}
 use Rattle.runs.specs.Runs.{numbered_run}
 use Rattle.settings.specs.Settings.{crate_settings, penalty_of, grid_of, judged_for}
 use Rattle.survey.specs.Survey.{Survey, survey_of}
-use Rattle.survey.specs.Survey as Survey
 use Rattle.chain.specs.Valid as Valid
 use Rattle.chain.specs.Fallen.{fallen_rows}
 use Rattle.chain.specs.declared.Piece.{Piece}
@@ -29,7 +27,6 @@ use Rattle.checks.specs.Checks.{GivenChain, check_of}
 use Rattle.checks.specs.Checks as Checks
 use Rattle.checks.specs.declared.Ruling.{Ruling}
 use Rattle.checks.specs.declared.Verdict.{Verdict}
-use Rattle.checks.specs.declared.Verdict.TheVariants as Verdict
 use Rattle.fontcrunch.specs.Accepted.{chain_from, accepted_chain}
 use Rattle.fontcrunch.specs.Table.{outcome, gives, shown_at_once, on}
 

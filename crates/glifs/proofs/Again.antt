@@ -19,7 +19,7 @@ use Rattle.glif.specs.Outline.{nowhere}
 use Rattle.glyphs.specs.Glyphs.{stretch, contours_from, together, ends_from}
 use Rattle.glifread.specs.Enter.{end_of, rows, seek_from, walked, enter_contour, entering, enter_next, enter_up_to, filled, enter_all, ending, at_end}
 use Rattle.glifwrite.specs.Contours.{end_at, start_of}
-use Rattle.glifwrite.specs.Texts.{Small, written}
+use Rattle.glifwrite.specs.Texts.{Small}
 use Rattle.glifs.proofs.Contour.{Sound}
 use Rattle.glifs.proofs.Whole.{start_next, start_first, full_at, row_to}
 use Rattle.glifs.proofs.Entered.{within, at, seeks, end_at_lem}

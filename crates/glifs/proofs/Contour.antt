@@ -10,7 +10,7 @@ use lib.IntN.{ℤ, pos}
 use lib.Signed.{mag}
 use lib.ListN.{get_or, set}
 use Rattle.lines.specs.Text as Text
-use Rattle.gliftext.specs.Pick.{pick, both, either, sum, most}
+use Rattle.gliftext.specs.Pick.{pick, both, either, most}
 use Rattle.gliftext.specs.Words.{no_number}
 use Rattle.gliftext.specs.Text.{offcurve}
 use Rattle.gliftext.specs.declared.text.Point.{Point}

@@ -24,7 +24,6 @@ use Rattle.glyf.proofs.Codes.{and_left, and_right}
 use Rattle.glyf.proofs.Again.{done_is}
 use Rattle.glyphs.specs.Glyphs.{contours_from, together, ends_from}
 use Rattle.glyphs.specs.Separately.{Each}
-use Rattle.glyphs.specs.Separately as Each
 use Rattle.glyphs.proofs.Sixteen.{All16, crunched_16, both}
 use Rattle.glyphs.proofs.Sixteen as Sixteen
 use Rattle.gliftext.specs.Pick.{pick}

@@ -8,7 +8,7 @@ use borrow.Author.Tests.{ne_eqb, ltb-false, eqb-true, eqb-false, not-false}
 use lib.Dec.{eqb, ltb}
 use lib.ListN.{length, get_or, length-set, replicate}
 use lib.Seq.{get_or-set_same, get_or-set_other}
-use Rattle.gliftext.specs.Pick.{pick, both, either, more, sum}
+use Rattle.gliftext.specs.Pick.{pick, both, either, more}
 use Rattle.gliftext.specs.Text.{offcurve}
 use Rattle.gliftext.specs.declared.text.Point.{Point}
 use Rattle.glif.specs.Tree.{on_path, treed}

@@ -1,5 +1,5 @@
 -- The rows that are read belong together: the ends rise, and the last of them says as many points as there are. Assumes nothing.
-use Prim.Native.Nat.{ℕ, zero, ◌%◌, ◌≤◌}
+use Prim.Native.Nat.{ℕ, ◌%◌, ◌≤◌}
 use native.Mathlib.Omega.{arith}
 use mathlib.Core.Bool.{Bool, true, false, ◌&&◌}
 use mathlib.Core.List.{List}

@@ -19,7 +19,6 @@ use Rattle.gliftext.specs.Pick.{pick, both, either, more, most, sum}
 use Rattle.glif.specs.Outline.{nowhere}
 use Rattle.glif.specs.Scan.{Judged}
 use Rattle.glif.specs.Scan as Scan
-use Rattle.glif.specs.declared.scan.Scan.{Scan}
 use Rattle.glif.specs.declared.scan.Totals.{Totals}
 use Rattle.glifread.specs.Enter.{no_place, rows, filled, enter_all}
 use Rattle.glifread.specs.Reads.{refusal, numbered, report_of, Rooms, rooms, refusal_in, answer_by, enters_by}

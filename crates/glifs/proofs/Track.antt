@@ -7,7 +7,7 @@ use mathlib.Core.Path.{◌≡◌, refl, sym, ap, subst, ◌∙◌}
 use borrow.Author.Tests.{ne_eqb, eqb-true, eq-eqb}
 use lib.Dec.{eqb}
 use lib.ListN.{length, get_or, replicate, length-replicate, length-map}
-use Rattle.gliftext.specs.Pick.{pick, both, more, sum, most}
+use Rattle.gliftext.specs.Pick.{pick, both, more, most}
 use Rattle.gliftext.specs.Table.{class_of, is_name, move_of}
 use Rattle.gliftext.specs.Text.{texted}
 use Rattle.gliftext.specs.Utf8.{rune_at}

@@ -26,12 +26,12 @@ use Rattle.glifwrite.specs.Outside.{Part, own, contour, put_parts, Track, track,
 use Rattle.gliftext.proofs.Picks.{plain_more, both_true, in_left, in_right, or_right, or_left, or-false}
 use Rattle.glifwrite.specs.Texts.{put_text, contour_text, Small, pieces_text}
 use Rattle.glifwrite.proofs.Texts.{text_append, range_text, contour_text_lem}
-use Rattle.glif.proofs.Stems.{stem, Abs, Fed, fed, no_fed, fed_of, fed_length, fed_at_lem, fed_drop, fed_cut, kept_in, point_in, moved, step, steps, steps_append}
+use Rattle.glif.proofs.Stems.{Abs, Fed, fed, no_fed, fed_of, fed_length, fed_at_lem, fed_drop, fed_cut, kept_in, point_in, moved, step, steps, steps_append}
 use Rattle.glif.proofs.Stems.{one_step, name_at}
 use Rattle.gliftext.proofs.Live.{within, live_tag, live_name, live_value, live_refer, in_end, Facts}
 use Rattle.glif.proofs.Like.{live_names, Like, like_step, tag_word}
 use Rattle.glifs.proofs.Point.{in_contour, Ready, Kept, standing, less_read}
-use Rattle.glifs.proofs.Contour.{contour_sealed, place, placed, full_to, on_to, full_round, Sound, full_few, sum_to, contour_read}
+use Rattle.glifs.proofs.Contour.{contour_sealed, placed, full_to, on_to, full_round, Sound, full_few, sum_to, contour_read}
 use Rattle.glif.proofs.Ways.{Went, down_on, down, aside, up, still, Way, opening, closing, outer, inner, Quiet, quiet_sum, met_same, summed_by, contour_on}
 use Rattle.glif.proofs.Ways.{point_off, left_open, left_closed, tags_none, met_none}
 use Rattle.glifs.proofs.Track.{act, to, word_after, state_is, Fine, tag_on, at, fed_at, at_next, names_at, Good, good_nil, good_own, good_contour}

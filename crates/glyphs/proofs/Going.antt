@@ -20,14 +20,12 @@ use Rattle.contour.specs.Laws.{holds_count}
 use Rattle.crunch.specs.Crunch.{crunched, crunch_of}
 use Rattle.crunch.specs.Crunch as Crunch
 use Rattle.crunch.specs.Stands.{Gives}
-use Rattle.crunch.specs.Stands as Gives
 use Rattle.crunch.specs.declared.Crunched.{Crunched}
 use Rattle.crunch.specs.declared.Crunched.TheVariants as C
 use Rattle.glyf.specs.Layout.{Outcome, done, refused, count_of, rising}
 use Rattle.glyf.proofs.Codes.{and_left, and_right}
 use Rattle.glyphs.specs.Glyphs.{and_then, stretch, contours_from, with_first, onward, crunch_each, together, ends_from}
 use Rattle.glyphs.specs.Stands.{Numbers, Part, Adds, Apart, Gathers}
-use Rattle.glyphs.specs.Stands as Gathers
 use Rattle.glyphs.specs.declared.contours.Gathered.TheVariants as G
 
 -- ---- where the contours lie

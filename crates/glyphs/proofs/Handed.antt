@@ -4,14 +4,14 @@ use native.Mathlib.Omega.{arith}
 use mathlib.Core.Bool.{Bool, false}
 use mathlib.Core.List.{List}
 use mathlib.Core.Path.{◌≡◌, refl, ap, ◌∙◌}
-use Rattle.rows.specs.Lent.{Lent, before, after, room}
+use Rattle.rows.specs.Lent.{before, after, room}
 use Rattle.glyf.specs.Layout.{Glyph, Outcome, done, refused, laid, laid_in, left_by, refuse, Rooms, rooms_of, too_small, roomy, trimmed, described, read_of, written_of}
-use Rattle.glyf.specs.Trips.{Held, as_read}
+use Rattle.glyf.specs.Trips.{as_read}
 use Rattle.glyf.proofs.After.{filled_row_says}
 use Rattle.glyfread.specs.Reads as Reads
 use Rattle.glyfwrite.specs.Writes as Writes
 use Rattle.glyfwrite.specs.declared.write.Wrote.TheVariants as Wrote
-use Rattle.glyphs.specs.Handed.{HandedBack, FilledRowReadBack}
+use Rattle.glyphs.specs.Handed.{FilledRowReadBack}
 
 -- where so many bytes are the answer, they were written
 record Bytes (o : Outcome (List ℕ)) : Type 0 where

@@ -25,7 +25,6 @@ use Rattle.glyfwrite.specs.declared.write.Wrote.{Wrote}
 use Rattle.glyfwrite.specs.declared.write.Wrote.TheVariants as W
 use Rattle.glyphs.specs.Glyphs.{and_then, crunch_each, crunch_rows, numbered, rewritten, glyph_of, together, ends_from}
 use Rattle.glyphs.specs.Stands.{Apart, Gathers, FitsIn, judged_by, Placed, Copied, not_copied, copied, Copies, Renews, not_renewed, renewed, Held, Stood}
-use Rattle.glyphs.specs.Stands as Gathers
 use Rattle.glyphs.specs.declared.contours.Gathered.{Gathered}
 use Rattle.glyphs.specs.declared.contours.Gathered.TheVariants as G
 

@@ -1,5 +1,5 @@
 -- No answer at the last break has a control with a NaN, where that break has none: `NoNanControl` of specs/Controls. Assumes nothing.
-use Prim.Native.Nat.{ℕ, zero, suc, ◌+◌, ◌-◌, ◌*◌, ◌^◌, ◌≤◌, ◌<◌}
+use Prim.Native.Nat.{ℕ, zero, suc, ◌+◌, ◌-◌, ◌*◌, ◌^◌, ◌<◌}
 use native.Mathlib.Decide.{ℕ_discrete, dec_lt}
 use native.Mathlib.Omega.{arith}
 use mathlib.Core.Bool.{Bool, true, false, not, cond, ◌&&◌, ◌||◌, beq, false≢true}
@@ -15,20 +15,17 @@ use Rattle.float.specs.Numbers.{half}
 use Rattle.float.specs.Float.{abs_of, close_to}
 use Rattle.float.proofs.Number.{only_nan}
 use Rattle.float.proofs.Zeros.{plus_nan, times_nan}
-use Rattle.geometry.specs.Geometry.{is_line, is_smooth, is_close, is_whole, lerp_of, along_of, line_quad, round_point_of, intersect_of, Finite}
+use Rattle.geometry.specs.Geometry.{is_line, is_smooth, is_whole, lerp_of, along_of, line_quad, intersect_of, Finite}
 use Rattle.geometry.specs.declared.Point.{Point}
 use Rattle.geometry.specs.declared.Quad.{Quad}
 use Rattle.geometry.specs.declared.Crossing.{Crossing}
-use Rattle.geometry.specs.declared.Crossing.TheVariants as Crossing
 use Rattle.geometry.proofs.Whole.{whole_finite, near_finite}
 use Rattle.quickmeasure.specs.Statements.{has_nan}
-use Rattle.measure.specs.declared.Measure as M
 use Rattle.measure.specs.declared.Measured.{Measured}
-use Rattle.measure.specs.declared.Measured.TheVariants as Measured
 use Rattle.quickmeasure.proofs.Spoilt.{spoils}
 use Rattle.breaks.specs.Breaks.{Row, unpacked_of, break_at}
-use Rattle.attempt.specs.Answers.{Leg, Statelet, first, on, score_of, leg_of, Best, none, best, is_curve, smooth_after, ok_for_half, joint_of, previous_score, built_on, is_less, replaced_if, may_build, combined_if, combined}
-use Rattle.optimize.specs.Optimize.{Measure, measure_by, best_at, States, refused, states, xy, measured, try_quad, try_if, straight, bent_quad, bent_at, bent, then_bent, try_line_quad}
+use Rattle.attempt.specs.Answers.{Leg, Statelet, score_of, leg_of, Best, none, best, is_curve, smooth_after, ok_for_half, joint_of, previous_score, built_on, is_less, replaced_if, may_build, combined_if, combined}
+use Rattle.optimize.specs.Optimize.{Measure, measure_by, best_at, States, measured, try_quad, try_if, bent_quad, bent_at, bent, then_bent, try_line_quad}
 use Rattle.optimize.specs.Controls.{NoNan, starts, goes, NoNanControl}
 use Rattle.optimize.proofs.Walk.{set_each, none_yet, After, stops, holds, answered}
 

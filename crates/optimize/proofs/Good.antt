@@ -14,9 +14,7 @@ use lib.Ieee.{Float, nan, lt, le, is_nan}
 use Rattle.geometry.specs.Geometry.{is_whole, intersect_of}
 use Rattle.geometry.specs.declared.Quad.{Quad}
 use Rattle.geometry.specs.declared.Crossing.{Crossing}
-use Rattle.geometry.specs.declared.Crossing.TheVariants as Crossing
 use Rattle.measure.specs.declared.Measured.{Measured}
-use Rattle.measure.specs.declared.Measured.TheVariants as Measured
 use Rattle.breaks.specs.Breaks.{Row, break_at}
 use Rattle.attempt.specs.Answers.{Leg, Statelet, score_of, Best, none, best, ok_for_half, may_build, total_of, built_on, is_less, replaced_if, combined_if, combined}
 use Rattle.optimize.specs.Optimize.{Measure, best_at, States, refused, states, xy, measured, try_quad, try_if, straight, bent_quad, bent_at, bent, then_bent, try_line_quad, onward, try_all, splits, search, Optimised, refused8, unchanged, solved, ended, chosen_if, go_on, searched, splitted, tried, last_break, optimize_of}

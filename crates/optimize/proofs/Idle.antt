@@ -11,7 +11,6 @@ use lib.Seq.{set-get_or}
 use lib.Ieee.{Float, lt}
 use Rattle.geometry.specs.Geometry.{is_whole, line_quad, intersect_of}
 use Rattle.geometry.specs.declared.Crossing.{Crossing}
-use Rattle.geometry.specs.declared.Crossing.TheVariants as Crossing
 use Rattle.geometry.specs.declared.Point.{Point}
 use Rattle.geometry.specs.declared.Quad.{Quad}
 use Rattle.breaks.specs.Breaks.{Row, break_at}

@@ -12,11 +12,9 @@ use lib.Seq.{get_or-set_same, get_or-set_other, set-get_or, set-set}
 use lib.Ieee.{Float, lt}
 use Rattle.geometry.specs.Geometry.{is_whole, line_quad, intersect_of}
 use Rattle.geometry.specs.declared.Crossing.{Crossing}
-use Rattle.geometry.specs.declared.Crossing.TheVariants as Crossing
 use Rattle.geometry.specs.declared.Quad.{Quad}
 use Rattle.measure.specs.declared.Measure as M
 use Rattle.measure.specs.declared.Measured.{Measured}
-use Rattle.measure.specs.declared.Measured.TheVariants as Measured
 use Rattle.breaks.specs.Breaks.{Row, break_at}
 use Rattle.attempt.specs.Answers.{Leg, Statelet, score_of, Best, none, best, ok_for_half, previous_score, may_build, total_of, built_on, is_less, replaced_if, combined_if, combined}
 use Rattle.attempt.specs.Value.{best_of, combine_of}

@@ -13,7 +13,6 @@ use Rattle.float.proofs.Less.{less_nan}
 use Rattle.geometry.specs.Geometry.{is_whole, round_point_of, intersect_of}
 use Rattle.geometry.specs.declared.Break.{Break}
 use Rattle.geometry.specs.declared.Crossing.{Crossing}
-use Rattle.geometry.specs.declared.Crossing.TheVariants as Crossing
 use Rattle.geometry.specs.declared.Point.{Point}
 use Rattle.geometry.specs.declared.Quad.{Quad}
 use Rattle.measure.specs.Measure.{measure_of}
@@ -23,7 +22,6 @@ use Rattle.quickmeasure.proofs.Still.{still}
 use Rattle.measure.proofs.Asked.{fallen_most}
 use Rattle.measure.specs.declared.Measure as M
 use Rattle.measure.specs.declared.Measured.{Measured}
-use Rattle.measure.specs.declared.Measured.TheVariants as Measured
 use Rattle.breaks.specs.Breaks.{Row, break_at}
 use Rattle.attempt.specs.declared.answer.Answer as A
 use Rattle.optimize.specs.declared.Trial.{Trial}

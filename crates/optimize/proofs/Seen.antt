@@ -5,23 +5,21 @@ use native.Mathlib.Nat.{add_assoc, zero-add}
 use native.Mathlib.Omega.{arith}
 use mathlib.Core.Bool.{Bool, true, false}
 use mathlib.Core.List.{List, [], ◌∷◌, ◌++◌, append_assoc, append-nil}
-use mathlib.Core.Path.{◌≡◌, refl, sym, ap, ◌∙◌, subst}
+use mathlib.Core.Path.{◌≡◌, refl, sym, ap, ◌∙◌}
 use lib.Dec.{eqb}
 use lib.ListN.{length, replicate, length-replicate}
 use lib.Ieee.{Float, binary64, mul, lt}
 use Rattle.float.specs.Numbers.{three, four}
 use Rattle.geometry.specs.Geometry.{is_whole, line_quad, intersect_of}
 use Rattle.geometry.specs.declared.Crossing.{Crossing}
-use Rattle.geometry.specs.declared.Crossing.TheVariants as Crossing
 use Rattle.breaks.specs.Breaks.{Row, break_at}
 use Rattle.measure.specs.declared.Measured.{Measured}
-use Rattle.measure.specs.declared.Measured.TheVariants as Measured
 use Rattle.attempt.specs.Answers.{score_of, Best, none, best, ok_for_half, may_build}
-use Rattle.optimize.specs.Optimize.{Measure, best_at, States, refused, states, xy, measured, try_quad, try_if, straight, bent_quad, bent_at, bent, then_bent, try_line_quad, onward, try_all, splits, search, Optimised, refused8, unchanged, solved, ended, chosen_if, go_on, searched, splitted, tried, pairs_after_splits, last_break, optimize_of}
-use Rattle.optimize.specs.Fallen.{Fallen, fell_if, fell_straight, fell_bent_at, fell_bent, fell_then_bent, fell_pair, fell_onward, fell_all, fell_next, fell_going_on, fell_after_splits, fell_after_first, fell_of}
-use Rattle.optimize.specs.Trace.{Attempt, scored_if, scored, scored_where, straightly, bently_at, bently, bently_after, pair_tried, pair_after, all_tried, next_if, going_on, after_splits, after_first, trace_of, into_if, scores_into, Among, now, later}
+use Rattle.optimize.specs.Optimize.{Measure, best_at, States, refused, states, xy, measured, try_quad, try_if, straight, bent_quad, bent_at, bent, then_bent, try_line_quad, onward, try_all, splits, search, Optimised, solved, chosen_if, go_on, splitted, tried, pairs_after_splits, last_break, optimize_of}
+use Rattle.optimize.specs.Fallen.{Fallen, fell_if, fell_bent_at, fell_bent, fell_then_bent, fell_pair, fell_onward, fell_all, fell_next, fell_going_on, fell_after_splits, fell_after_first, fell_of}
+use Rattle.optimize.specs.Trace.{Attempt, scored_if, scored, scored_where, bently_at, bently, bently_after, pair_tried, pair_after, all_tried, next_if, going_on, after_splits, after_first, trace_of, into_if, scores_into, now, later}
 use Rattle.optimize.proofs.Good.{Good, nothing, stands, scores_append, Carried, kept, measured_carries, none_yet}
-use Rattle.optimize.specs.Seen.{Try, Walk, walk, End, end, gathered, outcome, seen_if, bent_seen, then_seen, pair_seen, all_seen, end_if, go_on_seen, searched_seen, splitted_seen, tried_seen, walked, add_fallen, attempt_if, attempt_by, add_attempt, First, not_yet, score, standing, standing_in, note_first, head_of, WalkEnds, CountsFallen, ListsAttempts, NotesFirst}
+use Rattle.optimize.specs.Seen.{Try, Walk, walk, End, end, gathered, outcome, seen_if, bent_seen, then_seen, pair_seen, all_seen, end_if, go_on_seen, searched_seen, splitted_seen, tried_seen, walked, attempt_if, attempt_by, add_attempt, First, not_yet, score, standing, standing_in, note_first, head_of, WalkEnds, CountsFallen, ListsAttempts, NotesFirst}
 
 module _ (measure : Measure) (breaks : Row) (penalty : Float) where
   abbrev last : ℕ

@@ -8,7 +8,6 @@ use lib.ListN.{length, set}
 use lib.Ieee.{Float}
 use Rattle.geometry.specs.Geometry.{is_line, is_whole, line_quad, round_point_of, intersect_of}
 use Rattle.geometry.specs.declared.Crossing.{Crossing}
-use Rattle.geometry.specs.declared.Crossing.TheVariants as Crossing
 use Rattle.geometry.specs.declared.Break.{Break}
 use Rattle.geometry.specs.declared.Point.{Point}
 use Rattle.geometry.specs.declared.Quad.{Quad}

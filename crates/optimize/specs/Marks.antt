@@ -4,7 +4,6 @@ use Rattle.std.specs.Prelude.{ℕ, ◌+◌, ◌*◌, ◌≤◌, ◌<◌, Bool, t
 use Rattle.rows.specs.Lent.{Lent, before, after}
 use Rattle.geometry.specs.Geometry.{is_whole, line_quad, round_point_of, intersect_of}
 use Rattle.geometry.specs.declared.Crossing.{Crossing}
-use Rattle.geometry.specs.declared.Crossing.TheVariants as Crossing
 use Rattle.geometry.specs.declared.Quad.{Quad}
 use Rattle.breaks.specs.Breaks.{Row, break_at}
 use Rattle.attempt.specs.Answers.{Best, ok_for_half}

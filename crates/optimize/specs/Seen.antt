@@ -9,13 +9,11 @@ use Rattle.float.specs.Numbers.{three, four}
 use Rattle.geometry.specs.Geometry.{is_whole, line_quad, intersect_of}
 use Rattle.geometry.specs.declared.Quad.{Quad}
 use Rattle.geometry.specs.declared.Crossing.{Crossing}
-use Rattle.geometry.specs.declared.Crossing.TheVariants as Crossing
 use Rattle.breaks.specs.Breaks.{Row, break_at}
 use Rattle.measure.specs.declared.Measured.{Measured}
-use Rattle.measure.specs.declared.Measured.TheVariants as Measured
 use Rattle.attempt.specs.Answers.{score_of, Best, none, best, ok_for_half, may_build, total_of}
 use Rattle.optimize.specs.Optimize.{Measure, best_at, States, refused, states, xy, try_quad, bent_quad, splits, search}
-use Rattle.optimize.specs.Optimize.{Optimised, refused8, unchanged, solved, pairs_after_splits, ended, searched, last_break, optimize_of}
+use Rattle.optimize.specs.Optimize.{Optimised, refused8, unchanged, solved, pairs_after_splits, searched, last_break, optimize_of}
 use Rattle.optimize.specs.Fallen.{Fallen, fell_of}
 use Rattle.optimize.specs.Trace.{Attempt, trace_of, last_scores}
 

@@ -8,9 +8,7 @@ use Rattle.float.specs.Numbers.{three, four}
 use Rattle.geometry.specs.Geometry.{is_whole, line_quad, intersect_of}
 use Rattle.geometry.specs.declared.Quad.{Quad}
 use Rattle.geometry.specs.declared.Crossing.{Crossing}
-use Rattle.geometry.specs.declared.Crossing.TheVariants as Crossing
 use Rattle.measure.specs.declared.Measured.{Measured}
-use Rattle.measure.specs.declared.Measured.TheVariants as Measured
 use Rattle.breaks.specs.Breaks.{Row, break_at}
 use Rattle.attempt.specs.Answers.{Statelet, score_of, Best, none, best, ok_for_half, may_build, total_of}
 use Rattle.optimize.specs.Optimize.{Measure, best_at, States, refused, states, xy, straight, bent_quad, try_line_quad, onward, try_all}

@@ -17,18 +17,16 @@ use Rattle.geometry.specs.declared.Quad.{Quad}
 use Rattle.measure.specs.Measure.{measure_of}
 use Rattle.measure.specs.declared.Measure as M
 use Rattle.measure.specs.declared.Measured.{Measured}
-use Rattle.measure.specs.declared.Measured.TheVariants as Measured
 use Rattle.quickmeasure.proofs.Still.{still}
 use Rattle.breaks.specs.Breaks.{Row, break_at}
 use Rattle.chain.specs.declared.Before.TheVariants.{Start}
 use Rattle.chain.specs.declared.Piece as C
 use Rattle.chain.specs.declared.Summed.{Summed}
-use Rattle.chain.specs.declared.Summed.TheVariants as Summed
 use Rattle.chain.specs.declared.Checked.TheVariants as Checked
 use Rattle.chain.specs.Valid.{valid_piece, leads, joined, valid_from, good_shape, sum_from, yes_if, judged_by, verdict, checked_chain}
 use Rattle.chain.specs.Laws.{equals_same}
 use Rattle.attempt.specs.Answers.{Statelet, first, score_of, leg_of, Best, none, total_of}
-use Rattle.optimize.specs.Optimize.{Measure, measure_by, best_at, States, states, Optimised, refused8, unchanged, solved, pairs_after_splits, pairs_after_search, ended, chosen_if, go_on, searched, splitted, tried, optimize_of}
+use Rattle.optimize.specs.Optimize.{Measure, measure_by, States, states, Optimised, refused8, unchanged, solved, pairs_after_splits, pairs_after_search, ended, chosen_if, go_on, searched, splitted, tried, optimize_of}
 use Rattle.optimize.specs.Stored.{in_place, bend_in_place}
 use Rattle.optimize.proofs.Walk.{none_yet}
 use Rattle.optimize.proofs.One.{off_whole, one_refused, one_solved, one_bent_refused}

@@ -14,7 +14,6 @@ use Rattle.chain.specs.declared.Piece as C
 use Rattle.chain.specs.declared.Before.{Before}
 use Rattle.chain.specs.declared.Before.TheVariants.{Start, After}
 use Rattle.chain.specs.declared.Summed.{Summed}
-use Rattle.chain.specs.declared.Summed.TheVariants as Summed
 use Rattle.chain.specs.Valid.{valid_piece, leads, piece_quad, valid_from, added, measure_of_piece, sum_from}
 use Rattle.attempt.specs.Answers.{Leg, Statelet, first, on, score_of, leg_of}
 use Rattle.pieces.specs.Pieces.{as_piece, pieces_of}

@@ -4,17 +4,15 @@ use mathlib.Core.Bool.{Bool, true, false}
 use mathlib.Core.List.{List, [], ◌∷◌, ◌++◌, map}
 use mathlib.Core.Path.{◌≡◌, refl, ap, ◌∙◌, subst}
 use lib.Ieee.{Float}
-use lib.ListN.{length, set, replicate}
+use lib.ListN.{length}
 use Rattle.geometry.specs.Geometry.{is_whole, line_quad, intersect_of}
 use Rattle.geometry.specs.declared.Quad.{Quad}
 use Rattle.geometry.specs.declared.Crossing.{Crossing}
-use Rattle.geometry.specs.declared.Crossing.TheVariants as Crossing
 use Rattle.measure.specs.declared.Measured.{Measured}
-use Rattle.measure.specs.declared.Measured.TheVariants as Measured
 use Rattle.breaks.specs.Breaks.{Row, break_at}
 use Rattle.chain.specs.Valid.{piece_quad}
-use Rattle.attempt.specs.Answers.{Leg, Statelet, first, on, Best, none, best, ok_for_half, built_on, is_less, replaced_if, may_build, combined_if, combined}
-use Rattle.optimize.specs.Optimize.{Measure, best_at, States, refused, states, measured, try_quad, try_if, straight, bent_quad, bent_at, bent, then_bent, try_line_quad}
+use Rattle.attempt.specs.Answers.{Leg, Statelet, first, on, Best, none, best, ok_for_half, built_on, is_less, may_build, combined_if, combined}
+use Rattle.optimize.specs.Optimize.{Measure, best_at, States, measured, try_quad, try_if, bent_quad, bent_at, bent, then_bent, try_line_quad}
 use Rattle.optimize.proofs.Walk.{set_each, none_yet, After, stops, holds, answered}
 use Rattle.pieces.specs.Pieces.{as_piece, pieces_of}
 use Rattle.pieces.specs.Slots.{quads_of}

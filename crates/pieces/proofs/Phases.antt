@@ -13,12 +13,10 @@ use Rattle.float.specs.Numbers.{half}
 use Rattle.geometry.specs.Geometry.{is_line, is_whole, line_quad, lerp_of, round_point_of, intersect_of}
 use Rattle.geometry.specs.declared.Break.{Break}
 use Rattle.geometry.specs.declared.Crossing.{Crossing}
-use Rattle.geometry.specs.declared.Crossing.TheVariants as Crossing
 use Rattle.geometry.specs.declared.Point.{Point}
 use Rattle.geometry.specs.declared.Quad.{Quad}
 use Rattle.measure.specs.declared.Measure as M
 use Rattle.measure.specs.declared.Measured.{Measured}
-use Rattle.measure.specs.declared.Measured.TheVariants as Measured
 use Rattle.breaks.specs.Breaks.{Row, break_at}
 use Rattle.chain.specs.Valid as Valid
 use Rattle.chain.specs.Valid.{equal_points, drawn, curved, follows_curve, valid_piece, added}

@@ -3,7 +3,7 @@
 #![tactic(auto)]
 
 ghost use Rattle.std.specs.Prelude.{◌≡◌};
-ghost use Rattle.rows.specs.Lent.{before, contour};
+ghost use Rattle.rows.specs.Lent.{contour};
 ghost use Rattle.outline.specs.Segments.{seg_at, arriving_of, previous};
 ghost use Rattle.corners.specs.Corners.{state_at};
 ghost use Rattle.why.specs.Tests.{either, reasons_of};

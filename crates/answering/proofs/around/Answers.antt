@@ -1,6 +1,5 @@
 use borrow.Author.Rules.{rules}
 use native.Mathlib.Omega.{arith}
-use Prim.Native.Nat.{◌-◌}
 use Rattle.answering.proofs.around.Goals as goal
 
 pub least-n-requires : goal.least-n-requires

@@ -1,4 +1,3 @@
-use Prim.Native.Nat.{◌-◌}
 use native.Mathlib.Omega.{arith}
 use mathlib.Core.Path.{◌∙◌}
 use Rattle.assembly.proofs.Going.{running_start, running_few, no_more, all_seen, run_refused, run_ended, run_on}

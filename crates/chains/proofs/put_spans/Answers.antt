@@ -1,4 +1,3 @@
-use Prim.Native.Nat.{◌-◌}
 use native.Mathlib.Omega.{arith}
 use Rattle.rows.proofs.Filled.{start}
 use Rattle.chains.proofs.Spans.{put_one, put_all}

@@ -1,4 +1,3 @@
-use Prim.Native.Nat.{◌-◌}
 use native.Mathlib.Omega.{arith}
 use Rattle.contour.proofs.Closing.{shift_start, shift_more, shift_all}
 use Rattle.contour.proofs.put_first.Goals as goal

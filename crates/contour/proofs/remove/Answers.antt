@@ -1,4 +1,3 @@
-use Prim.Native.Nat.{◌-◌}
 use native.Mathlib.Omega.{arith}
 use Rattle.contour.proofs.Dropping.{move_start, move_more, move_all}
 use Rattle.contour.proofs.remove.Goals as goal

@@ -1,6 +1,5 @@
 use mathlib.Core.List.{[]}
 use mathlib.Core.Path.{refl, ◌∙◌}
-use Prim.Native.Nat.{◌-◌}
 use native.Mathlib.Omega.{arith}
 use Rattle.contour.proofs.Reversal.{turn_start, turn_more, turned}
 use Rattle.contour.proofs.reverse.Goals as goal

@@ -6,7 +6,6 @@ use Rattle.contour.specs.Points.{Points}
 use Rattle.crunch.specs.Crunch.{Outcome, refused, crunched}
 use Rattle.crunch.specs.Entry as Crunch
 use Rattle.editions.specs.Determine as EditionsOnce
-use Rattle.editions.specs.declared.entry.Editions as Answers
 use Rattle.exports.specs.BothEditions as Reports
 use Rattle.exports.specs.Determine.{EqualReports, editions_equal_orders}
 use Rattle.exports.specs.Calls.BothEditions.{EditionsGiven, EditionsLeft, EditionsIs, EditionShows, EditionsShow, EditionsAlike, edition_defined_a, edition_defined_b, editions_after}

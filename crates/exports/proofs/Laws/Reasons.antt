@@ -10,7 +10,6 @@ use Rattle.why.specs.declared.Explained.TheVariants as Explained
 use Rattle.exports.specs.Reasons as Reports
 use Rattle.exports.specs.Determine.{why_determined}
 use Rattle.exports.specs.Calls.Reasons.{WhyGiven, WhyLeft, WhyIs, bit, Digits, WhyShows, WhyAlike, why_defined}
-use Rattle.exports.specs.declared.reasons.WhyReport.{WhyReport}
 
 -- ---- the reasons are binary digits
 

@@ -1,5 +1,5 @@
 -- `optimize::search_into` meets its contract. The loop's invariant is `Reaching`; the measure is j. Assumes nothing.
-use Prim.Native.Nat.{◌-◌, ◌≤◌}
+use Prim.Native.Nat.{◌≤◌}
 use Rattle.optimize.specs.Optimize.{measure_by, falling}
 use Rattle.optimize.specs.Fallen.{fallen_between}
 use Rattle.optimize.specs.Stored.{late}

@@ -1,5 +1,5 @@
 -- `optimize::skip_down` meets its contract: each turn passes over one pair, by the law `passed`; the measure is r. Assumes nothing.
-use Prim.Native.Nat.{◌-◌, ◌≤◌}
+use Prim.Native.Nat.{◌≤◌}
 use Rattle.optimize.specs.Optimize.{falling}
 use Rattle.optimize.specs.Steps.{by_all, Skips}
 use Rattle.optimize.proofs.skip_down.Given as goal

@@ -1,4 +1,3 @@
-use Prim.Native.Nat.{◌-◌}
 use native.Mathlib.Omega.{arith}
 use Rattle.editions.proofs.Going.{running_start, running_few, no_more, all_seen, run_on}
 use Rattle.editions.proofs.work.crunch_runs.Goals as goal

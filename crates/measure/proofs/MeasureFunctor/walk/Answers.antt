@@ -1,4 +1,3 @@
-use Prim.Native.Nat.{◌-◌}
 use native.Mathlib.Omega.{arith}
 use Rattle.measure.proofs.Steps.{sets_out, steps_on, stops_here_lem, arrives}
 use Rattle.measure.proofs.MeasureFunctor.walk.Goals as goal
