@@ -18,9 +18,12 @@ pub line-q-requires : goal.line-q-requires
 line-q-requires c = search rules
 
 pub mark-requires : goal.mark-requires
-mark-requires c = record { ready = c.requires; offered = λ f n st upto rep.
+mark-requires c = record {
+  ready = c.requires;
+  offered = λ f n st upto rep.
       by_line (is_whole_of c.is_whole.ensures c.read-a.ensures c.if-is_whole.true)
-      (line_of c.line-q.ensures c.read-a.ensures c.read-b.ensures) }
+      (line_of c.line-q.ensures c.read-a.ensures c.read-b.ensures);
+}
 
 pub shape_of-answers : goal.shape_of-answers
 shape_of-answers c = search rules

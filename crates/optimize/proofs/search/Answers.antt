@@ -40,13 +40,12 @@ pub loop-i-smaller : goal.loop-i-smaller
 loop-i-smaller c = omega arith
 
 pub loop-i-preserved : goal.loop-i-preserved
-loop-i-preserved c =
-    (
-      omega (arith, c.loop-i.invariant.0),
-      omega arith,
-      moves c.loop-i.invariant.2 _ _ (search_more _ _ c.loop-i-test.true) c.search_from_mark-t.auto.answers c.search_from_mark-t.auto.links
-          (λ st rep. rephased (λ st. next_search c.loop-i.i) (c.search_from_mark-t.ensures st rep)) (not-false _ c.if-not-t.false),
-    )
+loop-i-preserved c = (
+  omega (arith, c.loop-i.invariant.0),
+  omega arith,
+  moves c.loop-i.invariant.2 _ _ (search_more _ _ c.loop-i-test.true) c.search_from_mark-t.auto.answers c.search_from_mark-t.auto.links
+      (λ st rep. rephased (λ st. next_search c.loop-i.i) (c.search_from_mark-t.ensures st rep)) (not-false _ c.if-not-t.false),
+)
 
 pub shape_of-answers : goal.shape_of-answers
 shape_of-answers c = c.loop-i.invariant.2.same_rs

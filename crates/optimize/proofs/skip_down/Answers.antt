@@ -69,14 +69,13 @@ pub loop-r-smaller : goal.loop-r-smaller
 loop-r-smaller c = omega arith
 
 pub loop-r-preserved : goal.loop-r-preserved
-loop-r-preserved c =
-    (
-      omega (arith, c.loop-r.invariant.0),
-      λ f n st upto rep.
-          c.loop-r.invariant.1 f n st upto rep
-          ∙ passed c.slot_of-k.ensures c.if-links-k-eq0.false c.loop-r-test.true (omega (arith, c.loop-r.invariant.0, c.requires.1))
-          (c.is_idle.ensures (not-false _ c.if-not-is_idle.false-raw)) upto rep,
-    )
+loop-r-preserved c = (
+  omega (arith, c.loop-r.invariant.0),
+  λ f n st upto rep.
+      c.loop-r.invariant.1 f n st upto rep
+      ∙ passed c.slot_of-k.ensures c.if-links-k-eq0.false c.loop-r-test.true (omega (arith, c.loop-r.invariant.0, c.requires.1))
+      (c.is_idle.ensures (not-false _ c.if-not-is_idle.false-raw)) upto rep,
+)
 
 pub returns : goal.returns
 returns c = c.loop-r.invariant

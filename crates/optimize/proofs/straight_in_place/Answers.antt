@@ -12,6 +12,9 @@ pub measure_quad-requires : goal.measure_quad-requires
 measure_quad-requires c = search rules
 
 pub returns : goal.returns
-returns c = record { is = (in_place_lem c.args.samples.now c.args.s (record { x = c.args.x; y = c.args.y }) (subst T (sym c.well_formed.1.1.0.1) tt) (subst T (sym c.well_formed.1.1.1.0.1) tt)
-    c.line.ensures c.measure_quad.ensures).0; spoilt = (in_place_lem c.args.samples.now c.args.s (record { x = c.args.x; y = c.args.y }) (subst T (sym c.well_formed.1.1.0.1) tt) (subst T (sym c.well_formed.1.1.1.0.1) tt)
-    c.line.ensures c.measure_quad.ensures).1 }
+returns c = record {
+  is = (in_place_lem c.args.samples.now c.args.s (record { x = c.args.x; y = c.args.y }) (subst T (sym c.well_formed.1.1.0.1) tt) (subst T (sym c.well_formed.1.1.1.0.1) tt)
+      c.line.ensures c.measure_quad.ensures).0;
+  spoilt = (in_place_lem c.args.samples.now c.args.s (record { x = c.args.x; y = c.args.y }) (subst T (sym c.well_formed.1.1.0.1) tt) (subst T (sym c.well_formed.1.1.1.0.1) tt)
+      c.line.ensures c.measure_quad.ensures).1;
+}

@@ -40,12 +40,11 @@ pub loop-i-smaller : goal.loop-i-smaller
 loop-i-smaller c = omega arith
 
 pub loop-i-preserved : goal.loop-i-preserved
-loop-i-preserved c =
-    (
-      omega (arith, c.loop-i.invariant.0),
-      omega arith,
-      moves c.loop-i.invariant.2 _ _ (split_more _ _ c.loop-i-test.true) c.try_split-t.auto.answers c.try_split-t.auto.links c.try_split-t.ensures (not-false _ c.if-not-t.false),
-    )
+loop-i-preserved c = (
+  omega (arith, c.loop-i.invariant.0),
+  omega arith,
+  moves c.loop-i.invariant.2 _ _ (split_more _ _ c.loop-i-test.true) c.try_split-t.auto.answers c.try_split-t.auto.links c.try_split-t.ensures (not-false _ c.if-not-t.false),
+)
 
 pub shape_of-answers : goal.shape_of-answers
 shape_of-answers c = c.loop-i.invariant.2.same_rs
