@@ -27,9 +27,9 @@ not_in {b} {k} h (above {p = p} g r) = rw (ne_eqb p k (λ e. omega arith), not_i
 
 -- ---- one look
 
-module _ (on : ℕ → Bool) (equal : ℕ → ℕ → Bool) (zeroth : ℕ) where
+module _ (on : ℕ → Bool) (equal : ℕ → ℕ → Bool) (p0 : ℕ) where
   abbrev look : ℕ → List ℕ → Look
-  look = lowest on equal zeroth
+  look = lowest on equal p0
 
   -- what is left of a rest after the number k has gone from it
   record Found (b : ℕ) (rest row : List ℕ) (k : ℕ) : Type 0 where
@@ -39,12 +39,12 @@ module _ (on : ℕ → Bool) (equal : ℕ → ℕ → Bool) (zeroth : ℕ) where
     pub rising : Rising b row
     pub apart : Apart on b row
 
-  apart_without : (b p : ℕ) (rest : List ℕ) (w : ℕ) → reason on equal zeroth b p rest ≡ suc w → Apart on b (p ∷ rest) → Apart on b rest
+  apart_without : (b p : ℕ) (rest : List ℕ) (w : ℕ) → reason on equal p0 b p rest ≡ suc w → Apart on b (p ∷ rest) → Apart on b rest
   apart_without b p [] w h a = end
   apart_without b p (q ∷ rest) w h a = skip_one on (before_on (on p) (on b) (equal p b) (equal p q) w (next_on on a) h) a
 
   -- p itself
-  here : {b p : ℕ} {rest row : List ℕ} {k w w' : ℕ} → reason on equal zeroth b p rest ≡ suc w' → Rising b (p ∷ rest) → Apart on b (p ∷ rest) →
+  here : {b p : ℕ} {rest row : List ℕ} {k w w' : ℕ} → reason on equal p0 b p rest ≡ suc w' → Rising b (p ∷ rest) → Apart on b (p ∷ rest) →
       gone rest p (suc w') ≡ gone row k w → Found b (p ∷ rest) row k
   unfolding without
   here {b} {p} {rest} {row} {k} {w} {w'} h (above g r) a e =
@@ -87,32 +87,32 @@ module _ (on : ℕ → Bool) (equal : ℕ → ℕ → Bool) (zeroth : ℕ) where
   later_look p rest finds b row k w (above g r) a (gone row' k' w') h e = there g (next_on on a) (finds p row' k' w' r (later on a) h) e
 
   this_look : (p : ℕ) (rest : List ℕ) → Finds rest → (b : ℕ) (row : List ℕ) (k w : ℕ) → Rising b (p ∷ rest) → Apart on b (p ∷ rest) →
-      (n : ℕ) → reason on equal zeroth b p rest ≡ n → at_place n p rest (look p rest) ≡ gone row k w → Found b (p ∷ rest) row k
+      (n : ℕ) → reason on equal p0 b p rest ≡ n → at_place n p rest (look p rest) ≡ gone row k w → Found b (p ∷ rest) row k
   this_look p rest finds b row k w r a zero h e = later_look p rest finds b row k w r a (look p rest) refl e
   this_look p rest finds b row k w r a (suc n) h e = here h r a e
 
   finds : (rest : List ℕ) → Finds rest
   unfolding lowest
   finds [] b row k w r a e = never e
-  finds (p ∷ rest) b row k w r a e = this_look p rest (finds rest) b row k w r a (reason on equal zeroth b p rest) refl e
+  finds (p ∷ rest) b row k w r a e = this_look p rest (finds rest) b row k w r a (reason on equal p0 b p rest) refl e
 
   -- ---- all looks
 
   -- the rest that is left, and the list
   pub record Ended (rest kept : List ℕ) (drops : List (List ℕ)) : Type 0 where
-    pub quiet : look zeroth kept ≡ none
+    pub quiet : look p0 kept ≡ none
     pub shorter : length kept + length drops ≡ length rest
     pub is : kept ≡ unlisted drops rest
-    pub apart : Apart on zeroth kept
+    pub apart : Apart on p0 kept
 
   -- the answer is some such row, with place 0 before it
   pub record Ends (rest : List ℕ) (c : Cleaning) : Type 0 where
     pub kept : List ℕ
     pub drops : List (List ℕ)
-    pub is : c ≡ cleaned (zeroth ∷ kept) drops
+    pub is : c ≡ cleaned (p0 ∷ kept) drops
     pub ended : Ended rest kept drops
 
-  one_more : {rest row : List ℕ} {k : ℕ} (w : ℕ) {c : Cleaning} → Found zeroth rest row k → Ends row c → Ends rest (listing k w c)
+  one_more : {rest row : List ℕ} {k : ℕ} (w : ℕ) {c : Cleaning} → Found p0 rest row k → Ends row c → Ends rest (listing k w c)
   unfolding unlisted
   one_more {rest} {row} {k} w f e =
       record {
@@ -128,20 +128,20 @@ module _ (on : ℕ → Bool) (equal : ℕ → ℕ → Bool) (zeroth : ℕ) where
             };
       }
 
-  stops : (rest : List ℕ) → look zeroth rest ≡ none → Apart on zeroth rest → Ends rest (cleaned (zeroth ∷ rest) [])
+  stops : (rest : List ℕ) → look p0 rest ≡ none → Apart on p0 rest → Ends rest (cleaned (p0 ∷ rest) [])
   unfolding unlisted
   stops rest h a = record { kept = rest; drops = []; is = refl; ended = record { quiet = h; shorter = omega arith; is = refl; apart = a } }
 
-  by_look : (n : ℕ) → ((rest : List ℕ) → length rest ≤ n → Rising zeroth rest → Apart on zeroth rest → Ends rest (dropping on equal zeroth n rest)) →
-      (rest : List ℕ) → length rest ≤ suc n → Rising zeroth rest → Apart on zeroth rest → (l : Look) → look zeroth rest ≡ l →
-      Ends rest (unless_none zeroth rest l (dropping on equal zeroth n))
+  by_look : (n : ℕ) → ((rest : List ℕ) → length rest ≤ n → Rising p0 rest → Apart on p0 rest → Ends rest (dropping on equal p0 n rest)) →
+      (rest : List ℕ) → length rest ≤ suc n → Rising p0 rest → Apart on p0 rest → (l : Look) → look p0 rest ≡ l →
+      Ends rest (unless_none p0 rest l (dropping on equal p0 n))
   by_look n then rest few r a none h = stops rest h a
   by_look n then rest few r a (gone row k w) h =
-      let f = finds rest zeroth row k w r a h in
+      let f = finds rest p0 row k w r a h in
       one_more w f (then row (omega (arith, f.shorter)) f.rising f.apart)
 
-  pub ends : (n : ℕ) (rest : List ℕ) → length rest ≤ n → Rising zeroth rest → Apart on zeroth rest → Ends rest (dropping on equal zeroth n rest)
+  pub ends : (n : ℕ) (rest : List ℕ) → length rest ≤ n → Rising p0 rest → Apart on p0 rest → Ends rest (dropping on equal p0 n rest)
   unfolding dropping lowest
   ends zero [] few r a = stops [] refl a
   ends zero (p ∷ rest) few r a = absurd (omega arith)
-  ends (suc n) rest few r a = by_look n (ends n) rest few r a (look zeroth rest) refl
+  ends (suc n) rest few r a = by_look n (ends n) rest few r a (look p0 rest) refl

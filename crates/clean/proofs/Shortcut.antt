@@ -89,8 +89,8 @@ all_gone [] row k w = refl
 all_gone (t ∷ stack) row k w = all_gone stack (t ∷ row) k w
 
 top : ℕ → List ℕ → ℕ
-top zeroth [] = zeroth
-top zeroth (t ∷ stack) = t
+top p0 [] = p0
+top p0 (t ∷ stack) = t
 
 -- so many drops before
 earlier : List (List ℕ) → Cleaning → Cleaning
@@ -117,110 +117,110 @@ module _ (on : ℕ → Bool) where
   pub later : {b p : ℕ} {rest : List ℕ} → Apart b (p ∷ rest) → Apart p rest
   later (on_next h more) = more
 
-module _ (on : ℕ → Bool) (equal : ℕ → ℕ → Bool) (zeroth : ℕ)
+module _ (on : ℕ → Bool) (equal : ℕ → ℕ → Bool) (p0 : ℕ)
     (back : (a b : ℕ) → equal a b ≡ true → equal b a ≡ true) (through : (a b c : ℕ) → equal a b ≡ true → equal b c ≡ true → equal a c ≡ true) where
   abbrev again : ℕ → ℕ → ℕ → ℕ
-  again = repeats on equal zeroth
+  again = repeats on equal p0
 
   -- no point of a stack repeats its neighbours; the point after it is told
   data Steady : List ℕ → ℕ → Type 0 where
     bottom : {next : ℕ} → Steady [] next
-    upon : {t next : ℕ} {stack : List ℕ} → again (top zeroth stack) t next ≡ 0 → Steady stack t → Steady (t ∷ stack) next
+    upon : {t next : ℕ} {stack : List ℕ} → again (top p0 stack) t next ≡ 0 → Steady stack t → Steady (t ∷ stack) next
 
   -- the look goes past a steady stack
   past : (stack : List ℕ) (p : ℕ) (rest : List ℕ) → Steady stack p →
-      lowest on equal zeroth zeroth (in_order stack (p ∷ rest)) ≡ behind_all stack (lowest on equal zeroth (top zeroth stack) (p ∷ rest))
+      lowest on equal p0 p0 (in_order stack (p ∷ rest)) ≡ behind_all stack (lowest on equal p0 (top p0 stack) (p ∷ rest))
   unfolding lowest in_order behind_all top
   past [] p rest s = refl
   past (t ∷ stack) p rest (upon h s) = past stack t (p ∷ rest) s ∙ rw h
 
   -- a drop ahead of a steady stack leaves it steady
-  stays : (stack : List ℕ) (p next w : ℕ) → (on (top zeroth stack) ≡ false → on p ≡ true) → again (top zeroth stack) p next ≡ suc w → Steady stack p → Steady stack next
+  stays : (stack : List ℕ) (p next w : ℕ) → (on (top p0 stack) ≡ false → on p ≡ true) → again (top p0 stack) p next ≡ suc w → Steady stack p → Steady stack next
   unfolding top
   stays [] p next w apart h s = bottom
   stays (t ∷ stack) p next w apart h (upon g s) =
-      let b = top zeroth stack in
+      let b = top p0 stack in
       upon (on_still (on t) (on b) (equal t b) (equal t p) (equal t next) (before_on (on p) (on t) (equal p t) (equal p next) w apart h) g) s
 
   -- nothing goes after a last point t that went for first
-  nothing : (t : ℕ) (stack : List ℕ) → Steady (t ∷ stack) zeroth → (on t && equal t zeroth) ≡ true → lowest on equal zeroth zeroth (in_order stack []) ≡ none
+  nothing : (t : ℕ) (stack : List ℕ) → Steady (t ∷ stack) p0 → (on t && equal t p0) ≡ true → lowest on equal p0 p0 (in_order stack []) ≡ none
   unfolding lowest in_order behind_all top
   nothing t [] s h = refl
   nothing t (u ∷ stack) (upon g (upon f s)) h =
-      let is = both_hold (on t) (equal t zeroth) h in
-      let b = top zeroth stack in
-      let as-t : equal u zeroth ≡ true → equal u t ≡ true = λ e. through u zeroth t e (back t zeroth is.1) in
-      let still = after_first (on u) (on t) (on b) (equal u b) (equal u zeroth) (equal u t) (equal t u)
-      f (neither (is_before on equal zeroth u t) (is_both on equal zeroth u t zeroth) g).0 is.0 as-t (λ e. back u t (as-t e)) in
+      let is = both_hold (on t) (equal t p0) h in
+      let b = top p0 stack in
+      let as-t : equal u p0 ≡ true → equal u t ≡ true = λ e. through u p0 t e (back t p0 is.1) in
+      let still = after_first (on u) (on t) (on b) (equal u b) (equal u p0) (equal u t) (equal t u)
+      f (neither (is_before on equal p0 u t) (is_both on equal p0 u t p0) g).0 is.0 as-t (λ e. back u t (as-t e)) in
       past stack u [] s ∙ rw still (all_none stack)
 
-  quiet : (t : ℕ) (stack : List ℕ) (m : ℕ) → Steady (t ∷ stack) zeroth → (on t && equal t zeroth) ≡ true →
-      dropping on equal zeroth m (in_order stack []) ≡ cleaned (zeroth ∷ in_order stack []) []
+  quiet : (t : ℕ) (stack : List ℕ) (m : ℕ) → Steady (t ∷ stack) p0 → (on t && equal t p0) ≡ true →
+      dropping on equal p0 m (in_order stack []) ≡ cleaned (p0 ∷ in_order stack []) []
   unfolding dropping
   quiet t stack zero s h = refl
   quiet t stack (suc m) s h = rw (nothing t stack s h)
 
   -- the rest is empty: the last point kept is looked at
-  module _ (t : ℕ) (stack : List ℕ) (ds : List (List ℕ)) (n : ℕ) (s : Steady (t ∷ stack) zeroth) where
-    last_look : lowest on equal zeroth zeroth (in_order stack (t ∷ [])) ≡ behind_all stack (at_place (or_else (on t && equal t zeroth) 3 0) t [] none)
+  module _ (t : ℕ) (stack : List ℕ) (ds : List (List ℕ)) (n : ℕ) (s : Steady (t ∷ stack) p0) where
+    last_look : lowest on equal p0 p0 (in_order stack (t ∷ [])) ≡ behind_all stack (at_place (or_else (on t && equal t p0) 3 0) t [] none)
     unfolding lowest
     last_look = by s
       where
-        by : Steady (t ∷ stack) zeroth → lowest on equal zeroth zeroth (in_order stack (t ∷ [])) ≡ behind_all stack (at_place (or_else (on t && equal t zeroth) 3 0) t [] none)
+        by : Steady (t ∷ stack) p0 → lowest on equal p0 p0 (in_order stack (t ∷ [])) ≡ behind_all stack (at_place (or_else (on t && equal t p0) 3 0) t [] none)
         by (upon g s) =
-            let b = top zeroth stack in
-            past stack t [] s ∙ rw (only_first (is_before on equal zeroth b t) (is_both on equal zeroth b t zeroth) (or_else (on t && equal t zeroth) 3 0) g)
+            let b = top p0 stack in
+            past stack t [] s ∙ rw (only_first (is_before on equal p0 b t) (is_both on equal p0 b t p0) (or_else (on t && equal t p0) 3 0) g)
 
-    some_kept : ltb 1 (length (zeroth ∷ in_order stack (t ∷ []))) ≡ true
-    some_kept = lt-ltb 1 (length (zeroth ∷ in_order stack (t ∷ []))) (omega (arith, size stack [] t))
+    some_kept : ltb 1 (length (p0 ∷ in_order stack (t ∷ []))) ≡ true
+    some_kept = lt-ltb 1 (length (p0 ∷ in_order stack (t ∷ []))) (omega (arith, size stack [] t))
 
-    without_last : take (length (zeroth ∷ in_order stack (t ∷ [])) - 1) (zeroth ∷ in_order stack (t ∷ [])) ≡ zeroth ∷ in_order stack []
+    without_last : take (length (p0 ∷ in_order stack (t ∷ [])) - 1) (p0 ∷ in_order stack (t ∷ [])) ≡ p0 ∷ in_order stack []
     without_last =
-        let e : length (zeroth ∷ in_order stack (t ∷ [])) - 1 ≡ length (zeroth ∷ in_order stack []) = omega (arith, size stack [] t) in
-        rw (e, in_order_lem stack (t ∷ [])) (take_at (zeroth ∷ in_order stack []) (t ∷ []) _ refl)
+        let e : length (p0 ∷ in_order stack (t ∷ [])) - 1 ≡ length (p0 ∷ in_order stack []) = omega (arith, size stack [] t) in
+        rw (e, in_order_lem stack (t ∷ [])) (take_at (p0 ∷ in_order stack []) (t ∷ []) _ refl)
 
-    last_by : (c : Bool) → (on t && equal t zeroth) ≡ c →
-        earlier ds (dropping on equal zeroth (suc n) (in_order stack (t ∷ []))) ≡ closing on equal zeroth (going t (zeroth ∷ in_order stack (t ∷ [])) ds)
+    last_by : (c : Bool) → (on t && equal t p0) ≡ c →
+        earlier ds (dropping on equal p0 (suc n) (in_order stack (t ∷ []))) ≡ closing on equal p0 (going t (p0 ∷ in_order stack (t ∷ [])) ds)
     unfolding dropping earlier
     last_by true h = rw (last_look, h, all_gone stack [] t 3, quiet t stack n s h, some_kept, without_last)
-    last_by false h = rw (last_look, h, all_none stack, some_kept) (ap (cleaned (zeroth ∷ in_order stack (t ∷ []))) (append-nil ds))
+    last_by false h = rw (last_look, h, all_none stack, some_kept) (ap (cleaned (p0 ∷ in_order stack (t ∷ []))) (append-nil ds))
 
-  ends : (stack : List ℕ) (ds : List (List ℕ)) (n : ℕ) → length (in_order stack []) ≤ n → Steady stack zeroth →
-      earlier ds (dropping on equal zeroth n (in_order stack [])) ≡ closing on equal zeroth (going (top zeroth stack) (zeroth ∷ in_order stack []) ds)
+  ends : (stack : List ℕ) (ds : List (List ℕ)) (n : ℕ) → length (in_order stack []) ≤ n → Steady stack p0 →
+      earlier ds (dropping on equal p0 n (in_order stack [])) ≡ closing on equal p0 (going (top p0 stack) (p0 ∷ in_order stack []) ds)
   unfolding dropping lowest in_order top earlier
-  ends [] ds zero few s = ap (cleaned (zeroth ∷ [])) (append-nil ds)
-  ends [] ds (suc n) few s = ap (cleaned (zeroth ∷ [])) (append-nil ds)
+  ends [] ds zero few s = ap (cleaned (p0 ∷ [])) (append-nil ds)
+  ends [] ds (suc n) few s = ap (cleaned (p0 ∷ [])) (append-nil ds)
   ends (t ∷ stack) ds zero few s = absurd (omega (arith, size stack [] t))
   ends (t ∷ stack) ds (suc n) few s = last_by t stack ds n s _ refl
 
   -- what the pass makes of a rest, whatever is passed
   abbrev Passes : List ℕ → Type 0
-  Passes rest = (stack : List ℕ) (ds : List (List ℕ)) (n : ℕ) → length (in_order stack rest) ≤ n → Steady stack (next_in zeroth rest) → Apart on (top zeroth stack) rest →
-      earlier ds (dropping on equal zeroth n (in_order stack rest)) ≡ closing on equal zeroth (passing on equal zeroth (going (top zeroth stack) (zeroth ∷ in_order stack []) ds) rest)
+  Passes rest = (stack : List ℕ) (ds : List (List ℕ)) (n : ℕ) → length (in_order stack rest) ≤ n → Steady stack (next_in p0 rest) → Apart on (top p0 stack) rest →
+      earlier ds (dropping on equal p0 n (in_order stack rest)) ≡ closing on equal p0 (passing on equal p0 (going (top p0 stack) (p0 ∷ in_order stack []) ds) rest)
 
   -- one point more: kept, it goes on the stack; dropped, it is what the look finds
   module _ (p : ℕ) (rest stack : List ℕ) (ds : List (List ℕ)) (n : ℕ) (few : length (in_order stack (p ∷ rest)) ≤ suc n) (s : Steady stack p)
-      (apart : Apart on (top zeroth stack) (p ∷ rest)) (then : Passes rest) where
-    found : (w : ℕ) → again (top zeroth stack) p (next_in zeroth rest) ≡ suc w → lowest on equal zeroth zeroth (in_order stack (p ∷ rest)) ≡ gone (in_order stack rest) p (suc w)
+      (apart : Apart on (top p0 stack) (p ∷ rest)) (then : Passes rest) where
+    found : (w : ℕ) → again (top p0 stack) p (next_in p0 rest) ≡ suc w → lowest on equal p0 p0 (in_order stack (p ∷ rest)) ≡ gone (in_order stack rest) p (suc w)
     unfolding lowest
     found w h =
-        let b = top zeroth stack in
+        let b = top p0 stack in
         past stack p rest s
-        ∙ rw (one_of (is_before on equal zeroth b p) (is_both on equal zeroth b p (next_in zeroth rest)) (or_else (is_first on equal zeroth p rest) 3 0) w h)
+        ∙ rw (one_of (is_before on equal p0 b p) (is_both on equal p0 b p (next_in p0 rest)) (or_else (is_first on equal p0 p rest) 3 0) w h)
         (all_gone stack rest p (suc w))
 
-    turn : (w : ℕ) → again (top zeroth stack) p (next_in zeroth rest) ≡ w →
-        earlier ds (dropping on equal zeroth (suc n) (in_order stack (p ∷ rest)))
-        ≡ closing on equal zeroth (passing on equal zeroth (going (top zeroth stack) (zeroth ∷ in_order stack []) ds) (p ∷ rest))
+    turn : (w : ℕ) → again (top p0 stack) p (next_in p0 rest) ≡ w →
+        earlier ds (dropping on equal p0 (suc n) (in_order stack (p ∷ rest)))
+        ≡ closing on equal p0 (passing on equal p0 (going (top p0 stack) (p0 ∷ in_order stack []) ds) (p ∷ rest))
     unfolding passing dropping in_order top
     turn zero h = rw (h, ← (in_order_lem stack (p ∷ []))) (then (p ∷ stack) ds (suc n) few (upon h s) (later on apart))
     turn (suc w) h =
-        let b = top zeroth stack in
+        let b = top p0 stack in
         let above = next_on on apart in
-        let b-on = before_on (on p) (on b) (equal p b) (equal p (next_in zeroth rest)) w above h in
+        let b-on = before_on (on p) (on b) (equal p b) (equal p (next_in p0 rest)) w above h in
         rw (found w h, h)
-        (one_earlier ds p (suc w) (dropping on equal zeroth n (in_order stack rest))
-        ∙ then stack (ds ++ ((p ∷ suc w ∷ []) ∷ [])) n (omega (arith, size stack rest p)) (stays stack p (next_in zeroth rest) w above h s) (skip_one on b-on apart))
+        (one_earlier ds p (suc w) (dropping on equal p0 n (in_order stack rest))
+        ∙ then stack (ds ++ ((p ∷ suc w ∷ []) ∷ [])) n (omega (arith, size stack rest p)) (stays stack p (next_in p0 rest) w above h s) (skip_one on b-on apart))
 
   passes : (rest : List ℕ) → Passes rest
   unfolding passing
@@ -233,6 +233,6 @@ module _ (on : ℕ → Bool) (equal : ℕ → ℕ → Bool) (zeroth : ℕ)
   unfolding earlier
   none_earlier (cleaned kept drops) = refl
 
-  pub shortcut : (rest : List ℕ) (n : ℕ) → length rest ≤ n → Apart on zeroth rest → dropping on equal zeroth n rest ≡ swept on equal zeroth rest
+  pub shortcut : (rest : List ℕ) (n : ℕ) → length rest ≤ n → Apart on p0 rest → dropping on equal p0 n rest ≡ swept on equal p0 rest
   unfolding in_order top
-  shortcut rest n few apart = sym (none_earlier (dropping on equal zeroth n rest)) ∙ passes rest [] [] n few bottom apart
+  shortcut rest n few apart = sym (none_earlier (dropping on equal p0 n rest)) ∙ passes rest [] [] n few bottom apart

@@ -34,8 +34,8 @@ is_none (p ∷ rest) = false
 
 -- the first of a row, or place 0, going round
 abbrev pub next_in : ℕ → List ℕ → ℕ
-next_in zeroth [] = zeroth
-next_in zeroth (p ∷ rest) = p
+next_in p0 [] = p0
+next_in p0 (p ∷ rest) = p
 
 -- what one look for the lowest place that may be dropped finds: none; or what is left of the row, the point's number, and why
 pub data Look : Type 0 where
@@ -59,10 +59,10 @@ abbrev pub listing : ℕ → ℕ → Cleaning → Cleaning
 listing k why (cleaned kept drops) = cleaned kept ((k ∷ why ∷ []) ∷ drops)
 
 abbrev pub unless_none : ℕ → List ℕ → Look → (List ℕ → Cleaning) → Cleaning
-unless_none zeroth rest none again = cleaned (zeroth ∷ rest) []
-unless_none zeroth rest (gone row k why) again = listing k why (again row)
+unless_none p0 rest none again = cleaned (p0 ∷ rest) []
+unless_none p0 rest (gone row k why) again = listing k why (again row)
 
-module _ (on : ℕ → Bool) (equal : ℕ → ℕ → Bool) (zeroth : ℕ) where
+module _ (on : ℕ → Bool) (equal : ℕ → ℕ → Bool) (p0 : ℕ) where
   -- before: an on-curve point equal to the on-curve point before it
   abbrev pub is_before : ℕ → ℕ → Bool
   is_before before p = on p && (on before && equal p before)
@@ -73,12 +73,12 @@ module _ (on : ℕ → Bool) (equal : ℕ → ℕ → Bool) (zeroth : ℕ) where
 
   -- first: a last on-curve point equal to the first point
   abbrev pub is_first : ℕ → List ℕ → Bool
-  is_first p rest = is_none rest && (on p && equal p zeroth)
+  is_first p rest = is_none rest && (on p && equal p p0)
 
   -- the first of these three that holds, of p between the point before it and the rest of the row
   abbrev pub reason : ℕ → ℕ → List ℕ → ℕ
   reason before p rest =
-      or_else (is_before before p) for_before (or_else (is_both before p (next_in zeroth rest)) for_both (or_else (is_first p rest) for_first 0))
+      or_else (is_before before p) for_before (or_else (is_both before p (next_in p0 rest)) for_both (or_else (is_first p rest) for_first 0))
 
   -- the lowest place that may be dropped: of the row after the point before it
   unfoldable pub lowest : ℕ → List ℕ → Look
@@ -87,8 +87,8 @@ module _ (on : ℕ → Bool) (equal : ℕ → ℕ → Bool) (zeroth : ℕ) where
 
   -- lowest place first, until none remains; no more can go than there are
   unfoldable pub dropping : ℕ → List ℕ → Cleaning
-  dropping zero rest = cleaned (zeroth ∷ rest) []
-  dropping (suc n) rest = unless_none zeroth rest (lowest zeroth rest) (dropping n)
+  dropping zero rest = cleaned (p0 ∷ rest) []
+  dropping (suc n) rest = unless_none p0 rest (lowest p0 rest) (dropping n)
 
 -- the n numbers from k on
 unfoldable pub up_from : ℕ → ℕ → List ℕ

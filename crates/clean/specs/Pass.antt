@@ -23,18 +23,18 @@ step_of (suc w) p (going last kept drops) = going last kept (drops ++ ((p ∷ su
 abbrev pub last_of : Going → ℕ
 last_of (going last kept drops) = last
 
-module _ (on : ℕ → Bool) (equal : ℕ → ℕ → Bool) (zeroth : ℕ) where
+module _ (on : ℕ → Bool) (equal : ℕ → ℕ → Bool) (p0 : ℕ) where
   -- before or both, of p between the last point kept and the next
   abbrev pub repeats : ℕ → ℕ → ℕ → ℕ
-  repeats last p next = or_else (is_before on equal zeroth last p) for_before (or_else (is_both on equal zeroth last p next) for_both 0)
+  repeats last p next = or_else (is_before on equal p0 last p) for_before (or_else (is_both on equal p0 last p next) for_both 0)
 
   unfoldable pub passing : Going → List ℕ → Going
   passing g [] = g
-  passing g (p ∷ rest) = passing (step_of (repeats (last_of g) p (next_in zeroth rest)) p g) rest
+  passing g (p ∷ rest) = passing (step_of (repeats (last_of g) p (next_in p0 rest)) p g) rest
 
   -- the last point kept goes if it is on-curve and equal to the first; it is not the first itself
   abbrev pub closes : Going → Bool
-  closes (going last kept drops) = ltb 1 (length kept) && (on last && equal last zeroth)
+  closes (going last kept drops) = ltb 1 (length kept) && (on last && equal last p0)
 
   abbrev pub close_if : Bool → Going → Cleaning
   close_if true (going last kept drops) = cleaned (take (length kept - 1) kept) (drops ++ ((last ∷ for_first ∷ []) ∷ []))
@@ -43,9 +43,9 @@ module _ (on : ℕ → Bool) (equal : ℕ → ℕ → Bool) (zeroth : ℕ) where
   abbrev pub closing : Going → Cleaning
   closing g = close_if (closes g) g
 
-  -- the whole pass, over points `zeroth` and the rest
+  -- the whole pass, over points `p0` and the rest
   abbrev pub swept : List ℕ → Cleaning
-  swept rest = closing (passing (going zeroth (zeroth ∷ []) []) rest)
+  swept rest = closing (passing (going p0 (p0 ∷ []) []) rest)
 
 -- ---- the rows that a pass fills
 
