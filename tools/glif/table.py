@@ -9,6 +9,8 @@ START = ['hex', 'small-x', 'large-x', 'letter']
 NAME = START + ['digit', 'dash', 'dot']
 ACTIONS = ['none', 'tag', 'tag-on', 'name', 'name-on', 'quote', 'char', 'attribute', 'opens', 'empty', 'closes', 'text', 'section', 'reference',
            'text-reference', 'letter-of', 'decimal', 'hexadecimal', 'named', 'numbered', 'said', 'declared', 'declaration', 'target']
+# their names in the code and in the definition, where they are not these written without a hyphen
+VARIANTS = {'none': 'Pass', 'name': 'NameStart', 'text': 'Content', 'declaration': 'Declares'}
 
 
 def class_of(b):
@@ -111,6 +113,10 @@ def entry(row, k):
     return ACTIONS.index(act) * 64 + STATES.index(to)
 
 
+def variant(act):
+    return VARIANTS.get(act) or ''.join(word.capitalize() for word in act.split('-'))
+
+
 def code():
     """the arrays of src/table.rt"""
     for name, numbers in (('CLASSES', [CLASSES.index(class_of(b)) for b in range(256)]), ('TABLE', [entry(r, k) for r in rows for k in range(len(CLASSES))])):
@@ -120,10 +126,10 @@ def code():
 def specs():
     """the lines of specs/Table.antt"""
     for i, (name, default, moves) in enumerate(rows):
-        line = 'bad' if default == BAD else '(rest %d %d)' % (STATES.index(default[0]), ACTIONS.index(default[1]))
+        line = 'bad' if default == BAD else '(rest %d %s)' % (STATES.index(default[0]), variant(default[1]))
         for classes, to, act in reversed(moves):
             which = 'starts' if classes == START else 'names' if classes == NAME else '(%s ∷ [])' % ' ∷ '.join(str(CLASSES.index(c)) for c in classes)
-            line = '(on %s %d %d %s)' % (which, STATES.index(to), ACTIONS.index(act), line)
+            line = '(on %s %d %s %s)' % (which, STATES.index(to), variant(act), line)
         print('    -- %d %s\n    %s ∷' % (i, name, line[1:-1] if line.startswith('(') else line))
 
 

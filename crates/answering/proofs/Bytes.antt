@@ -1,14 +1,7 @@
 -- A point takes six bytes of a line at least: each of its three words has a byte and a blank after it, but for the last. Assumes nothing.
-use Prim.Native.Nat.{ℕ, suc, ◌+◌, ◌*◌, ◌≤◌}
-use mathlib.Core.Bool.{Bool, true, false}
-use mathlib.Core.List.{List, [], ◌∷◌}
-use mathlib.Core.Option.{Option, none, some}
-use mathlib.Core.Path.{◌≡◌, refl}
-use native.Mathlib.Omega.{arith}
-use lib.Dec.{eqb, leb}
-use lib.IntN.{ℤ}
-use lib.ListN.{length}
-use Rattle.lines.specs.Line.{before, split, provided, number_of, coordinate_of, flag_of, Point, point, in_front, points_of, contour_of, parsed_of}
+use Rattle.std.proofs.Common.{ℕ, suc, ◌+◌, ◌*◌, ◌≤◌, Bool, true, false, List, [], ◌∷◌, Option, Some, None, ◌≡◌, refl, arith, eqb, leb, ℤ, length}
+use Rattle.lines.specs.Line.{before, split, provided, number_of, coordinate_of, flag_of, point, in_front, points_of, contour_of, parsed_of}
+use Rattle.lines.specs.declared.line.Point.{Point}
 
 -- the bytes of words, with a blank after each
 bytes : List (List ℕ) → ℕ
@@ -28,12 +21,12 @@ split_bytes (b ∷ bs) = before_bytes (eqb b 32) b (split 32 bs) (split_bytes bs
 
 -- one, where there is any
 abbrev held : {A : Type 0} → Option A → ℕ
-held (some a) = 1
-held none = 0
+held (Some a) = 1
+held None = 0
 
 held_one : {A : Type 0} (o : Option A) → held o ≤ 1
-held_one (some a) = omega arith
-held_one none = omega arith
+held_one (Some a) = omega arith
+held_one None = omega arith
 
 -- an empty word is no number
 coordinate_bytes : (w : List ℕ) → 2 * held (coordinate_of w) ≤ suc (length w)
@@ -48,15 +41,15 @@ flag_bytes (b ∷ bs) = omega (arith, held_one (flag_of (b ∷ bs)))
 
 -- how many points
 abbrev pub many : Option (List Point) → ℕ
-many (some ps) = length ps
-many none = 0
+many (Some ps) = length ps
+many None = 0
 
 front_bytes : (a b : Option ℤ) (c : Option ℕ) (o : Option (List Point)) → 6 * many (in_front (point a b c) o) ≤ 2 * held a + 2 * held b + 2 * held c + 6 * many o
-front_bytes (some a) (some b) (some c) (some ps) = omega arith
-front_bytes (some a) (some b) (some c) none = omega arith
-front_bytes (some a) (some b) none o = omega arith
-front_bytes (some a) none c o = omega arith
-front_bytes none b c o = omega arith
+front_bytes (Some a) (Some b) (Some c) (Some ps) = omega arith
+front_bytes (Some a) (Some b) (Some c) None = omega arith
+front_bytes (Some a) (Some b) None o = omega arith
+front_bytes (Some a) None c o = omega arith
+front_bytes None b c o = omega arith
 
 points_bytes : (words : List (List ℕ)) → 6 * many (points_of words) ≤ bytes words
 unfolding points_of bytes

@@ -4,29 +4,12 @@
 ghost use Rattle.std.specs.Prelude.{◌≡◌, [], ◌∷◌, ◌++◌, ◌≤◌, ◌<◌, length};
 ghost use Rattle.contour.specs.Output.{outputs};
 ghost use Rattle.crunch.specs.Entry.{report};
-ghost use Rattle.crunch.specs.Laws.{for_room};
 ghost use Rattle.lines.specs.Text.{Put};
-ghost use Rattle.answering.specs.Answer.{Roomy, NoLonger, fallen_text, entry_text, answer_text, line_text, places_for, Tries};
+ghost use Rattle.answering.specs.Answer.{Roomy, NoLonger, fallen_text, entry_text, short_in, answer_text, line_text, places_for, Tries};
 
 use crunch::Crunched;
-use lines::Parsed;
-use settings::Settings;
-
-// How lines are answered: what the contours are worked with, and whether an answer tells the lookups that fell.
-#[derive(Clone, Copy)]
-pub struct Order {
-    pub settings: Settings,
-    pub told: bool,
-}
-
-// What becomes of a contour in rows that may be too short for it.
-#[derive(Clone, Copy)]
-pub enum Fit {
-    // the place after the answer
-    Put(usize),
-    // refused for want of room: nothing is put
-    Short,
-}
+use refusals::Refusal;
+use words::Order;
 
 // The lookups that fell, where they are asked for.
 fn put_fallen(text: &mut [u8], at: usize, told: bool, n: usize) -> usize
@@ -36,7 +19,7 @@ fn put_fallen(text: &mut [u8], at: usize, told: bool, n: usize) -> usize
         let a = lines::put_all(text, at, b" fallen ");
         return lines::put_number(text, a, n as u64);
     }
-    rows::least(at, text.len())
+    at.min(text.len())
 }
 
 // What the crunch entry says, with the points that it left in the output rows.
@@ -44,7 +27,7 @@ fn put_outcome(
     text: &mut [u8],
     at: usize,
     told: bool,
-    c: Crunched,
+    c: Result<Crunched, Refusal>,
     ox: &[i16],
     oy: &[i16],
     of: &[u8],
@@ -53,28 +36,20 @@ fn put_outcome(
     ensures { Put text.old at (entry_text told c (outputs ox.now oy.now of.now)) text.new result }
 {
     match c {
-        Crunched::Refused(k) => {
-            let a = lines::put_refused(text, at, k);
+        Err(k) => {
+            let a = lines::put_refused(text, at, k.number());
             put_fallen(text, a, told, 0)
         }
-        Crunched::Points(n, t) => {
-            let a = lines::put_ok(text, at, t.pairs, ox, oy, of, n);
-            put_fallen(text, a, told, t.fallen)
+        Ok(Crunched { points, tally }) => {
+            let a = lines::put_ok(text, at, tally.pairs, ox, oy, of, points);
+            put_fallen(text, a, told, tally.fallen)
         }
     }
 }
 
 // In rows with document 01's full rooms. The rows are this function's own: it is called at most once a line.
-fn put_full(
-    text: &mut [u8],
-    at: usize,
-    xs: &[i16],
-    ys: &[i16],
-    flags: &[u8],
-    settings: Settings,
-    told: bool,
-) -> usize
-    ensures { Put text.old at (answer_text settings told xs.now ys.now flags.now) text.new result }
+fn put_full(text: &mut [u8], at: usize, xs: &[i16], ys: &[i16], flags: &[u8], order: Order) -> usize
+    ensures { Put text.old at (answer_text order xs.now ys.now flags.now) text.new result }
 {
     let mut ox = [0i16; 16384];
     let mut oy = [0i16; 16384];
@@ -88,7 +63,7 @@ fn put_full(
         xs,
         ys,
         flags,
-        settings,
+        order.settings,
         &mut ox,
         &mut oy,
         &mut of,
@@ -98,28 +73,28 @@ fn put_full(
         &mut links,
         &mut points,
     );
-    put_outcome(text, at, told, c, &ox, &oy, &of)
+    put_outcome(text, at, order.told, c, &ox, &oy, &of)
 }
 
 // Whether a contour was refused for want of room.
-fn is_short(c: Crunched) -> bool
-    ensures { result ≡ for_room (report c).number }
+fn is_short(c: Result<Crunched, Refusal>) -> bool
+    ensures { result ≡ short_in c }
 {
-    match c {
-        Crunched::Refused(k) => (k == 6) | (k == 7) | (k == 9),
-        Crunched::Points(_, _) => false,
-    }
+    matches!(
+        c,
+        Err(Refusal::TooManySamples | Refusal::TooManyBreaks | Refusal::OutputTooShort)
+    )
 }
 
-// In rows that are lent, and may be too short. A contour that they have room for gets the answer of the full rooms, by `more_Room`.
+// In rows that are lent, and may be too short: None, where they are, and nothing is put. A contour that they have room for gets the
+// answer of the full rooms, by `more_room`.
 fn put_lent(
     text: &mut [u8],
     at: usize,
     xs: &[i16],
     ys: &[i16],
     flags: &[u8],
-    settings: Settings,
-    told: bool,
+    order: Order,
     ox: &mut [i16],
     oy: &mut [i16],
     of: &mut [u8],
@@ -128,125 +103,58 @@ fn put_lent(
     answers: &mut [[f64; 3]],
     links: &mut [u32],
     points: &mut [[i16; 3]],
-) -> Fit
+) -> Option<usize>
     requires { NoLonger samples.old breaks.old answers.old links.old points.old }
-    ensures { Tries text.old at (answer_text settings told xs.now ys.now flags.now) text.new result }
+    ensures { Tries text.old at (answer_text order xs.now ys.now flags.now) text.new result }
 {
     let c = crunch::crunch_contour(
-        xs, ys, flags, settings, ox, oy, of, samples, breaks, answers, links, points,
+        xs,
+        ys,
+        flags,
+        order.settings,
+        ox,
+        oy,
+        of,
+        samples,
+        breaks,
+        answers,
+        links,
+        points,
     );
     if is_short(c) {
-        return Fit::Short;
+        return None;
     }
-    Fit::Put(put_outcome(text, at, told, c, ox, oy, of))
+    Some(put_outcome(text, at, order.told, c, ox, oy, of))
 }
 
-// In rows of three sizes, which are cleared in a fraction of the time: 3 KiB in all.
-fn put_tiny(
+// In rows of this function's own, with places for so many points, samples, breaks and answers. Shorter ones are cleared in a
+// fraction of the time.
+fn put_in<const POINTS: usize, const SAMPLES: usize, const BREAKS: usize, const ANSWERS: usize>(
     text: &mut [u8],
     at: usize,
     xs: &[i16],
     ys: &[i16],
     flags: &[u8],
-    settings: Settings,
-    told: bool,
-) -> Fit
-    ensures { Tries text.old at (answer_text settings told xs.now ys.now flags.now) text.new result }
+    order: Order,
+) -> Option<usize>
+    requires { (POINTS ≤ 16384) × (SAMPLES ≤ 16384) × (BREAKS ≤ 2048) × (ANSWERS ≤ 4096) }
+    ensures { Tries text.old at (answer_text order xs.now ys.now flags.now) text.new result }
 {
-    let mut ox = [0i16; 32];
-    let mut oy = [0i16; 32];
-    let mut of = [0u8; 32];
-    let mut samples = [[0.0; 4]; 20];
-    let mut breaks = [[0.0; 6]; 20];
-    let mut answers = [[0.0; 3]; 40];
-    let mut links = [0u32; 40];
-    let mut points = [[0i16; 3]; 32];
+    let mut ox = [0i16; POINTS];
+    let mut oy = [0i16; POINTS];
+    let mut of = [0u8; POINTS];
+    let mut samples = [[0.0; 4]; SAMPLES];
+    let mut breaks = [[0.0; 6]; BREAKS];
+    let mut answers = [[0.0; 3]; ANSWERS];
+    let mut links = [0u32; ANSWERS];
+    let mut points = [[0i16; 3]; POINTS];
     put_lent(
         text,
         at,
         xs,
         ys,
         flags,
-        settings,
-        told,
-        &mut ox,
-        &mut oy,
-        &mut of,
-        &mut samples,
-        &mut breaks,
-        &mut answers,
-        &mut links,
-        &mut points,
-    )
-}
-
-// 72 KiB.
-fn put_small(
-    text: &mut [u8],
-    at: usize,
-    xs: &[i16],
-    ys: &[i16],
-    flags: &[u8],
-    settings: Settings,
-    told: bool,
-) -> Fit
-    ensures { Tries text.old at (answer_text settings told xs.now ys.now flags.now) text.new result }
-{
-    let mut ox = [0i16; 1024];
-    let mut oy = [0i16; 1024];
-    let mut of = [0u8; 1024];
-    let mut samples = [[0.0; 4]; 256];
-    let mut breaks = [[0.0; 6]; 512];
-    let mut answers = [[0.0; 3]; 1024];
-    let mut links = [0u32; 1024];
-    let mut points = [[0i16; 3]; 1024];
-    put_lent(
-        text,
-        at,
-        xs,
-        ys,
-        flags,
-        settings,
-        told,
-        &mut ox,
-        &mut oy,
-        &mut of,
-        &mut samples,
-        &mut breaks,
-        &mut answers,
-        &mut links,
-        &mut points,
-    )
-}
-
-// 256 KiB.
-fn put_middling(
-    text: &mut [u8],
-    at: usize,
-    xs: &[i16],
-    ys: &[i16],
-    flags: &[u8],
-    settings: Settings,
-    told: bool,
-) -> Fit
-    ensures { Tries text.old at (answer_text settings told xs.now ys.now flags.now) text.new result }
-{
-    let mut ox = [0i16; 1024];
-    let mut oy = [0i16; 1024];
-    let mut of = [0u8; 1024];
-    let mut samples = [[0.0; 4]; 1024];
-    let mut breaks = [[0.0; 6]; 2048];
-    let mut answers = [[0.0; 3]; 4096];
-    let mut links = [0u32; 4096];
-    let mut points = [[0i16; 3]; 1024];
-    put_lent(
-        text,
-        at,
-        xs,
-        ys,
-        flags,
-        settings,
-        told,
+        order,
         &mut ox,
         &mut oy,
         &mut of,
@@ -265,60 +173,56 @@ fn gap(a: i16, b: i16) -> f64 {
 // How far it is around a contour, by steps along x and y from point to point and from the last to the first. Past 1000 it is not summed on. In
 // floats, where no sum overflows.
 fn around(xs: &[i16], ys: &[i16]) -> f64 {
-    let n = rows::least(xs.len(), ys.len());
+    let n = xs.len().min(ys.len());
     if n == 0 {
         return 0.0;
     }
     let mut sum = 0.0;
     let mut j = n - 1;
-    let mut i = 0;
-    while i < n {
+    for i in 0..n {
         sum = sum + gap(xs[i], xs[j]) + gap(ys[i], ys[j]);
         if 1000.0 < sum {
             return sum;
         }
         j = i;
-        i += 1;
     }
     sum
 }
 
-// In the shorter of the short rows, where these nearly always have room for a contour so far around. Only the time hangs on the choice.
+// In 3 KiB of rows or 72, the shorter where they nearly always have room for a contour so far around. Only the time hangs on the choice.
 fn put_short(
     text: &mut [u8],
     at: usize,
     xs: &[i16],
     ys: &[i16],
     flags: &[u8],
-    settings: Settings,
-    told: bool,
+    order: Order,
     far: f64,
-) -> Fit
-    ensures { Tries text.old at (answer_text settings told xs.now ys.now flags.now) text.new result }
+) -> Option<usize>
+    ensures { Tries text.old at (answer_text order xs.now ys.now flags.now) text.new result }
 {
     if far <= 16.0 {
-        return put_tiny(text, at, xs, ys, flags, settings, told);
+        return put_in::<32, 20, 20, 40>(text, at, xs, ys, flags, order);
     }
-    put_small(text, at, xs, ys, flags, settings, told)
+    put_in::<1024, 256, 512, 1024>(text, at, xs, ys, flags, order)
 }
 
-// In the shorter of the long rows, likewise; short, where they are too short.
+// In 256 KiB of rows, likewise; None, where they are too short.
 fn put_less(
     text: &mut [u8],
     at: usize,
     xs: &[i16],
     ys: &[i16],
     flags: &[u8],
-    settings: Settings,
-    told: bool,
+    order: Order,
     far: f64,
-) -> Fit
-    ensures { Tries text.old at (answer_text settings told xs.now ys.now flags.now) text.new result }
+) -> Option<usize>
+    ensures { Tries text.old at (answer_text order xs.now ys.now flags.now) text.new result }
 {
     if far <= 1000.0 {
-        return put_middling(text, at, xs, ys, flags, settings, told);
+        return put_in::<1024, 1024, 2048, 4096>(text, at, xs, ys, flags, order);
     }
-    Fit::Short
+    None
 }
 
 // The answer to a contour so far around, in long rows.
@@ -328,15 +232,14 @@ fn put_long(
     xs: &[i16],
     ys: &[i16],
     flags: &[u8],
-    settings: Settings,
-    told: bool,
+    order: Order,
     far: f64,
 ) -> usize
-    ensures { Put text.old at (answer_text settings told xs.now ys.now flags.now) text.new result }
+    ensures { Put text.old at (answer_text order xs.now ys.now flags.now) text.new result }
 {
-    match put_less(text, at, xs, ys, flags, settings, told, far) {
-        Fit::Put(end) => end,
-        Fit::Short => put_full(text, at, xs, ys, flags, settings, told),
+    match put_less(text, at, xs, ys, flags, order, far) {
+        Some(end) => end,
+        None => put_full(text, at, xs, ys, flags, order),
     }
 }
 
@@ -349,77 +252,51 @@ fn put_crunched(
     xs: &[i16],
     ys: &[i16],
     flags: &[u8],
-    settings: Settings,
-    told: bool,
+    order: Order,
 ) -> usize
-    ensures { Put text.old at (answer_text settings told xs.now ys.now flags.now) text.new result }
+    ensures { Put text.old at (answer_text order xs.now ys.now flags.now) text.new result }
 {
     let far = around(xs, ys);
     if 250.0 < far {
-        return put_long(text, at, xs, ys, flags, settings, told, far);
+        return put_long(text, at, xs, ys, flags, order, far);
     }
-    match put_short(text, at, xs, ys, flags, settings, told, far) {
-        Fit::Put(end) => end,
-        Fit::Short => {
-            let end = put_long(text, at, xs, ys, flags, settings, told, far);
-            rows::least(end, text.len())
+    match put_short(text, at, xs, ys, flags, order, far) {
+        Some(end) => end,
+        None => {
+            let end = put_long(text, at, xs, ys, flags, order, far);
+            end.min(text.len())
         }
     }
 }
 
-// The answer to a line that is read into lent rows. They have a place for each point that it can have, or 1,025: so many are
-// refused as more would be.
-fn put_parsed(
-    text: &mut [u8],
-    at: usize,
-    line: &[u8],
-    settings: Settings,
-    told: bool,
-    xs: &mut [i16],
-    ys: &mut [i16],
-    flags: &mut [u8],
-) -> usize
-    requires { (places_for line.now ≤ length xs.old) × (places_for line.now ≤ length ys.old) × (places_for line.now ≤ length flags.old) }
-    ensures { Put text.old at (line_text (record { settings = settings; told = told }) line.now) text.new result }
+// The answer to a line that is read into rows of this function's own, which are cleared in a fraction of the time where they are
+// short. They have a place for each point that the line can have, or 1,025: so many are refused as more would be.
+fn put_read<const N: usize>(text: &mut [u8], at: usize, line: &[u8], order: Order) -> usize
+    requires room { places_for line.now ≤ N }
+    requires most { N ≤ 1025 }
+    ensures { Put text.old at (line_text order line.now) text.new result }
 {
-    match lines::parse(line, xs, ys, flags) {
-        Parsed::Malformed => lines::put_all(text, at, b"malformed"),
-        Parsed::Points(n) => {
-            let m = rows::least(n, 1025);
-            put_crunched(text, at, &xs[..m], &ys[..m], &flags[..m], settings, told)
+    let mut xs = [0i16; N];
+    let mut ys = [0i16; N];
+    let mut flags = [0u8; N];
+    match lines::parse(line, &mut xs, &mut ys, &mut flags) {
+        None => lines::put_all(text, at, b"malformed"),
+        Some(n) => {
+            let m = n.min(1025);
+            put_crunched(text, at, &xs[..m], &ys[..m], &flags[..m], order)
         }
     }
 }
 
-// In rows that a line so short does not overfill, and that are cleared in a fraction of the time: a point takes six bytes with the blanks
-// after its words, and the last blank is none of the line's.
-fn put_brief(text: &mut [u8], at: usize, line: &[u8], settings: Settings, told: bool) -> usize
-    requires { length line.now < 192 }
-    ensures { Put text.old at (line_text (record { settings = settings; told = told }) line.now) text.new result }
-{
-    let mut xs = [0i16; 32];
-    let mut ys = [0i16; 32];
-    let mut flags = [0u8; 32];
-    put_parsed(text, at, line, settings, told, &mut xs, &mut ys, &mut flags)
-}
-
-fn put_read(text: &mut [u8], at: usize, line: &[u8], settings: Settings, told: bool) -> usize
-    ensures { Put text.old at (line_text (record { settings = settings; told = told }) line.now) text.new result }
-{
-    if line.len() < 192 {
-        return put_brief(text, at, line, settings, told);
-    }
-    let mut xs = [0i16; 1025];
-    let mut ys = [0i16; 1025];
-    let mut flags = [0u8; 1025];
-    put_parsed(text, at, line, settings, told, &mut xs, &mut ys, &mut flags)
-}
-
-// The answer to a line, which is given without its end, and a line end after it.
+// The answer to a line, which is given without its end, and a line end after it. A point takes six bytes with the blanks after its
+// words, and the last blank is none of the line's.
 pub fn put_answer(text: &mut [u8], at: usize, line: &[u8], order: Order) -> usize
     ensures { Put text.old at (line_text order line.now ++ (10 ∷ [])) text.new result }
 {
-    let settings = order.settings;
-    let a = put_read(text, at, line, settings, order.told);
+    let a = if line.len() < 192 {
+        put_read::<32>(text, at, line, order)
+    } else {
+        put_read::<1025>(text, at, line, order)
+    };
     lines::put_byte(text, a, b'\n')
 }

@@ -1,5 +1,5 @@
 -- The derivative of a quad, its speed, and its length by ten steps of RK4 over one value. Definitions only.
-use Rattle.std.specs.Prelude.{[], ◌∷◌, get_or, Float}
+use Rattle.std.specs.Prelude.{List, [], ◌∷◌, get_or, Float, Option, Some, None}
 use Rattle.std.specs.Float.{nan, binary64}
 use Rattle.std.specs.Float.Ieee.{sub, mul}
 use Rattle.float.specs.Numbers.{nought, two}
@@ -7,7 +7,7 @@ pub use Rattle.float.specs.Numbers.{tenth, hundredth}
 use Rattle.geometry.specs.Geometry.{along_of, norm_of}
 use Rattle.geometry.specs.declared.Point.{Point}
 use Rattle.geometry.specs.declared.Quad.{Quad}
-use Rattle.arclen.specs.Rk4.{Tried, at, refused, Rates, rk4, walk}
+use Rattle.arclen.specs.Rk4.{Rates, rk4, walk}
 use Rattle.arclen.specs.declared.ArclenFunctor.{ArclenFunctor}
 
 abbrev pub doubled : Float → Float → Float
@@ -30,12 +30,12 @@ speed_of f t = norm_of (deriv_of f t)
 
 -- the rate of the length is the speed: it does not look at the length
 abbrev pub length_rates : ArclenFunctor → Rates
-length_rates f t y = at (speed_of f t ∷ [])
+length_rates f t y = Some (speed_of f t ∷ [])
 
 -- the first value
-abbrev pub first_of : Tried → Float
-first_of (at y) = get_or y 0 nan
-first_of refused = nan
+abbrev pub first_of : Option (List Float) → Float
+first_of (Some y) = get_or y 0 nan
+first_of None = nan
 
 -- RK4 for one value: the length after one step of h, from the length y at t
 unfoldable pub rk4_one : ArclenFunctor → Float → Float → Float → Float

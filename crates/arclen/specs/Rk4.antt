@@ -1,20 +1,16 @@
--- RK4 over any number of values, operation for operation as the Rust's `rk4`. The rates may be refused, which ends the work. Definitions only.
-use Rattle.std.specs.Prelude.{ℕ, zero, suc, List, [], ◌∷◌, Float}
+-- RK4 over any number of values, operation for operation as the Rust's `rk4`. The rates may be refused, which is None, and ends the work. Definitions only.
+use Rattle.std.specs.Prelude.{ℕ, zero, suc, List, [], ◌∷◌, Float, Option, Some, option_and_then}
 use Rattle.std.specs.Float.{binary64}
 use Rattle.std.specs.Float.Ieee.{add, mul, div}
 use Rattle.float.specs.Numbers.{half, two, six}
 
-pub data Tried : Type 0 where
-  at : List Float → Tried
-  refused : Tried
-
-abbrev pub and_then : Tried → (List Float → Tried) → Tried
-and_then (at k) f = f k
-and_then refused f = refused
+-- f of what is there
+abbrev pub and_then : {A B : Type 0} → Option A → (A → Option B) → Option B
+and_then x f = option_and_then f x
 
 -- the rates of the values, at a time and the values there
 abbrev pub Rates : Type 0
-Rates = Float → List Float → Tried
+Rates = Float → List Float → Option (List Float)
 
 -- half of a step
 abbrev pub half_of : Float → Float
@@ -45,15 +41,15 @@ grown_all h (y ∷ ys) (a ∷ k1) (b ∷ k2) (c ∷ k3) [] = []
 grown_all h (y ∷ ys) (a ∷ k1) (b ∷ k2) (c ∷ k3) (d ∷ k4) = grown_by h y a b c d ∷ grown_all h ys k1 k2 k3 k4
 
 -- one step of the length h, from the time t and the values y
-unfoldable pub rk4 : Rates → Float → Float → List Float → Tried
+unfoldable pub rk4 : Rates → Float → Float → List Float → Option (List Float)
 rk4 f h t y =
     and_then (f t y) (λ k1.
     and_then (f (add binary64 t (half_of h)) (moved (half_of h) y k1)) (λ k2.
     and_then (f (add binary64 t (half_of h)) (moved (half_of h) y k2)) (λ k3.
     and_then (f (add binary64 t h) (moved h y k3)) (λ k4.
-    at (grown_all h y k1 k2 k3 k4)))))
+    Some (grown_all h y k1 k2 k3 k4)))))
 
 -- n steps, with the time adding up
-unfoldable pub walk : Rates → Float → ℕ → Float → List Float → Tried
-walk f h zero t y = at y
+unfoldable pub walk : Rates → Float → ℕ → Float → List Float → Option (List Float)
+walk f h zero t y = Some y
 walk f h (suc n) t y = and_then (rk4 f h t y) (walk f h n (add binary64 t h))

@@ -11,7 +11,7 @@ ghost use Rattle.arclen.specs.One.{RatesOne, StepsOne};
 use geometry::{Point, Quad};
 
 // The derivative of a quad: its values at both ends.
-#[derive(Clone, Copy)]
+#[derive(Clone, Copy, Debug, PartialEq)]
 pub struct ArclenFunctor {
     pub dx0: f64,
     pub dy0: f64,
@@ -88,11 +88,9 @@ pub fn arclen(q: Quad) -> f64
     let h = 1.0 / 10.0;
     let mut t = 0.0;
     let mut y = 0.0;
-    let mut i = 0usize;
-    while i < 10 {
+    for _i in 0..10usize {
         y = rk4(f, h, t, y);
-        t = t + h;
-        i += 1;
+        t += h;
     }
     y
 }

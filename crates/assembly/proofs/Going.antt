@@ -1,4 +1,6 @@
 -- The runs in order: what the loop keeps, one turn of it, and its ends. Assumes nothing.
+use Rattle.std.specs.Prelude.{Option, Some, None, Result, Ok, Err}
+use Rattle.refusals.specs.declared.refusal.Refusal.{Refusal}
 use Prim.Native.Nat.{ℕ, suc, ◌+◌, ◌≤◌, ◌<◌}
 use native.Mathlib.Numerals.{add-one}
 use native.Mathlib.Omega.{arith}
@@ -10,10 +12,9 @@ use lib.IntN.{ℤ}
 use lib.ListN.{length, take, drop, get_or}
 use lib.Seq.{length-take-le}
 use Rattle.outline.specs.Segments.{start_of}
-use Rattle.runs.specs.Runs.{Span, stops_of, between, run_at, Listed}
+use Rattle.runs.specs.Runs.{stops_of, between, run_at, Listed}
 use Rattle.runs.specs.Laws.{run_here, run_none, runs_end}
 use Rattle.runs.specs.declared.Run.{Run}
-use Rattle.runs.specs.declared.Run.TheVariants.{Between, Nothing}
 use Rattle.rows.specs.Rows.{work}
 use Rattle.settings.specs.declared.Settings.{Settings}
 use Rattle.optimize.specs.Fallen.{Upto, nothing_upto, upto_more}
@@ -34,10 +35,10 @@ use Rattle.assembly.specs.declared.Progress.{Progress}
 
 -- ---- what an answer says of the state that it stands for
 
-pub refused_for : {room : ℕ} {row : Points} {s : State} {r : C.Crunching} {n : ℕ} → Stands room row s r → r ≡ Crunching.Refused n → s ≡ refused n
+pub refused_for : {room : ℕ} {row : Points} {s : State} {r : Result C.Crunching Refusal} {n : Refusal} → Stands room row s r → r ≡ Err n → s ≡ refused n
 refused_for (stops e) h = cc
-refused_for (ends e wrote counted) h = let z : ◌≡◌ {A = ℕ} 0 1 = cc in absurd (omega arith)
-refused_for (goes e wrote counted) h = let z : ◌≡◌ {A = ℕ} 0 1 = cc in absurd (omega arith)
+refused_for (ends e wrote counted) h = absurd cc
+refused_for (goes e wrote counted) h = absurd cc
 
 -- the points written, where the work goes on or has ended
 pub record Standing (room : ℕ) (row : Points) (s : State) (state : Points → Tally → State) (p : Progress) : Type 0 where
@@ -54,14 +55,14 @@ standing {room} {row} state ps wrote counted same =
       wrote = subst (λ (x : Progress). Wrote row x.w (written room ps)) same wrote;
     }
 
-pub ended_for : {room : ℕ} {row : Points} {s : State} {r : C.Crunching} {p : Progress} → Stands room row s r → r ≡ Crunching.Ended p → Standing room row s ended p
-ended_for (stops e) h = let z : ◌≡◌ {A = ℕ} 0 1 = cc in absurd (omega arith)
+pub ended_for : {room : ℕ} {row : Points} {s : State} {r : Result C.Crunching Refusal} {p : Progress} → Stands room row s r → r ≡ Ok (Crunching.Ended p) → Standing room row s ended p
+ended_for (stops e) h = absurd cc
 ended_for (ends {ps = ps} e wrote counted) h = standing ended ps wrote counted cc
-ended_for (goes e wrote counted) h = let z : ◌≡◌ {A = ℕ} 0 1 = cc in absurd (omega arith)
+ended_for (goes e wrote counted) h = absurd cc
 
-pub going_for : {room : ℕ} {row : Points} {s : State} {r : C.Crunching} {p : Progress} → Stands room row s r → r ≡ Crunching.Going p → Standing room row s going p
-going_for (stops e) h = let z : ◌≡◌ {A = ℕ} 0 1 = cc in absurd (omega arith)
-going_for (ends e wrote counted) h = let z : ◌≡◌ {A = ℕ} 0 1 = cc in absurd (omega arith)
+pub going_for : {room : ℕ} {row : Points} {s : State} {r : Result C.Crunching Refusal} {p : Progress} → Stands room row s r → r ≡ Ok (Crunching.Going p) → Standing room row s going p
+going_for (stops e) h = absurd cc
+going_for (ends e wrote counted) h = absurd cc
 going_for (goes {ps = ps} e wrote counted) h = standing going ps wrote counted cc
 
 -- ---- the loop, from the rows' contents at its start to those of now
@@ -70,14 +71,14 @@ module _ (xs ys : List ℤ) (fs corners : List ℕ) (settings : Settings) (s₀ 
   abbrev rooms : Rooms
   rooms = rooms_of (work s₀ b₀ a₀ l₀)
 
-  abbrev along : List Span → State → State
+  abbrev along : List Run → State → State
   along rs s = crunch_all rooms settings xs ys fs rs s
 
-  none_left : {rs : List Span} (s : State) → rs ≡ [] → along rs s ≡ s
+  none_left : {rs : List Run} (s : State) → rs ≡ [] → along rs s ≡ s
   unfolding crunch_all
   none_left s e = rw e refl
 
-  one_more : {rs rest : List Span} (r : Span) (ps : Points) (t : Tally) → rs ≡ r ∷ rest → along rs (going ps t) ≡ along rest (after_run rooms settings xs ys fs r ps t)
+  one_more : {rs rest : List Run} (r : Run) (ps : Points) (t : Tally) → rs ≡ r ∷ rest → along rs (going ps t) ≡ along rest (after_run rooms settings xs ys fs r ps t)
   unfolding crunch_all
   one_more r ps t e = rw e refl
 
@@ -85,7 +86,7 @@ module _ (xs ys : List ℤ) (fs corners : List ℕ) (settings : Settings) (s₀ 
   abbrev whole : Points → State
   whole ps = along (between corners) (going ps p₀.tally)
 
-  abbrev Whole : Points → C.Crunching → Type 0
+  abbrev Whole : Points → Result C.Crunching Refusal → Type 0
   Whole points c = (ps : Points) → Wrote points₀ p₀.w (written (length points₀) ps) → Stands (length points₀) points (whole ps) c
 
   -- what is left from run k on
@@ -122,22 +123,22 @@ module _ (xs ys : List ℤ) (fs corners : List ℕ) (settings : Settings) (s₀ 
     pub running_few : k < length corners → length corners ≤ 1025 → Upto 1024 p.tally
     running_few h few = upto_more (omega arith) now.few
 
-    finished : drop k (between corners) ≡ [] → Whole points (Crunching.Going p)
+    finished : drop k (between corners) ≡ [] → Whole points (Ok (Crunching.Going p))
     finished e ps wrote =
         let there = now.reach ps wrote in
         rw (there.left, none_left (going there.sofar p.tally) e) (goes refl there.wrote refl)
 
-    pub no_more : {r : Run} → r ≡ run_at (between corners) k → r ≡ Nothing → Whole points (Crunching.Going p)
+    pub no_more : {r : Option Run} → r ≡ run_at (between corners) k → r ≡ None → Whole points (Ok (Crunching.Going p))
     no_more is e = finished (run_none (between corners) k (sym is ∙ e))
 
-    pub all_seen : length corners ≤ k → Whole points (Crunching.Going p)
+    pub all_seen : length corners ≤ k → Whole points (Ok (Crunching.Going p))
     all_seen h = finished (runs_end corners k h)
 
     -- one run: what it leaves in the rows
-    module _ {r : Run} (at : r ≡ run_at (between corners) k) {first count : ℕ} (is : r ≡ Between first count) {points' : Points} {c : C.Crunching}
+    module _ {r : Option Run} (at : r ≡ run_at (between corners) k) {first count : ℕ} (is : r ≡ Some (record { first = first; count = count })) {points' : Points} {c : Result C.Crunching Refusal}
         (then : (ps : Points) → Wrote points p.w (written (length points) ps) →
         Stands (length points) points' (after_run (rooms_of (work s b a l)) settings xs ys fs (record { first = first; count = count }) ps p.tally) c) where
-      abbrev run : Span
+      abbrev run : Run
       run = record { first = first; count = count }
 
       rooms_same : rooms_of (work s b a l) ≡ rooms
@@ -159,17 +160,17 @@ module _ (xs ys : List ℤ) (fs corners : List ℕ) (settings : Settings) (s₀ 
             (subst (λ (x : Rooms). Stands (length points) points' (after_run x settings xs ys fs run there.sofar p.tally) c) rooms_same
             (then there.sofar (subst (λ (n : ℕ). Wrote points p.w (written n there.sofar)) (sym now.long) there.wrote)))
 
-      pub run_refused : {n : ℕ} → c ≡ Crunching.Refused n → Whole points' (Crunching.Refused n)
+      pub run_refused : {n : Refusal} → c ≡ Err n → Whole points' (Err n)
       run_refused {n} h ps wrote =
           let so : after ps wrote ≡ refused n = refused_for (after_stands ps wrote) h in
           rw (after_left ps wrote, so, stays_refused rooms settings xs ys fs (drop (suc k) (between corners)) n) (stops refl)
 
-      pub run_ended : {q : Progress} → c ≡ Crunching.Ended q → Whole points' (Crunching.Ended q)
+      pub run_ended : {q : Progress} → c ≡ Ok (Crunching.Ended q) → Whole points' (Ok (Crunching.Ended q))
       run_ended {q} h ps wrote =
           let so = ended_for (after_stands ps wrote) h in
           rw (after_left ps wrote, so.is, stays_ended rooms settings xs ys fs (drop (suc k) (between corners)) so.points q.tally) (ends refl so.wrote refl)
 
-      pub run_on : {s' b' a' : List (List Float)} {l' : List ℕ} {q : Progress} → c ≡ Crunching.Going q → ((runs : ℕ) → Upto runs p.tally → Upto (runs + 1) (tally_in c)) → k < length corners →
+      pub run_on : {s' b' a' : List (List Float)} {l' : List ℕ} {q : Progress} → c ≡ Ok (Crunching.Going q) → ((runs : ℕ) → Upto runs p.tally → Upto (runs + 1) (tally_in c)) → k < length corners →
           length s' ≡ length s → length b' ≡ length b → length a' ≡ length a → length l' ≡ length l → length points' ≡ length points → Running s' b' a' l' points' q (k + 1)
       run_on {q = q} h few more ks kb ka kl kp =
           record {
@@ -179,7 +180,7 @@ module _ (xs ys : List ℤ) (fs corners : List ℕ) (settings : Settings) (s₀ 
             links = kl ∙ now.links;
             long = kp ∙ now.long;
             upto = omega arith;
-            few = subst (λ (x : C.Crunching). Upto (k + 1) (tally_in x)) h (few k now.few);
+            few = subst (λ (x : Result C.Crunching Refusal). Upto (k + 1) (tally_in x)) h (few k now.few);
             reach = λ ps wrote.
                 let so = going_for (after_stands ps wrote) h in
                 record { sofar = so.points; wrote = so.wrote; left = rw add-one (after_left ps wrote ∙ ap (along (drop (suc k) (between corners))) so.is) };
@@ -187,26 +188,26 @@ module _ (xs ys : List ℤ) (fs corners : List ℕ) (settings : Settings) (s₀ 
 
 -- ---- `close_up`
 
-pub refused_closes : (s : List ℤ) {row : Points} {c : C.Crunching} {n : ℕ} → c ≡ Crunching.Refused n → ClosesUp row row c s (Crunching.Refused n)
+pub refused_closes : (s : List ℤ) {row : Points} {c : Result C.Crunching Refusal} {n : Refusal} → c ≡ Err n → ClosesUp row row c s (Err n)
 refused_closes s h x stands = rw (refused_for stands h) (stops refl)
 
-pub ended_closes : (s : List ℤ) {row : Points} {c : C.Crunching} {p : Progress} → c ≡ Crunching.Ended p → ClosesUp row row c s (Crunching.Ended p)
+pub ended_closes : (s : List ℤ) {row : Points} {c : Result C.Crunching Refusal} {p : Progress} → c ≡ Ok (Crunching.Ended p) → ClosesUp row row c s (Ok (Crunching.Ended p))
 ended_closes s h x stands = let so = ended_for stands h in rw so.is (ends refl so.wrote refl)
 
-pub going_closes : (s : List ℤ) {old new : Points} {c : C.Crunching} {p : Progress} {w : Written} → c ≡ Crunching.Going p → Closed old p.w new w s →
-    ClosesUp old new c s (Crunching.Going (record { w = w; tally = p.tally }))
+pub going_closes : (s : List ℤ) {old new : Points} {c : Result C.Crunching Refusal} {p : Progress} {w : Written} → c ≡ Ok (Crunching.Going p) → Closed old p.w new w s →
+    ClosesUp old new c s (Ok (Crunching.Going (record { w = w; tally = p.tally })))
 going_closes s h closed x stands = let so = going_for stands h in rw so.is (goes refl (closed so.points so.wrote) refl)
 
 module _ (rooms : Rooms) (settings : Settings) (xs ys : List ℤ) (fs : List ℕ) where
   -- ---- `crunch_round`
 
   pub no_stops : (list : List ℕ) → length list ≡ 0 → {row : Points} {room : ℕ} {w : Written} → Wrote row w (written room (unchanged_in xs ys fs settings.closed)) →
-      Stands room row (crunch_round rooms settings xs ys fs list) (Crunching.Ended (record { w = w; tally = untried }))
+      Stands room row (crunch_round rooms settings xs ys fs list) (Ok (Crunching.Ended (record { w = w; tally = untried })))
   no_stops [] e wrote = ends refl wrote refl
   no_stops (a ∷ list) e wrote = absurd (omega (arith, e))
 
   pub round_stands : (list : List ℕ) → (length list ≡ 0 → ⊥) → {a : ℕ} {s : List ℤ} → a ≡ start_of fs (get_or list 0 0) → s ≡ point_as true xs ys a →
-      {row row' row'' : Points} {w : Written} {c r : C.Crunching} → w ≡ record { count = 0; over = false } →
+      {row row' row'' : Points} {w : Written} {c r : Result C.Crunching Refusal} → w ≡ record { count = 0; over = false } →
       ((ps : Points) → Wrote row w (written (length row) ps) → Stands (length row) row' (crunch_all rooms settings xs ys fs (between list) (going ps untried)) c) →
       length row' ≡ length row → ClosesUp row' row'' c s r → Stands (length row) row'' (crunch_round rooms settings xs ys fs list) r
   round_stands [] some place start none then same closes = absurd (some refl)
@@ -219,7 +220,7 @@ module _ (rooms : Rooms) (settings : Settings) (xs ys : List ℤ) (fs : List ℕ
 
   -- ---- `crunch_points`, by the mode
 
-  module _ {list : List ℕ} (listed : list ≡ stops_of settings.closed xs ys fs) {row' : Points} {room : ℕ} {c : C.Crunching} where
+  module _ {list : List ℕ} (listed : list ≡ stops_of settings.closed xs ys fs) {row' : Points} {room : ℕ} {c : Result C.Crunching Refusal} where
     pub closed_stand : settings.closed ≡ true → Stands room row' (crunch_round rooms settings xs ys fs list) c → Stands room row' (crunch_runs rooms settings xs ys fs) c
     unfolding crunch_runs
     closed_stand mode there =

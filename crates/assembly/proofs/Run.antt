@@ -1,4 +1,6 @@
 -- One run more: what stands in the row for points after it, of what the work on it leaves. Assumes nothing.
+use Rattle.std.specs.Prelude.{Option, Some, None, Result, Ok, Err}
+use Rattle.refusals.specs.declared.refusal.Refusal.{Refusal}
 use Prim.Native.Nat.{ℕ, ◌≤◌}
 use native.Mathlib.Omega.{arith}
 use mathlib.Core.Bool.{Bool, true, false}
@@ -11,7 +13,8 @@ use Rattle.breaks.specs.Breaks.{Row}
 use Rattle.breaks.specs.declared.Grid.{Grid}
 use Rattle.outline.specs.Segments.{start_of, seg_from}
 use Rattle.outline.specs.declared.Seg.{Seg}
-use Rattle.runs.specs.Runs.{Span, copied_from}
+use Rattle.runs.specs.Runs.{copied_from}
+use Rattle.runs.specs.declared.Run.{Run}
 use Rattle.samples.specs.Samples.{Sample}
 use Rattle.attempt.specs.Answers.{Statelet}
 use Rattle.optimize.specs.Fallen.{Upto}
@@ -20,9 +23,8 @@ use Rattle.optimize.specs.declared.Tally.{Tally}
 use Rattle.optimize.specs.Stored.{Anywhere, Holds}
 use Rattle.survey.specs.Survey.{survey_of, survey_in, samples_used, breaks_used}
 use Rattle.survey.specs.declared.Surveyed as Y
-use Rattle.survey.specs.declared.Surveyed.TheVariants as Surveyed
 use Rattle.settings.specs.declared.Settings.{Settings}
-use Rattle.edition.specs.Edition.{Result, Rooms, edition_of, after_survey, work_of, Works}
+use Rattle.edition.specs.Edition.{RunOutcome, Rooms, edition_of, after_survey, work_of, Works}
 use Rattle.edition.specs.Edition as E
 use Rattle.edition.specs.Laws.{surveyed_found, tally_of, tally_in, works_tally, works_refused, works_unchanged}
 use Rattle.edition.specs.declared.Worked as W
@@ -41,7 +43,7 @@ use Rattle.assembly.specs.declared.Crunching.TheVariants as Crunching
 -- ---- what the answer of the work says of its result
 
 -- the answer of a solved run, and that its points can be written
-pub record Done (breaks : Row) (answers : List (List Float)) (links : List ℕ) (x : Result) (n k : ℕ) (t : Tally) : Type 0 where
+pub record Done (breaks : Row) (answers : List (List Float)) (links : List ℕ) (x : RunOutcome) (n k : ℕ) (t : Tally) : Type 0 where
   pub answer : Statelet
   pub is : x ≡ E.solved answer t
   pub within : n ≤ length breaks
@@ -49,16 +51,16 @@ pub record Done (breaks : Row) (answers : List (List Float)) (links : List ℕ) 
   pub stored : Stored (take n breaks) answers links k
 
 -- with the penalty that was chosen
-pub chosen : (answers links : ℕ) (samples : List Sample) (breaks : Row) {answers' : List (List Float)} {links' : List ℕ} {r : W.Worked} {p q : Float} → p ≡ q →
+pub chosen : (answers links : ℕ) (samples : List Sample) (breaks : Row) {answers' : List (List Float)} {links' : List ℕ} {r : Result W.Worked Refusal} {p q : Float} → p ≡ q →
     Works p breaks answers' links' (edition_of answers links samples breaks p) r → Works q breaks answers' links' (edition_of answers links samples breaks q) r
 chosen answers links samples breaks {answers'} {links'} {r} e works =
     subst (λ (p : Float). Works p breaks answers' links' (edition_of answers links samples breaks p) r) e works
 
 module _ {penalty : Float} {breaks : Row} {answers : List (List Float)} {links : List ℕ} where
-  pub done : {x : Result} {r : W.Worked} {n k : ℕ} {t : Tally} → Works penalty breaks answers links x r → r ≡ Worked.Done n k t →
+  pub done : {x : RunOutcome} {r : Result W.Worked Refusal} {n k : ℕ} {t : Tally} → Works penalty breaks answers links x r → r ≡ Ok (Worked.Done n k t) →
       Done breaks answers links x n k t
-  done (E.no e) h = let z : ◌≡◌ {A = ℕ} 0 1 = cc in absurd (omega arith)
-  done (E.stays e) h = let z : ◌≡◌ {A = ℕ} 0 1 = cc in absurd (omega arith)
+  done (E.no e) h = absurd cc
+  done (E.stays e) h = absurd cc
   done {n = n} {k = k} {t = t} (E.holds {n = n'} {k = k'} {p = p'} {c = c'} {a = a} samples e few fine is held) h =
       let breaks-so : n' ≡ n = cc in
       let place-so : k' ≡ k = cc in
@@ -74,29 +76,29 @@ module _ {penalty : Float} {breaks : Row} {answers : List (List Float)} {links :
       }
 
   -- no sum is too large
-  pub few : {x : Result} {r s : W.Worked} → Works penalty breaks answers links x r → Upto 1 (tally_of x) → r ≡ s → Upto 1 (tally_in s)
+  pub few : {x : RunOutcome} {r s : Result W.Worked Refusal} → Works penalty breaks answers links x r → Upto 1 (tally_of x) → r ≡ s → Upto 1 (tally_in s)
   few works h e = subst (Upto 1) (works_tally works ∙ ap tally_in e) h
 
   -- ---- an edition's step
 
-  module _ {x : Result} {r : W.Worked} (works : Works penalty breaks answers links x r) (itself : Points) where
-    pub refused_stands : {k room : ℕ} {row : Points} (ps : Points) (sofar : Tally) → r ≡ Worked.Refused k → Stands room row (added itself x ps sofar) (Crunching.Refused k)
+  module _ {x : RunOutcome} {r : Result W.Worked Refusal} (works : Works penalty breaks answers links x r) (itself : Points) where
+    pub refused_stands : {k : Refusal} {room : ℕ} {row : Points} (ps : Points) (sofar : Tally) → r ≡ Err k → Stands room row (added itself x ps sofar) (Err k)
     refused_stands ps sofar h = rw (works_refused works h) (stops refl)
 
-    pub unchanged_stands : {t u : Tally} {room : ℕ} {row : Points} {w : Written} (ps : Points) (sofar : Tally) → r ≡ Worked.Unchanged t → u ≡ plus sofar t → Wrote row w (written room itself) →
-        Stands room row (added itself x ps sofar) (Crunching.Ended (record { w = w; tally = u }))
+    pub unchanged_stands : {t u : Tally} {room : ℕ} {row : Points} {w : Written} (ps : Points) (sofar : Tally) → r ≡ Ok (Worked.Unchanged t) → u ≡ plus sofar t → Wrote row w (written room itself) →
+        Stands room row (added itself x ps sofar) (Ok (Crunching.Ended (record { w = w; tally = u })))
     unchanged_stands ps sofar h sum wrote = rw (works_unchanged works h) (ends refl wrote sum)
 
-    pub done_stands : {n k : ℕ} {t u : Tally} {row₀ row : Points} {w₀ w : Written} (ps : Points) (sofar : Tally) → r ≡ Worked.Done n k t → u ≡ plus sofar t →
+    pub done_stands : {n k : ℕ} {t u : Tally} {row₀ row : Points} {w₀ w : Written} (ps : Points) (sofar : Tally) → r ≡ Ok (Worked.Done n k t) → u ≡ plus sofar t →
         ((a : Statelet) → Holds Anywhere (take n breaks) answers links k a → Appended row₀ w₀ row w (pieces_points (quads_of a))) → Wrote row₀ w₀ (written (length row₀) ps) →
-        Stands (length row₀) row (added itself x ps sofar) (Crunching.Going (record { w = w; tally = u }))
+        Stands (length row₀) row (added itself x ps sofar) (Ok (Crunching.Going (record { w = w; tally = u })))
     done_stands {row₀ = row₀} ps sofar h sum pushed wrote =
         let so = done works h in
         rw so.is (goes refl (wrote_after (length row₀) ps (pieces_points (quads_of so.answer)) refl (pushed so.answer so.held) wrote) sum)
 
 -- ---- a run that is worked, of its survey
 
-module _ (xs ys : List ℤ) (fs : List ℕ) (first count : ℕ) (g : Grid) (samples : List Sample) (breaks : Row) (r : Y.Surveyed) where
+module _ (xs ys : List ℤ) (fs : List ℕ) (first count : ℕ) (g : Grid) (samples : List Sample) (breaks : Row) (r : Result (Option Y.Surveyed) Refusal) where
   pub worked : (rooms : Rooms) → survey_of rooms.samples rooms.breaks xs ys fs first count g ≡ survey_in samples breaks r → (penalty : Float) {h : Grid} → g ≡ h →
       work_of rooms h penalty xs ys fs first count ≡ after_survey rooms.answers rooms.links penalty (survey_in samples breaks r)
   unfolding work_of
@@ -104,45 +106,45 @@ module _ (xs ys : List ℤ) (fs : List ℕ) (first count : ℕ) (g : Grid) (samp
       ap (after_survey rooms.answers rooms.links penalty) (ap (survey_of rooms.samples rooms.breaks xs ys fs first count) (sym grid) ∙ survey)
 
   module _ (sampleRow breakRow : ℕ) where
-    found_in : (s : Y.Surveyed) → survey_of sampleRow breakRow xs ys fs first count g ≡ survey_in samples breaks s → FoundIn breaks s
-    found_in (Surveyed.Refused k) e = tt
-    found_in Surveyed.Past e = tt
-    found_in (Surveyed.Rows n m) e = surveyed_found sampleRow breakRow xs ys fs first count g (take n samples) (take m breaks) e
+    found_in : (s : Result (Option Y.Surveyed) Refusal) → survey_of sampleRow breakRow xs ys fs first count g ≡ survey_in samples breaks s → FoundIn breaks s
+    found_in (Err k) e = tt
+    found_in (Ok None) e = tt
+    found_in (Ok (Some s)) e = surveyed_found sampleRow breakRow xs ys fs first count g (take s.samples samples) (take s.breaks breaks) e
 
     -- what a step asks of the rows that it is lent, which are as long as the survey was lent them
     pub sighted : survey_of sampleRow breakRow xs ys fs first count g ≡ survey_in samples breaks r → samples_used r ≤ sampleRow → breaks_used r ≤ breakRow →
         length samples ≡ sampleRow → length breaks ≡ breakRow → Sighted samples breaks r
     sighted survey s b ks kb = record { samples_in_lem = omega arith; breaks_in_lem = omega arith; found = found_in r survey }
 
-pub worked_so : (itself ps : Points) (sofar : Tally) {x y : Result} {room : ℕ} {row : Points} {c : C.Crunching} → x ≡ y →
+pub worked_so : (itself ps : Points) (sofar : Tally) {x y : RunOutcome} {room : ℕ} {row : Points} {c : Result C.Crunching Refusal} → x ≡ y →
     Stands room row (added itself y ps sofar) c → Stands room row (added itself x ps sofar) c
-worked_so itself ps sofar {room = room} {row = row} {c = c} e stands = subst (λ (z : Result). Stands room row (added itself z ps sofar) c) (sym e) stands
+worked_so itself ps sofar {room = room} {row = row} {c = c} e stands = subst (λ (z : RunOutcome). Stands room row (added itself z ps sofar) c) (sym e) stands
 
 -- ---- a step after a survey, by what the survey is
 
-module _ (answers links : ℕ) (penalty : Float) (itself : Points) (samples : List Sample) (breaks : Row) {s t : Y.Surveyed} (is : s ≡ t) where
-  pub surveyed_so : (ps : Points) (sofar : Tally) {room : ℕ} {row : Points} {c : C.Crunching} →
+module _ (answers links : ℕ) (penalty : Float) (itself : Points) (samples : List Sample) (breaks : Row) {s t : Result (Option Y.Surveyed) Refusal} (is : s ≡ t) where
+  pub surveyed_so : (ps : Points) (sofar : Tally) {room : ℕ} {row : Points} {c : Result C.Crunching Refusal} →
       Stands room row (added itself (after_survey answers links penalty (survey_in samples breaks t)) ps sofar) c →
       Stands room row (added itself (after_survey answers links penalty (survey_in samples breaks s)) ps sofar) c
-  surveyed_so ps sofar stands = worked_so itself ps sofar (ap (λ (y : Y.Surveyed). after_survey answers links penalty (survey_in samples breaks y)) is) stands
+  surveyed_so ps sofar stands = worked_so itself ps sofar (ap (λ (y : Result (Option Y.Surveyed) Refusal). after_survey answers links penalty (survey_in samples breaks y)) is) stands
 
 -- ---- a run, copied or worked
 
-module _ (rooms : Rooms) (settings : Settings) (xs ys : List ℤ) (fs : List ℕ) (run : Span) {a : ℕ} (place : a ≡ start_of fs run.first)
+module _ (rooms : Rooms) (settings : Settings) (xs ys : List ℤ) (fs : List ℕ) (run : Run) {a : ℕ} (place : a ≡ start_of fs run.first)
     {copied : Bool} (test : copied ≡ copied_from xs ys fs a run.count) where
   tested : {b : Bool} → copied ≡ b → copied_from xs ys fs (start_of fs run.first) run.count ≡ b
   tested e = ap (λ (at : ℕ). copied_from xs ys fs at run.count) (sym place) ∙ sym test ∙ e
 
   pub copied_stands : copied ≡ true → {seg : Seg} → seg ≡ seg_from xs ys fs a → {row₀ row : Points} {w₀ w : Written} (ps : Points) (sofar : Tally) →
       Appended row₀ w₀ row w (points_of seg) → Wrote row₀ w₀ (written (length row₀) ps) →
-      Stands (length row₀) row (after_run rooms settings xs ys fs run ps sofar) (Crunching.Going (record { w = w; tally = sofar }))
+      Stands (length row₀) row (after_run rooms settings xs ys fs run ps sofar) (Ok (Crunching.Going (record { w = w; tally = sofar })))
   unfolding after_run
   copied_stands test-so {seg} is {row₀} {row} {w₀} {w} ps sofar pushed wrote =
       let segment : seg ≡ seg_from xs ys fs (start_of fs run.first) = is ∙ ap (seg_from xs ys fs) place in
       let there = wrote_after (length row₀) ps (points_of (seg_from xs ys fs (start_of fs run.first))) refl (subst (λ (s : Seg). Appended row₀ w₀ row w (points_of s)) segment pushed) wrote in
-      subst (λ (b : Bool). Stands (length row₀) row (run_if rooms settings xs ys fs b run ps sofar) (Crunching.Going (record { w = w; tally = sofar }))) (sym (tested test-so)) (goes refl there refl)
+      subst (λ (b : Bool). Stands (length row₀) row (run_if rooms settings xs ys fs b run ps sofar) (Ok (Crunching.Going (record { w = w; tally = sofar })))) (sym (tested test-so)) (goes refl there refl)
 
-  pub worked_stands : copied ≡ false → {room : ℕ} {row : Points} {c : C.Crunching} (ps : Points) (sofar : Tally) →
+  pub worked_stands : copied ≡ false → {room : ℕ} {row : Points} {c : Result C.Crunching Refusal} (ps : Points) (sofar : Tally) →
       Stands room row (added (unchanged_in xs ys fs settings.closed) (result_of rooms settings xs ys fs run) ps sofar) c → Stands room row (after_run rooms settings xs ys fs run ps sofar) c
   unfolding after_run
   worked_stands test-so {room} {row} {c} ps sofar stands =

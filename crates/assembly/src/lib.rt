@@ -17,6 +17,7 @@ ghost use Rattle.assembly.specs.Stands.{Stands, Sighted, Onward, Adds, ClosesUp}
 use contour::Written;
 use edition::Worked;
 use optimize::Tally;
+use refusals::Refusal;
 use runs::Run;
 use settings::Settings;
 use survey::Surveyed;
@@ -30,8 +31,6 @@ pub struct Progress {
 
 #[derive(Clone, Copy)]
 pub enum Crunching {
-    // the number of a refusal
-    Refused(u8),
     // a run left the contour unchanged: later runs are not seen
     Ended(Progress),
     Going(Progress),
@@ -49,23 +48,22 @@ pub fn step(
     answers: &mut [[f64; 3]],
     links: &mut [u32],
     points: &mut [[i16; 3]],
-) -> Crunching
+) -> Result<Crunching, Refusal>
     requires { FoundBreaks breaks.now × Upto 1024 p.tally }
     ensures { Adds (added (unchanged_in xs.now ys.now flags.now settings.closed)
         (edition_of (room answers) (room links) samples.now breaks.now (penalty_of settings))) points p result }
 {
     let sofar = p.tally;
-    match edition::edition(samples, breaks, answers, links, settings.per_piece()) {
-        Worked::Refused(k) => Crunching::Refused(k),
+    match edition::edition(samples, breaks, answers, links, settings.per_piece())? {
         Worked::Unchanged(t) => {
             let tally = sofar.plus(t);
             let w = contour::unchanged_in(xs, ys, flags, settings.closed, points);
-            Crunching::Ended(Progress { w, tally })
+            Ok(Crunching::Ended(Progress { w, tally }))
         }
         Worked::Done(n, k, t) => {
             let tally = sofar.plus(t);
             let w = pieces::push_chain(&breaks[..n], answers, links, k, points, p.w);
-            Crunching::Going(Progress { w, tally })
+            Ok(Crunching::Going(Progress { w, tally }))
         }
     }
 }
@@ -77,25 +75,29 @@ pub fn after_survey(
     flags: &[u8],
     settings: Settings,
     p: Progress,
-    s: Surveyed,
+    s: Result<Option<Surveyed>, Refusal>,
     samples: &[[f64; 4]],
     breaks: &[[f64; 6]],
     answers: &mut [[f64; 3]],
     links: &mut [u32],
     points: &mut [[i16; 3]],
-) -> Crunching
+) -> Result<Crunching, Refusal>
     requires { Sighted samples.now breaks.now s × Upto 1024 p.tally }
     ensures { Adds (added (unchanged_in xs.now ys.now flags.now settings.closed)
         (after_survey (room answers) (room links) (penalty_of settings) (survey_in samples.now breaks.now s))) points p result }
 {
-    match s {
-        Surveyed::Refused(k) => Crunching::Refused(k),
-        Surveyed::Past => {
+    match s? {
+        None => {
             let tally = p.tally;
             let w = contour::unchanged_in(xs, ys, flags, settings.closed, points);
-            Crunching::Ended(Progress { w, tally })
+            Ok(Crunching::Ended(Progress { w, tally }))
         }
-        Surveyed::Rows(n, m) => {
+        Some(
+            Surveyed {
+                samples: n,
+                breaks: m,
+            },
+        ) => {
             step(
                 xs,
                 ys,
@@ -126,7 +128,7 @@ fn work_run(
     answers: &mut [[f64; 3]],
     links: &mut [u32],
     points: &mut [[i16; 3]],
-) -> Crunching
+) -> Result<Crunching, Refusal>
     requires { Upto 1024 p.tally }
     ensures { Adds (added (unchanged_in xs.now ys.now flags.now settings.closed)
         (result_of (rooms_in samples breaks answers links) settings
@@ -161,7 +163,7 @@ fn crunch_run(
     answers: &mut [[f64; 3]],
     links: &mut [u32],
     points: &mut [[i16; 3]],
-) -> Crunching
+) -> Result<Crunching, Refusal>
     requires { Upto 1024 p.tally }
     ensures { Adds (after_run (rooms_in samples breaks answers links) settings
         xs.now ys.now flags.now (record { first = first; count = count })) points p result }
@@ -170,7 +172,7 @@ fn crunch_run(
     if runs::is_copied_from(xs, ys, flags, a, count) {
         let tally = p.tally;
         let w = contour::push_seg(points, p.w, outline::read_from(xs, ys, flags, a));
-        return Crunching::Going(Progress { w, tally });
+        return Ok(Crunching::Going(Progress { w, tally }));
     }
     work_run(
         xs, ys, flags, first, count, settings, p, samples, breaks, answers, links, points,
@@ -190,46 +192,44 @@ fn crunch_runs(
     answers: &mut [[f64; 3]],
     links: &mut [u32],
     points: &mut [[i16; 3]],
-) -> Crunching
+) -> Result<Crunching, Refusal>
     requires { (length stops.now ≤ 1025) × (from.tally ≡ untried) }
     ensures { Onward (λ ps tally. crunch_all (rooms_in samples breaks answers links) settings xs.now ys.now flags.now
         (between stops.now) (going ps tally)) (before points) (after points) from (room points) result }
 {
     let mut p = from;
-    let mut k = 0;
-    while k < stops.len() {
-        let Run::Between(first, count) = runs::run_at(stops, k) else {
-            return Crunching::Going(p);
+    for k in 0..stops.len() {
+        let Some(Run { first, count }) = runs::run_at(stops, k) else {
+            return Ok(Crunching::Going(p));
         };
         match crunch_run(
             xs, ys, flags, first, count, settings, p, samples, breaks, answers, links, points,
-        ) {
+        )? {
             Crunching::Going(q) => {
                 p = q;
             }
             Crunching::Ended(q) => {
-                return Crunching::Ended(q);
-            }
-            Crunching::Refused(n) => {
-                return Crunching::Refused(n);
+                return Ok(Crunching::Ended(q));
             }
         }
-        k += 1;
     }
-    Crunching::Going(p)
+    Ok(Crunching::Going(p))
 }
 
 // Closed: round from the start s.
-pub fn close_up(c: Crunching, points: &mut [[i16; 3]], s: [i16; 3]) -> Crunching
+pub fn close_up(
+    c: Result<Crunching, Refusal>,
+    points: &mut [[i16; 3]],
+    s: [i16; 3],
+) -> Result<Crunching, Refusal>
     ensures { ClosesUp (before points) (after points) c s result }
 {
-    match c {
-        Crunching::Refused(k) => Crunching::Refused(k),
-        Crunching::Ended(p) => Crunching::Ended(p),
+    match c? {
+        Crunching::Ended(p) => Ok(Crunching::Ended(p)),
         Crunching::Going(p) => {
             let tally = p.tally;
             let w = contour::close(points, p.w, s);
-            Crunching::Going(Progress { w, tally })
+            Ok(Crunching::Going(Progress { w, tally }))
         }
     }
 }
@@ -246,20 +246,20 @@ fn crunch_round(
     answers: &mut [[f64; 3]],
     links: &mut [u32],
     points: &mut [[i16; 3]],
-) -> Crunching
+) -> Result<Crunching, Refusal>
     requires { length stops.now ≤ 1025 }
     ensures { Stands (room points) (after points)
         (crunch_round (rooms_in samples breaks answers links) settings xs.now ys.now flags.now stops.now) result }
 {
     if stops.len() == 0 {
         let w = contour::unchanged_in(xs, ys, flags, settings.closed, points);
-        return Crunching::Ended(Progress {
+        return Ok(Crunching::Ended(Progress {
             w,
             tally: Tally {
                 pairs: 0,
                 fallen: 0,
             },
-        });
+        }));
     }
     let s = contour::point_as(true, xs, ys, outline::start_of(flags, stops[0]));
     let c = crunch_runs(
@@ -296,7 +296,7 @@ fn crunch_listed(
     answers: &mut [[f64; 3]],
     links: &mut [u32],
     points: &mut [[i16; 3]],
-) -> Crunching
+) -> Result<Crunching, Refusal>
     requires { (length stops.now ≤ 1025) × (stops.now ≡ stops_of settings.closed xs.now ys.now flags.now) }
     ensures { Stands (room points) (after points)
         (crunch_runs (rooms_in samples breaks answers links) settings xs.now ys.now flags.now) result }
@@ -339,13 +339,13 @@ fn crunch_few(
     answers: &mut [[f64; 3]],
     links: &mut [u32],
     points: &mut [[i16; 3]],
-) -> Crunching
+) -> Result<Crunching, Refusal>
     requires { length flags.now ≤ 32 }
     ensures { Stands (room points) (after points)
         (crunch_runs (rooms_in samples breaks answers links) settings xs.now ys.now flags.now) result }
 {
     let mut list = [0usize; 33];
-    let n = runs::list_few_stops(xs, ys, flags, settings.closed, &mut list);
+    let n = runs::list_stops::<32>(xs, ys, flags, settings.closed, &mut list);
     crunch_listed(
         xs,
         ys,
@@ -371,7 +371,7 @@ pub fn crunch_points(
     answers: &mut [[f64; 3]],
     links: &mut [u32],
     points: &mut [[i16; 3]],
-) -> Crunching
+) -> Result<Crunching, Refusal>
     ensures { Stands (room points) (after points)
         (crunch_runs (rooms_in samples breaks answers links) settings xs.now ys.now flags.now) result }
 {
@@ -381,7 +381,7 @@ pub fn crunch_points(
         );
     }
     let mut list = [0usize; 1025];
-    let n = runs::list_stops(xs, ys, flags, settings.closed, &mut list);
+    let n = runs::list_stops::<1024>(xs, ys, flags, settings.closed, &mut list);
     crunch_listed(
         xs,
         ys,

@@ -9,14 +9,13 @@ use Rattle.float.specs.Numbers.{nought, one, two}
 use Rattle.geometry.specs.Geometry.{is_line, is_smooth}
 use Rattle.geometry.specs.declared.Quad.{Quad}
 use Rattle.measure.specs.NotNegative.{not_negative}
-use Rattle.quickmeasure.specs.Early.{Beyond, Judges}
-use Rattle.measure.specs.declared.Measured.{Measured}
-use Rattle.quickmeasure.specs.declared.Judged.{Judged}
-use Rattle.quickmeasure.specs.declared.Judged.TheVariants as Judging
+use Rattle.quickmeasure.specs.Early.{Beyond}
 use Rattle.attempt.specs.declared.answer.Answer as A
 use Rattle.attempt.specs.Answers.{is_curve, smooth_after, one_or_two, total_of}
 use Rattle.attempt.specs.Value.{best_if, best_of, or_else, new_answer, combine_of, base_of, Makes}
 use Rattle.attempt.proofs.Order.{no_less}
+use Rattle.measure.specs.declared.Measure.{Measure}
+use Rattle.std.specs.Prelude.{Option}
 
 -- a joint with an answer is smooth where this is a curve and the joint of the two quads is
 pub smooth_on : (x : A.Answer) (q : Quad) (t : Bool) → t ≡ is_curve (best_of x) → (t && is_smooth x.quad q) ≡ smooth_after (best_of x) q
@@ -45,12 +44,10 @@ kept old previous measure q penalty some most = rw (ne_eqb old.link 0 some, most
     either false = refl
 
 -- so it is where a measure was ended early
-pub ended : (old previous : A.Answer) (q : Quad) (penalty : Float) (x : Measured) (n : ℕ) (base : Float) (r : Judged) → r ≡ Judging.Over →
-    Judges x n base old.score r → (old.link ≡ 0 → ⊥) → base ≡ base_of (best_of previous) q penalty → Makes x n old previous q penalty old 0
-ended old previous q penalty x n base r e told some is = go (rw e at told)
-  where
-    go : Beyond x n base old.score → Makes x n old previous q penalty old 0
-    go b = record { error = b.error; is = b.is; same = kept old previous b.error q penalty some (rw is at b.most); fell = sym b.none }
+pub ended : (old previous : A.Answer) (q : Quad) (penalty : Float) (x : Option Measure) (n : ℕ) (base : Float) →
+    Beyond x n base old.score → (old.link ≡ 0 → ⊥) → base ≡ base_of (best_of previous) q penalty → Makes x n old previous q penalty old 0
+ended old previous q penalty x n base b some is =
+    record { error = b.error; is = b.is; same = kept old previous b.error q penalty some (rw is at b.most); fell = sym b.none }
 
 -- a score is not less than a limit where it would not be with no error
 pub not_less : (x least limit : Float) → least ≡ add binary64 x nought → lt nought least ≡ true → lt least limit ≡ false →

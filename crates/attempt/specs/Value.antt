@@ -1,16 +1,15 @@
 -- An answer by value, as a stored one is read, and what one attempt makes of it. Definitions only.
-use Rattle.std.specs.Prelude.{ℕ, zero, suc, Bool, true, false, List, ◌≡◌, eqb, Float}
+use Rattle.std.specs.Prelude.{ℕ, zero, suc, Bool, true, false, List, ◌≡◌, eqb, Float, Option, Some, None}
 use Rattle.std.specs.Float.{binary64}
 use Rattle.std.specs.Float.Ieee.{add, mul}
 use Rattle.float.specs.Numbers.{nought}
 use Rattle.geometry.specs.declared.Quad.{Quad}
 use Rattle.measure.specs.Measure.{measure_of}
 use Rattle.measure.specs.Fallen.{fallen_of}
-use Rattle.measure.specs.declared.Measured.{Measured}
 use Rattle.attempt.specs.declared.answer.Answer as A
 use Rattle.attempt.specs.declared.Outcome.{Outcome}
-use Rattle.attempt.specs.declared.Outcome.TheVariants as Attempting
 use Rattle.attempt.specs.Answers.{first, Best, none, best, joint_of, previous_score, total_of, is_less}
+use Rattle.measure.specs.declared.Measure.{Measure}
 
 -- break 0 starts the run: what is built on it has the link 1
 abbrev pub start_name : ℕ → ℕ
@@ -46,20 +45,20 @@ abbrev pub base_of : Best → Quad → Float → Float
 base_of previous q penalty = add binary64 (previous_score previous) (mul binary64 penalty (joint_of previous q))
 
 -- an attempt with the measure x, in which n lookups fell, makes the answer a and counts k
-pub record Makes (x : Measured) (n : ℕ) (old previous : A.Answer) (q : Quad) (penalty : Float) (a : A.Answer) (k : ℕ) : Type 0 where
+pub record Makes (x : Option Measure) (n : ℕ) (old previous : A.Answer) (q : Quad) (penalty : Float) (a : A.Answer) (k : ℕ) : Type 0 where
   pub error : Float
-  pub is : x ≡ Measured.At (record { error = error })
+  pub is : x ≡ Some (record { error = error })
   pub same : a ≡ combine_of old previous error q penalty
   pub fell : k ≡ n
 
 -- what becomes of such an attempt
-abbrev pub Attempts : Measured → ℕ → A.Answer → A.Answer → Quad → Float → Outcome → Type 0
-Attempts x n old previous q penalty (Attempting.Made a k) = Makes x n old previous q penalty a k
-Attempts x n old previous q penalty Attempting.Missing = x ≡ Measured.Missing
+abbrev pub Attempts : Option Measure → ℕ → A.Answer → A.Answer → Quad → Float → Option Outcome → Type 0
+Attempts x n old previous q penalty (Some o) = Makes x n old previous q penalty o.answer o.fallen
+Attempts x n old previous q penalty None = x ≡ None
 
 -- a piece whose measure is not refused, leaves the old answer, and has no lookup that falls
 pub record Idle (samples : List (List Float)) (s0 s1 : Float) (old previous : A.Answer) (q : Quad) (penalty : Float) : Type 0 where
   pub error : Float
-  pub is : measure_of samples s0 s1 q ≡ Measured.At (record { error = error })
+  pub is : measure_of samples s0 s1 q ≡ Some (record { error = error })
   pub same : combine_of old previous error q penalty ≡ old
   pub none : fallen_of samples s0 s1 q ≡ 0

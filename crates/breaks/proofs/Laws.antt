@@ -12,36 +12,26 @@ use lib.Ieee.{Float, nan, inf, fin, to_unsigned, lt}
 use Rattle.geometry.specs.Geometry.{is_close}
 use Rattle.geometry.specs.declared.Point.{Point}
 use Rattle.geometry.specs.declared.Break.{Break}
-use Rattle.lookup.specs.Lookup as Lookup
-use Rattle.lookup.specs.Lookup.{found, xy_at, dir_at}
+use Rattle.lookup.specs.Lookup.{xy_at, dir_at}
 use Rattle.float.specs.Numbers.{nought}
-use Rattle.breaks.specs.Breaks.{Row, packed_of, break_at, places_of, length_at, placed, place_at, place_of, Finding, so, full, opened, opens, join_of, stepped, walk, breaks, run_breaks_of, breaks_of}
+use Rattle.breaks.specs.Breaks.{Row, packed_of, break_at, places_of, length_at, placed, place_at, place_of, Finding, so, stopped, opened, opens, join_of, stepped, walk, breaks, stopped_as, breaks_of}
 use Rattle.breaks.specs.declared.Grid.{Grid}
-use Rattle.breaks.specs.declared.Placed as P
-use Rattle.breaks.specs.declared.Placed.TheVariants as Placed
+use Rattle.breaks.specs.declared.Placed.{Placed}
+use Rattle.breaks.specs.declared.Stopped as S
+use Rattle.breaks.specs.declared.Stopped.TheVariants as Stopped
+use Rattle.std.specs.Prelude.{Option, Some, None, Result, Err, ok_or}
 
 -- ---- a cast of 31 bits, from one of 64
-below_64 : (c : ℕ) → min c (2 ^ 64 - 1) < 2 ^ 31 - 1 → min c (2 ^ 64 - 1) ≡ min c (2 ^ 31 - 1)
-below_64 c h = omega arith
+least_cut : (c : ℕ) → min (min c (2 ^ 64 - 1)) (2 ^ 31 - 1) ≡ min c (2 ^ 31 - 1)
+least_cut c = omega arith
 
-above_31 : (c : ℕ) → 2 ^ 31 - 1 ≤ min c (2 ^ 64 - 1) → 2 ^ 31 - 1 ≡ min c (2 ^ 31 - 1)
-above_31 c h = omega arith
-
-pub few : (x : Float) → to_unsigned 64 x < 2 ^ 31 - 1 → to_unsigned 64 x ≡ to_unsigned 31 x
+pub cut_31 : (x : Float) → min (to_unsigned 64 x) (2 ^ 31 - 1) ≡ to_unsigned 31 x
 unfolding to_unsigned
-few nan h = refl
-few (inf true) h = refl
-few (inf false) h = absurd (omega arith)
-few (fin true m e) h = refl
-few (fin false m e) h = below_64 _ h
-
-pub many : (x : Float) → 2 ^ 31 - 1 ≤ to_unsigned 64 x → 2 ^ 31 - 1 ≡ to_unsigned 31 x
-unfolding to_unsigned
-many nan h = absurd (omega arith)
-many (inf true) h = absurd (omega arith)
-many (inf false) h = refl
-many (fin true m e) h = absurd (omega arith)
-many (fin false m e) h = above_31 _ h
+cut_31 nan = refl
+cut_31 (inf true) = refl
+cut_31 (inf false) = refl
+cut_31 (fin true m e) = refl
+cut_31 (fin false m e) = least_cut _
 
 cap_le : (c n : ℕ) → min c n ≤ n
 cap_le c n = omega arith
@@ -55,8 +45,15 @@ capped (fin true m e) = omega arith
 capped (fin false m e) = cap_le _ (2 ^ 31 - 1)
 
 -- ---- a place, from what was looked up
+
+-- what is not found stops the work
+pub missing : {A : Type 0} {o : Option A} {e : S.Stopped} → ◌≡◌ {A = Result A S.Stopped} (Err e) (ok_or o Stopped.Missing) → o ≡ None → e ≡ Stopped.Missing
+missing {A} {o} {e} is none =
+    let same : ◌≡◌ {A = Result A S.Stopped} (Err e) (Err Stopped.Missing) = is ∙ rw none refl in
+    cc
+
 module _ (samples : List (List Float)) (g : Grid) (s : Float) where
-  pub place_past : length samples ≤ to_unsigned 64 s → place_at samples g s ≡ Placed.Past
+  pub place_past : length samples ≤ to_unsigned 64 s → place_at samples g s ≡ Err Stopped.Past
   unfolding place_at
   place_past h = rw (le-leb (length samples) (to_unsigned 64 s) h)
 
@@ -66,14 +63,14 @@ module _ (samples : List (List Float)) (g : Grid) (s : Float) where
     place_inside = rw (lt-leb (length samples) (to_unsigned 64 s) h)
 
 module _ (samples : List (List Float)) (g : Grid) (s : Float) (h : to_unsigned 64 s < length samples) where
-  pub no_place : Lookup.refused ≡ xy_at samples s → place_at samples g s ≡ Placed.Missing
-  no_place p = place_inside samples g s h ∙ rw (← p)
+  pub no_place : xy_at samples s ≡ None → place_at samples g s ≡ Err Stopped.Missing
+  no_place p = place_inside samples g s h ∙ rw p
 
-  pub no_direction : {o : Point} → found o ≡ xy_at samples s → Lookup.refused ≡ dir_at samples s → place_at samples g s ≡ Placed.Missing
-  no_direction p d = place_inside samples g s h ∙ rw (← p, ← d)
+  pub no_direction : {o : Point} → xy_at samples s ≡ Some o → dir_at samples s ≡ None → place_at samples g s ≡ Err Stopped.Missing
+  no_direction p d = place_inside samples g s h ∙ rw (p, d)
 
-  pub both_there : {o dir : Point} → found o ≡ xy_at samples s → found dir ≡ dir_at samples s → place_at samples g s ≡ placed g s (found o) (found dir)
-  both_there p d = place_inside samples g s h ∙ rw (← p, ← d)
+  pub both_there : {o dir : Point} → xy_at samples s ≡ Some o → dir_at samples s ≡ Some dir → place_at samples g s ≡ placed g s (Some o) (Some dir)
+  both_there p d = place_inside samples g s h ∙ rw (p, d)
 
 -- ---- the first n breaks of a row
 module _ (row : Row) (n : ℕ) (inside : n ≤ length row) where
@@ -94,7 +91,7 @@ module _ (row : Row) (n : ℕ) (inside : n ≤ length row) where
   pub not_first : (p : Point) → opens (take n row) p ≡ false → n ≡ 0 → ⊥
   not_first p close e = true≢false (sym (opens_first p e) ∙ close)
 
-  pub no_room : (b : Break) (dist : Float) → length row ≤ n → opened (length row) (take n row) b dist ≡ full
+  pub no_room : (b : Break) (dist : Float) → length row ≤ n → opened (length row) (take n row) b dist ≡ stopped Stopped.Full
   unfolding opened
   no_room b dist h = rw (used, le-leb (length row) n h)
 
@@ -120,18 +117,18 @@ module _ (row : Row) (n : ℕ) (inside : n ≤ length row) where
       join_keeps e = rw (close, e)
 
 -- ---- the walk over the places
-pub stays : (k room : ℕ) (place : ℕ → P.Placed) (i : ℕ) (f : Finding) → ((p : P.Placed) → stepped room f p ≡ f) → walk k room place i f ≡ f
+pub stays : (k room : ℕ) (place : ℕ → Result Placed S.Stopped) (i : ℕ) (e : S.Stopped) → walk k room place i (stopped e) ≡ stopped e
 unfolding walk
-stays zero room place i f h = refl
-stays (suc k) room place i f h = rw (h (place i)) (stays k room place (i + 1) f h)
+stays zero room place i e = refl
+stays (suc k) room place i e = stays k room place (i + 1) e
 
-pub goes : (n room : ℕ) (place : ℕ → P.Placed) (i : ℕ) (f : Finding) → i ≤ n → walk (suc n - i) room place i f ≡ walk (suc n - (i + 1)) room place (i + 1) (stepped room f (place i))
+pub goes : (n room : ℕ) (place : ℕ → Result Placed S.Stopped) (i : ℕ) (f : Finding) → i ≤ n → walk (suc n - i) room place i f ≡ walk (suc n - (i + 1)) room place (i + 1) (stepped room f (place i))
 unfolding walk
 goes n room place i f h =
     let one_less : suc n - i ≡ suc (suc n - (i + 1)) = omega arith in
     rw one_less
 
-pub done : (n room : ℕ) (place : ℕ → P.Placed) (i : ℕ) (f : Finding) → n < i → walk (suc n - i) room place i f ≡ f
+pub done : (n room : ℕ) (place : ℕ → Result Placed S.Stopped) (i : ℕ) (f : Finding) → n < i → walk (suc n - i) room place i f ≡ f
 unfolding walk
 done n room place i f h =
     let none : suc n - i ≡ 0 = omega arith in
@@ -151,12 +148,12 @@ seek samples len g n row count dist e none fresh =
     record { last_place = e; long = refl; inside = omega arith; rows = rw (all, none, fresh) refl }
 
 module _ {samples : List (List Float)} {len : Float} {g : Grid} {n : ℕ} {row₀ row : Row} {count : ℕ} {dist : Float} {i : ℕ} (s : Seeking samples len g n row₀ row count dist i) where
-  next : {pl : P.Placed} → i ≤ n → pl ≡ place_at samples g (length_at len n i) →
+  next : {pl : Result Placed S.Stopped} → i ≤ n → pl ≡ place_at samples g (length_at len n i) →
       walk (suc n) (length row₀) (place_of samples g len) 0 (so [] nought)
       ≡ walk (suc n - (i + 1)) (length row₀) (place_of samples g len) (i + 1) (stepped (length row) (so (take (count) row) dist) pl)
   next h is = s.rows ∙ goes n (length row₀) (place_of samples g len) i _ h ∙ rw (is, s.long, s.last_place) refl
 
-  pub seeks : {pl : P.Placed} {row' : Row} {more : ℕ} {next-dist : Float} → i ≤ n → pl ≡ place_at samples g (length_at len n i) →
+  pub seeks : {pl : Result Placed S.Stopped} {row' : Row} {more : ℕ} {next-dist : Float} → i ≤ n → pl ≡ place_at samples g (length_at len n i) →
       stepped (length row) (so (take (count) row) dist) pl ≡ so (take more row') next-dist →
       length row' ≡ length row → more ≤ length row → Seeking samples len g n row₀ row' more next-dist (i + 1)
   seeks h is steps same few = record {
@@ -167,10 +164,10 @@ module _ {samples : List (List Float)} {len : Float} {g : Grid} {n : ℕ} {row�
   }
 
   -- a place that ends the search
-  pub seeks_no_more : {pl : P.Placed} (f : Finding) → ((room : ℕ) (pl : P.Placed) → stepped room f pl ≡ f) → i ≤ n → pl ≡ place_at samples g (length_at len n i) →
-      stepped (length row) (so (take (count) row) dist) pl ≡ f → breaks_of (length row₀) samples g len ≡ run_breaks_of f
+  pub seeks_no_more : {pl : Result Placed S.Stopped} {e : S.Stopped} → i ≤ n → pl ≡ place_at samples g (length_at len n i) →
+      stepped (length row) (so (take (count) row) dist) pl ≡ stopped e → breaks_of (length row₀) samples g len ≡ stopped_as e
   unfolding breaks_of
-  seeks_no_more f stuck h is steps = rw (← s.last_place, next h is, steps, stays (suc n - (i + 1)) (length row₀) (place_of samples g len) (i + 1) f (stuck (length row₀))) refl
+  seeks_no_more {e = e} h is steps = rw (← s.last_place, next h is, steps, stays (suc n - (i + 1)) (length row₀) (place_of samples g len) (i + 1) e) refl
 
   pub sought : n < i → breaks_of (length row₀) samples g len ≡ breaks (take (count) row)
   unfolding breaks_of

@@ -1,5 +1,5 @@
 -- Module 7, the Rust's `find_breaks`: places along a run, each brought to the grid, of which neighbours that are close are one. Definitions only.
-use Rattle.std.specs.Prelude.{ℕ, zero, suc, ◌+◌, ◌-◌, Bool, true, false, not, ◌||◌, List, [], ◌∷◌, ◌++◌, leb, eqb, pos, length, take, get_or, set, Float}
+use Rattle.std.specs.Prelude.{ℕ, zero, suc, ◌+◌, ◌-◌, Bool, true, false, not, ◌||◌, List, [], ◌∷◌, ◌++◌, leb, eqb, pos, length, take, get_or, set, Float, Option, Some, None, Result, Ok, Err}
 use Rattle.std.specs.Float.{nan, binary64}
 use Rattle.std.specs.Float.Ieee.{mul, div, lt, of_int, to_unsigned}
 use Rattle.float.specs.Numbers.{nought, half, one, two, ten}
@@ -7,15 +7,14 @@ use Rattle.float.specs.Float.{round_of}
 use Rattle.geometry.specs.Geometry.{is_close, distance_of}
 use Rattle.geometry.specs.declared.Point.{Point}
 use Rattle.geometry.specs.declared.Break.{Break}
-use Rattle.lookup.specs.Lookup as Lookup
-use Rattle.lookup.specs.Lookup.{Found, found, xy_at, dir_at}
+use Rattle.refusals.specs.declared.refusal.Refusal.TheVariants.{TooManyBreaks, PastLastSample}
+use Rattle.refusals.specs.declared.refusal.Refusal.{Refusal}
+use Rattle.lookup.specs.Lookup.{xy_at, dir_at}
 use Rattle.breaks.specs.declared.Grid.{Grid}
-use Rattle.breaks.specs.declared.Placed as P
-use Rattle.breaks.specs.declared.Placed.TheVariants as Placed
-use Rattle.breaks.specs.declared.Joined as J
-use Rattle.breaks.specs.declared.Joined.TheVariants as Joined
-use Rattle.breaks.specs.declared.Breaks as B
-use Rattle.breaks.specs.declared.Breaks.TheVariants as Breaks
+use Rattle.breaks.specs.declared.Placed.{Placed}
+use Rattle.breaks.specs.declared.Progress.{Progress}
+use Rattle.breaks.specs.declared.Stopped as S
+use Rattle.breaks.specs.declared.Stopped.TheVariants as Stopped
 
 -- ---- the grid
 
@@ -63,29 +62,27 @@ length_at len n i = div binary64 (mul binary64 len (of_int binary64 (pos i))) (o
 
 -- a place: the break it would be, and its distance to its own unrounded point. A length past the samples leaves the contour unchanged;
 -- at the last stored place a sample is refused, 8.
-abbrev pub placed : Grid → Float → Found → Found → P.Placed
-placed g s (found o) (found d) = Placed.At (record { s = s; xy = grid_point g o; dir = d }) (distance_of (grid_point g o) o)
-placed g s (found o) Lookup.refused = Placed.Missing
-placed g s Lookup.refused d = Placed.Missing
+abbrev pub placed : Grid → Float → Option Point → Option Point → Result Placed S.Stopped
+placed g s (Some o) (Some d) = Ok (record { place = record { s = s; xy = grid_point g o; dir = d }; dist = distance_of (grid_point g o) o })
+placed g s (Some o) None = Err Stopped.Missing
+placed g s None d = Err Stopped.Missing
 
-abbrev pub unless_past : Bool → P.Placed → P.Placed
-unless_past true p = Placed.Past
+abbrev pub unless_past : Bool → Result Placed S.Stopped → Result Placed S.Stopped
+unless_past true p = Err Stopped.Past
 unless_past false p = p
 
-unfoldable pub place_at : List (List Float) → Grid → Float → P.Placed
+unfoldable pub place_at : List (List Float) → Grid → Float → Result Placed S.Stopped
 place_at samples g s = unless_past (leb (length samples) (to_unsigned 64 s)) (placed g s (xy_at samples s) (dir_at samples s))
 
--- ---- the breaks so far, and the distance of the place that first opened the last one
+-- ---- the breaks so far, and the distance of the place that first opened the last one; or why there are none
 
 pub data Finding : Type 0 where
   so : Row → Float → Finding
-  full : Finding
-  last : Finding
-  past : Finding
+  stopped : S.Stopped → Finding
 
 -- a new break, where there is room
 abbrev pub pushed_if : Bool → Row → Break → Float → Finding
-pushed_if true row b dist = full
+pushed_if true row b dist = stopped Stopped.Full
 pushed_if false row b dist = so (row ++ (packed_of b ∷ [])) dist
 
 unfoldable pub opened : ℕ → Row → Break → Float → Finding
@@ -107,16 +104,13 @@ opens row p = eqb (length row) 0 || not (is_close p (break_at row (length row - 
 unfoldable pub join_of : ℕ → Row → Float → Break → Float → Finding
 join_of room row d b dist = joined_if (opens row b.xy) room row d b dist
 
-abbrev pub stepped : ℕ → Finding → P.Placed → Finding
-stepped room (so row d) (Placed.At b dist) = join_of room row d b dist
-stepped room (so row d) Placed.Missing = last
-stepped room (so row d) Placed.Past = past
-stepped room full p = full
-stepped room last p = last
-stepped room past p = past
+abbrev pub stepped : ℕ → Finding → Result Placed S.Stopped → Finding
+stepped room (so row d) (Ok p) = join_of room row d p.place p.dist
+stepped room (so row d) (Err e) = stopped e
+stepped room (stopped e) p = stopped e
 
 -- k places from place i on
-unfoldable pub walk : ℕ → ℕ → (ℕ → P.Placed) → ℕ → Finding → Finding
+unfoldable pub walk : ℕ → ℕ → (ℕ → Result Placed S.Stopped) → ℕ → Finding → Finding
 walk zero room place i f = f
 walk (suc k) room place i f = walk k room place (i + 1) (stepped room f (place i))
 
@@ -125,16 +119,20 @@ walk (suc k) room place i f = walk k room place (i + 1) (stepped room f (place i
 -- the breaks of a run; the number of a refusal; or the contour is unchanged
 pub data RunBreaks : Type 0 where
   breaks : Row → RunBreaks
-  refused : ℕ → RunBreaks
+  refused : Refusal → RunBreaks
   unchanged : RunBreaks
+
+-- what a run without breaks comes to
+abbrev pub stopped_as : S.Stopped → RunBreaks
+stopped_as Stopped.Full = refused TooManyBreaks
+stopped_as Stopped.Missing = refused PastLastSample
+stopped_as Stopped.Past = unchanged
 
 abbrev pub run_breaks_of : Finding → RunBreaks
 run_breaks_of (so row d) = breaks row
-run_breaks_of full = refused 7
-run_breaks_of last = refused 8
-run_breaks_of past = unchanged
+run_breaks_of (stopped e) = stopped_as e
 
-abbrev pub place_of : List (List Float) → Grid → Float → ℕ → P.Placed
+abbrev pub place_of : List (List Float) → Grid → Float → ℕ → Result Placed S.Stopped
 place_of samples g len i = place_at samples g (length_at len (places_of len) i)
 
 unfoldable pub breaks_of : ℕ → List (List Float) → Grid → Float → RunBreaks
@@ -142,26 +140,23 @@ breaks_of room samples g len = run_breaks_of (walk (suc (places_of len)) room (p
 
 -- ---- what the functions leave in a row
 
-abbrev pub joined_in : Row → J.Joined → Finding
-joined_in row (Joined.At p) = so (take p.count row) p.opened
-joined_in row Joined.Full = full
-joined_in row Joined.Missing = last
-joined_in row Joined.Past = past
+-- where distances are held as other numbers: the place, and the breaks so far
+abbrev pub placed_by : (Float → Float) → Result Placed S.Stopped → Result Placed S.Stopped
+placed_by distance (Ok p) = Ok (record { place = p.place; dist = distance p.dist })
+placed_by distance (Err e) = Err e
 
-abbrev pub count_joined : J.Joined → ℕ
-count_joined (Joined.At p) = p.count
-count_joined Joined.Full = 0
-count_joined Joined.Missing = 0
-count_joined Joined.Past = 0
+abbrev pub joined_by : (Float → Float) → Row → Result Progress S.Stopped → Finding
+joined_by distance row (Ok p) = so (take p.count row) (distance p.opened)
+joined_by distance row (Err e) = stopped e
 
-abbrev pub breaks_in : Row → B.Breaks → RunBreaks
-breaks_in row (Breaks.Found n) = breaks (take n row)
-breaks_in row Breaks.Full = refused 7
-breaks_in row Breaks.Missing = refused 8
-breaks_in row Breaks.Past = unchanged
+abbrev pub count_joined : Result Progress S.Stopped → ℕ
+count_joined (Ok p) = p.count
+count_joined (Err e) = 0
 
-abbrev pub count_found : B.Breaks → ℕ
-count_found (Breaks.Found n) = n
-count_found Breaks.Full = 0
-count_found Breaks.Missing = 0
-count_found Breaks.Past = 0
+abbrev pub breaks_in : Row → Result ℕ S.Stopped → RunBreaks
+breaks_in row (Ok n) = breaks (take n row)
+breaks_in row (Err e) = stopped_as e
+
+abbrev pub count_found : Result ℕ S.Stopped → ℕ
+count_found (Ok n) = n
+count_found (Err e) = 0

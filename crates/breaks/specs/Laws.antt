@@ -3,7 +3,7 @@
 use Prim.Native.Nat.{ℕ, zero, suc, ◌+◌, ◌-◌, ◌≤◌, ◌<◌}
 use Rattle.std.proofs.Common.{arith, subst, length-append, length-set, get_or-set_same, get_or-set_other}
 use Rattle.std.proofs.Math.Decide.{ℕ_discrete, dec_lt}
-use Rattle.std.specs.Prelude.{Bool, ◌≡◌, T, leb, set, Float}
+use Rattle.std.specs.Prelude.{Bool, ◌≡◌, T, leb, set, Float, Option, Some, None, Result, Ok, Err}
 use Rattle.std.proofs.Math.Bool.{true, false}
 use mathlib.Core.List.{List, [], ◌∷◌, ◌++◌}
 use Rattle.std.proofs.Math.Path.{refl}
@@ -16,14 +16,16 @@ use Rattle.std.specs.Float.Ieee.Fits.{mul-fits}
 use Rattle.float.specs.Numbers.{nought}
 use Rattle.geometry.specs.declared.Break.{Break}
 use Rattle.geometry.specs.declared.Point.{Point}
-use Rattle.lookup.specs.Lookup as Lookup
-use Rattle.lookup.specs.Lookup.{Found, found, xy_at, dir_at}
+use Rattle.refusals.specs.declared.refusal.Refusal.{Refusal}
+use Rattle.refusals.specs.declared.refusal.Refusal.TheVariants.{TooManyBreaks}
+use Rattle.lookup.specs.Lookup.{xy_at, dir_at}
 use Rattle.breaks.specs.declared.Grid.{Grid}
-use Rattle.breaks.specs.declared.Placed as P
-use Rattle.breaks.specs.declared.Placed.TheVariants as Placed
-use Rattle.breaks.specs.Breaks.{Row, on_grid, packed_of, break_at, placed, unless_past, place_at, place_of, places_of, Finding, so, full, last, past}
+use Rattle.breaks.specs.declared.Placed.{Placed}
+use Rattle.breaks.specs.declared.Stopped as S
+use Rattle.breaks.specs.declared.Stopped.TheVariants as Stopped
+use Rattle.breaks.specs.Breaks.{Row, on_grid, packed_of, break_at, placed, unless_past, place_at, place_of, places_of, Finding, so, stopped}
 use Rattle.breaks.specs.Breaks.{pushed_if, opened, replaced_if, joined_if, opens, join_of, stepped, walk}
-use Rattle.breaks.specs.Breaks.{RunBreaks, breaks, refused, unchanged, run_breaks_of, breaks_of}
+use Rattle.breaks.specs.Breaks.{RunBreaks, breaks, refused, unchanged, stopped_as, run_breaks_of, breaks_of}
 
 -- q is a point brought to the grid
 pub record Brought (g : Grid) (q : Point) : Type 0 where
@@ -33,17 +35,16 @@ pub record Brought (g : Grid) (q : Point) : Type 0 where
 
 module _ (g : Grid) where
   -- ---- a place is on the grid
-  data Gridded : P.Placed → Type 0 where
-    at : {b : Break} {dist : Float} → Brought g b.xy → Gridded (Placed.At b dist)
-    no_sample : Gridded Placed.Missing
-    no_place : Gridded Placed.Past
+  data Gridded : Result Placed S.Stopped → Type 0 where
+    gridded : {p : Placed} → Brought g p.place.xy → Gridded (Ok p)
+    no_place : {e : S.Stopped} → Gridded (Err e)
 
-  placed_gridded : (s : Float) (o d : Found) → Gridded (placed g s o d)
-  placed_gridded s (found o) (found d) = at (record { of = o; x = refl; y = refl })
-  placed_gridded s (found o) Lookup.refused = no_sample
-  placed_gridded s Lookup.refused d = no_sample
+  placed_gridded : (s : Float) (o d : Option Point) → Gridded (placed g s o d)
+  placed_gridded s (Some o) (Some d) = gridded (record { of = o; x = refl; y = refl })
+  placed_gridded s (Some o) None = no_place
+  placed_gridded s None d = no_place
 
-  unless_gridded : (t : Bool) {p : P.Placed} → Gridded p → Gridded (unless_past t p)
+  unless_gridded : (t : Bool) {p : Result Placed S.Stopped} → Gridded p → Gridded (unless_past t p)
   unless_gridded true h = no_place
   unless_gridded false h = h
 
@@ -59,9 +60,7 @@ module _ (g : Grid) where
 
   data Finds (room least : ℕ) : Finding → Type 0 where
     holds : {row : Row} {d : Float} → Made room least row → Finds room least (so row d)
-    is_full : Finds room least full
-    is_last : Finds room least last
-    is_past : Finds room least past
+    is_stopped : {e : S.Stopped} → Finds room least (stopped e)
 
   module _ {room least : ℕ} {row : Row} (m : Made room least row) (b : Break) (f : Brought g b.xy) where
     pushed_on : (i : ℕ) → i < length (row ++ (packed_of b ∷ [])) → Brought g (break_at (row ++ (packed_of b ∷ [])) i).xy
@@ -81,7 +80,7 @@ module _ (g : Grid) where
     }
 
     pushes : (t : Bool) (dist : Float) → leb room (length row) ≡ t → Finds room (least + 1) (pushed_if t row b dist)
-    pushes true dist e = is_full
+    pushes true dist e = is_stopped
     pushes false dist e = holds (pushed (leb-false room (length row) e))
 
     opens_one : (dist : Float) → Finds room (least + 1) (opened room row b dist)
@@ -113,9 +112,7 @@ module _ (g : Grid) where
 
   fewer : {room least : ℕ} {f : Finding} → Finds room (least + 1) f → Finds room least f
   fewer (holds {row} m) = holds {row = row} (record { some = omega (arith, m.some); few = m.few; on = m.on })
-  fewer is_full = is_full
-  fewer is_last = is_last
-  fewer is_past = is_past
+  fewer is_stopped = is_stopped
 
   module _ (room : ℕ) where
     joins_if : (t : Bool) {least : ℕ} {row : Row} (d : Float) (b : Break) (dist : Float) → Made room least row → Brought g b.xy →
@@ -128,13 +125,10 @@ module _ (g : Grid) where
     unfolding join_of
     joins {row = row} d b dist m f = joins_if (opens row b.xy) d b dist m f
 
-    steps : {least : ℕ} {f : Finding} {p : P.Placed} → Finds room least f → Gridded p → Finds room least (stepped room f p)
-    steps (holds {d = d} m) (at {b} {dist} g) = joins d b dist m g
-    steps (holds m) no_sample = is_last
-    steps (holds m) no_place = is_past
-    steps is_full g = is_full
-    steps is_last g = is_last
-    steps is_past g = is_past
+    steps : {least : ℕ} {f : Finding} {p : Result Placed S.Stopped} → Finds room least f → Gridded p → Finds room least (stepped room f p)
+    steps (holds {d = d} m) (gridded {p} g) = joins d p.place p.dist m g
+    steps (holds m) no_place = is_stopped
+    steps is_stopped g = is_stopped
 
     -- the first place opens a break
     nothing_made : Made room 0 []
@@ -144,32 +138,34 @@ module _ (g : Grid) where
     unfolding join_of opens
     first_joins b dist f = opens_one nothing_made b f dist
 
-    first_steps : {p : P.Placed} → Gridded p → Finds room 1 (stepped room (so [] nought) p)
-    first_steps (at {b} {dist} f) = first_joins b dist f
-    first_steps no_sample = is_last
-    first_steps no_place = is_past
+    first_steps : {p : Result Placed S.Stopped} → Gridded p → Finds room 1 (stepped room (so [] nought) p)
+    first_steps (gridded {p} f) = first_joins p.place p.dist f
+    first_steps no_place = is_stopped
 
-    module _ (place : ℕ → P.Placed) (gridded : (i : ℕ) → Gridded (place i)) where
+    module _ (place : ℕ → Result Placed S.Stopped) (all : (i : ℕ) → Gridded (place i)) where
       walks : (k : ℕ) {least : ℕ} (i : ℕ) {f : Finding} → Finds room least f → Finds room least (walk k room place i f)
       unfolding walk
       walks zero i h = h
-      walks (suc k) i h = walks k (i + 1) (steps h (gridded i))
+      walks (suc k) i h = walks k (i + 1) (steps h (all i))
 
       walks_all : (k : ℕ) → Finds room 1 (walk (suc k) room place 0 (so [] nought))
       unfolding walk
-      walks_all k = walks k 1 (first_steps (gridded 0))
+      walks_all k = walks k 1 (first_steps (all 0))
 
   -- ---- the whole
   data Results (room : ℕ) : RunBreaks → Type 0 where
     found_all : {row : Row} → Made room 1 row → Results room (breaks row)
-    is_refused_lem : {n : ℕ} → Results room (refused n)
+    is_refused_lem : {n : Refusal} → Results room (refused n)
     is_unchanged : Results room unchanged
+
+  results_stopped : {room : ℕ} (e : S.Stopped) → Results room (stopped_as e)
+  results_stopped Stopped.Full = is_refused_lem
+  results_stopped Stopped.Missing = is_refused_lem
+  results_stopped Stopped.Past = is_unchanged
 
   results : {room : ℕ} {f : Finding} → Finds room 1 f → Results room (run_breaks_of f)
   results (holds m) = found_all m
-  results is_full = is_refused_lem
-  results is_last = is_refused_lem
-  results is_past = is_unchanged
+  results (is_stopped {e}) = results_stopped e
 
 grid_fit : (g : Grid) {q : Float} (x : Float) → q ≡ on_grid g x → T (fits binary64 q)
 grid_fit g x e = rw e (mul-fits binary64 g.step _)
@@ -202,7 +198,7 @@ module _ (room : ℕ) (samples : List (List Float)) (g : Grid) (len : Float) whe
 
 -- two searches, the second with more room: the first is full, or they are one
 data Alike : Finding → Finding → Type 0 where
-  was_full : {f : Finding} → Alike full f
+  was_full : {f : Finding} → Alike (stopped Stopped.Full) f
   same : {f : Finding} → Alike f f
 
 module _ (room more : ℕ) (h : room ≤ more) where
@@ -218,27 +214,24 @@ module _ (room more : ℕ) (h : room ≤ more) where
   joined_alike true row d b dist = opened_alike (leb room (length row)) row b dist refl
   joined_alike false row d b dist = same
 
-  stepped_alike : (p : P.Placed) {f f' : Finding} → Alike f f' → Alike (stepped room f p) (stepped more f' p)
+  stepped_alike : (p : Result Placed S.Stopped) {f f' : Finding} → Alike f f' → Alike (stepped room f p) (stepped more f' p)
   unfolding join_of
   stepped_alike p was_full = was_full
-  stepped_alike (Placed.At b dist) (same {f = so row d}) = joined_alike (opens row b.xy) row d b dist
-  stepped_alike Placed.Missing (same {f = so row d}) = same
-  stepped_alike Placed.Past (same {f = so row d}) = same
-  stepped_alike p (same {f = full}) = same
-  stepped_alike p (same {f = last}) = same
-  stepped_alike p (same {f = past}) = same
+  stepped_alike (Ok p) (same {f = so row d}) = joined_alike (opens row p.place.xy) row d p.place p.dist
+  stepped_alike (Err e) (same {f = so row d}) = same
+  stepped_alike p (same {f = stopped e}) = same
 
-  walk_alike : (k : ℕ) (place : ℕ → P.Placed) (i : ℕ) {f f' : Finding} → Alike f f' → Alike (walk k room place i f) (walk k more place i f')
+  walk_alike : (k : ℕ) (place : ℕ → Result Placed S.Stopped) (i : ℕ) {f f' : Finding} → Alike f f' → Alike (walk k room place i f) (walk k more place i f')
   unfolding walk
   walk_alike zero place i a = a
   walk_alike (suc k) place i a = walk_alike k place (i + 1) (stepped_alike (place i) a)
 
-  result_same : {f f' : Finding} → Alike f f' → (run_breaks_of f ≡ refused 7 → ⊥) → run_breaks_of f' ≡ run_breaks_of f
+  result_same : {f f' : Finding} → Alike f f' → (run_breaks_of f ≡ refused TooManyBreaks → ⊥) → run_breaks_of f' ≡ run_breaks_of f
   result_same was_full short = absurd (short refl)
   result_same same short = refl
 
   -- the breaks of a run
-  pub breaks_same : (samples : List (List Float)) (g : Grid) (len : Float) → (breaks_of room samples g len ≡ refused 7 → ⊥) →
+  pub breaks_same : (samples : List (List Float)) (g : Grid) (len : Float) → (breaks_of room samples g len ≡ refused TooManyBreaks → ⊥) →
       breaks_of more samples g len ≡ breaks_of room samples g len
   unfolding breaks_of
   breaks_same samples g len short = result_same (walk_alike (suc (places_of len)) (place_of samples g len) 0 {f = so [] nought} same) short

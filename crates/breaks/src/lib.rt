@@ -2,12 +2,13 @@
 // is left in the row, with a definition of specs/Breaks.antt.
 #![tactic(auto)]
 
-ghost use Rattle.std.specs.Prelude.{◌≡◌, ◌≤◌, ◌<◌, length, take};
+ghost use Rattle.std.specs.Prelude.{◌≡◌, ◌≤◌, ◌<◌, length, take, refl, Float};
+ghost use Rattle.std.specs.Float.Ieee.{lt};
+ghost use Rattle.float.specs.Numbers.{nought};
 ghost use Rattle.breaks.specs.Breaks.{half_grid, whole_grid, on_grid, grid_point, packed_of, break_at, places_of, place_at, opens, opened};
-ghost use Rattle.breaks.specs.Breaks.{join_of, so, stepped, breaks_of, joined_in, count_joined, breaks_in, count_found};
+ghost use Rattle.breaks.specs.Breaks.{placed_by, join_of, breaks_of, joined_by, count_joined, breaks_in, count_found};
 
 use geometry::{Break, Point};
-use lookup::Found;
 
 // A coordinate is brought to step * round(per * x).
 #[derive(Clone, Copy)]
@@ -16,14 +17,22 @@ pub struct Grid {
     pub step: f64,
 }
 
-// A place of the run: the break it would be, and its distance to its own unrounded point.
-#[derive(Clone, Copy)]
-pub enum Placed {
-    At(Break, f64),
+// Why a run has no breaks.
+#[derive(Clone, Copy, Debug, PartialEq, Eq)]
+pub enum Stopped {
+    // more than the row takes: refusal 7
+    Full,
     // a sample at the last stored place: refusal 8
     Missing,
     // a length past the samples: the contour is unchanged
     Past,
+}
+
+// A place of the run: the break it would be, and its distance to its own unrounded point.
+#[derive(Clone, Copy)]
+pub struct Placed {
+    pub place: Break,
+    pub dist: f64,
 }
 
 // How many breaks there are, and the distance of the place that first opened the last one.
@@ -33,25 +42,24 @@ pub struct Progress {
     pub opened: f64,
 }
 
-// The breaks so far, with one place more.
-#[derive(Clone, Copy)]
-pub enum Joined {
-    At(Progress),
-    Full,
-    Missing,
-    Past,
+// How the distances of places are held: as they are, or as what is sooner known and compares alike.
+pub trait Distances {
+    // The distance that is held as this number.
+    ghost distance: { Float → Float };
+
+    // The place at the length s.
+    fn place(samples: &[[f64; 4]], g: Grid, s: f64) -> Result<Placed, Stopped>
+        ensures { placed_by distance result ≡ place_at samples.now g s };
+
+    // Whether the first distance is less than the second.
+    fn is_less(a: f64, b: f64) -> bool
+        ensures { result ≡ lt (distance a) (distance b) };
+
+    ghost none: { distance nought ≡ nought };
 }
 
-#[derive(Clone, Copy)]
-pub enum Breaks {
-    Found(usize),
-    // more than the row takes: refusal 7
-    Full,
-    // refusal 8
-    Missing,
-    // the contour is unchanged
-    Past,
-}
+// Distances as they are.
+pub struct Plain;
 
 impl Grid {
     // Half units: 0.5 * round(2 * x).
@@ -91,7 +99,7 @@ impl Grid {
 }
 
 // A break as a row has it.
-pub fn packed(b: Break) -> [f64; 6]
+fn packed(b: Break) -> [f64; 6]
     ensures { result ≡ packed_of b }
 {
     [b.s, b.xy.x, b.xy.y, b.dir.x, b.dir.y, 0.0]
@@ -114,29 +122,11 @@ pub fn read(row: &[[f64; 6]], i: usize) -> Break
 pub fn places(len: f64) -> usize
     ensures { result ≡ places_of len }
 {
-    let n = float::to_index(float::round(10.0 * len));
-    if n < 0x7fff_ffff { n } else { 0x7fff_ffff }
-}
-
-// The place at the length s.
-fn place(samples: &[[f64; 4]], g: Grid, s: f64) -> Placed
-    ensures { result ≡ place_at samples.now g s }
-{
-    if samples.len() <= float::to_index(s) {
-        return Placed::Past;
-    }
-    let Found::At(o) = lookup::xy(samples, s) else {
-        return Placed::Missing;
-    };
-    let Found::At(dir) = lookup::dir(samples, s) else {
-        return Placed::Missing;
-    };
-    let xy = g.point(o);
-    Placed::At(Break { s, xy, dir }, xy.distance(o))
+    float::to_index(float::round(10.0 * len)).min(0x7fff_ffff)
 }
 
 // Whether a place opens a break: the first does, and one that is not close to the last of n.
-pub fn opens(row: &[[f64; 6]], n: usize, p: Point) -> bool
+fn opens(row: &[[f64; 6]], n: usize, p: Point) -> bool
     requires { n ≤ length row.now }
     ensures { result ≡ opens (take n row.now) p }
 {
@@ -144,57 +134,54 @@ pub fn opens(row: &[[f64; 6]], n: usize, p: Point) -> bool
         return true;
     }
     let b = read(row, n - 1);
-    if p.is_close(b.xy) { false } else { true }
+    !p.is_close(b.xy)
 }
 
 // A break more, where there is room.
-pub fn push(row: &mut [[f64; 6]], n: usize, b: Break, dist: f64) -> Joined
+fn push(row: &mut [[f64; 6]], n: usize, b: Break, dist: f64) -> Result<Progress, Stopped>
     requires { n ≤ length row.old }
-    ensures row { opened (length row.old) (take n row.old) b dist ≡ joined_in row.new result }
+    ensures row { (distance : Float → Float) → opened (length row.old) (take n row.old) b (distance dist) ≡ joined_by distance row.new result }
     ensures count { count_joined result ≤ length row.old }
 {
     if row.len() <= n {
-        return Joined::Full;
+        return Err(Stopped::Full);
     }
     row[n] = packed(b);
-    Joined::At(Progress {
+    Ok(Progress {
         count: n + 1,
         opened: dist,
     })
 }
 
-// A break that the next place would be.
-fn join(row: &mut [[f64; 6]], p: Progress, b: Break, dist: f64) -> Joined
+// The breaks so far, with a break that the next place would be.
+fn join<D: Distances>(
+    row: &mut [[f64; 6]],
+    p: Progress,
+    b: Break,
+    dist: f64,
+) -> Result<Progress, Stopped>
     requires { p.count ≤ length row.old }
-    ensures row { join_of (length row.old) (take p.count row.old) p.opened b dist ≡ joined_in row.new result }
+    ensures row { join_of (length row.old) (take p.count row.old) (D.distance p.opened) b (D.distance dist) ≡ joined_by D.distance row.new result }
     ensures count { count_joined result ≤ length row.old }
 {
     let n = p.count;
     if opens(row, n, b.xy) {
         return push(row, n, b, dist);
     }
-    if dist < p.opened {
+    if D::is_less(dist, p.opened) {
         row[n - 1] = packed(b);
-        return Joined::At(p);
+        return Ok(p);
     }
-    Joined::At(p)
+    Ok(p)
 }
 
-// One place more.
-fn advance(row: &mut [[f64; 6]], p: Progress, next: Placed) -> Joined
-    requires { p.count ≤ length row.old }
-    ensures row { stepped (length row.old) (so (take p.count row.old) p.opened) next ≡ joined_in row.new result }
-    ensures count { count_joined result ≤ length row.old }
-{
-    match next {
-        Placed::At(b, dist) => join(row, p, b, dist),
-        Placed::Missing => Joined::Missing,
-        Placed::Past => Joined::Past,
-    }
-}
-
-// The breaks of a run of this length.
-pub fn find_breaks(samples: &[[f64; 4]], len: f64, g: Grid, row: &mut [[f64; 6]]) -> Breaks
+// The breaks of a run of this length: how many there are.
+pub fn find<D: Distances>(
+    samples: &[[f64; 4]],
+    len: f64,
+    g: Grid,
+    row: &mut [[f64; 6]],
+) -> Result<usize, Stopped>
     ensures row { breaks_of (length row.old) samples.now g len ≡ breaks_in row.new result }
     ensures count { count_found result ≤ length row.old }
 {
@@ -203,24 +190,45 @@ pub fn find_breaks(samples: &[[f64; 4]], len: f64, g: Grid, row: &mut [[f64; 6]]
         count: 0,
         opened: 0.0,
     };
-    let mut i = 0;
-    while i <= n {
-        let next = place(samples, g, len * (i as f64) / (n as f64));
-        match advance(row, p, next) {
-            Joined::At(q) => {
-                p = q;
-            }
-            Joined::Full => {
-                return Breaks::Full;
-            }
-            Joined::Missing => {
-                return Breaks::Missing;
-            }
-            Joined::Past => {
-                return Breaks::Past;
-            }
-        }
-        i += 1;
+    for i in 0..=n {
+        let next = D::place(samples, g, len * (i as f64) / (n as f64))?;
+        p = join::<D>(row, p, next.place, next.dist)?;
     }
-    Breaks::Found(p.count)
+    Ok(p.count)
+}
+
+impl Distances for Plain {
+    ghost distance = { λ d. d };
+
+    ghost none = { refl };
+
+    fn place(samples: &[[f64; 4]], g: Grid, s: f64) -> Result<Placed, Stopped> {
+        if samples.len() <= float::to_index(s) {
+            return Err(Stopped::Past);
+        }
+        let o = lookup::xy(samples, s).ok_or(Stopped::Missing)?;
+        let dir = lookup::dir(samples, s).ok_or(Stopped::Missing)?;
+        let xy = g.point(o);
+        Ok(Placed {
+            place: Break { s, xy, dir },
+            dist: xy.distance(o),
+        })
+    }
+
+    fn is_less(a: f64, b: f64) -> bool {
+        a < b
+    }
+}
+
+// The same, by distances as they are.
+pub fn find_breaks(
+    samples: &[[f64; 4]],
+    len: f64,
+    g: Grid,
+    row: &mut [[f64; 6]],
+) -> Result<usize, Stopped>
+    ensures row { breaks_of (length row.old) samples.now g len ≡ breaks_in row.new result }
+    ensures count { count_found result ≤ length row.old }
+{
+    find::<Plain>(samples, len, g, row)
 }

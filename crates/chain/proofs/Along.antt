@@ -1,4 +1,5 @@
 -- A chain in rows, piece by piece from place i on: its break numbers, its pieces and its sum. Assumes nothing.
+use Rattle.std.specs.Prelude.{Option, Some, None}
 use Prim.Native.Nat.{ℕ, zero, suc, ◌+◌, ◌*◌, ◌-◌, ◌≤◌, ◌<◌}
 use native.Mathlib.Omega.{arith}
 use mathlib.Core.Bool.{Bool, true, false, ◌&&◌, false≢true}
@@ -15,14 +16,11 @@ use Rattle.measure.specs.Measure.{measure_of}
 use Rattle.measure.specs.Fallen.{fallen_of}
 use Rattle.measure.proofs.Asked.{fallen_most}
 use Rattle.measure.specs.declared.Measure.{Measure}
-use Rattle.measure.specs.declared.Measured.TheVariants as Measured
 use Rattle.float.specs.Numbers.{nought}
 use Rattle.chain.specs.Valid.{valid_piece, leads, stays, joined, piece_quad, valid_from, good_shape, joint_of, sum_from, sum_of, piece_at, pieces_from, chain_in, even_rows}
 use Rattle.chain.specs.Fallen.{fallen_of_piece, fallen_along, fallen_of_sum}
 use Rattle.chain.specs.declared.Piece.{Piece}
-use Rattle.chain.specs.declared.Before.{Before}
-use Rattle.chain.specs.declared.Before.TheVariants.{Start, After}
-use Rattle.chain.specs.declared.Summed.TheVariants as Summed
+use Rattle.std.specs.Prelude.{Some, None}
 
 both : (a b : Bool) → (a && b) ≡ true → (a ≡ true) × (b ≡ true)
 both true b h = (refl, h)
@@ -200,13 +198,13 @@ module _ (starts ends : List ℕ) (xs ys : List Float) where
       (omega arith, omega arith)
 
 -- ---- the pieces, each after the one before
-module _ (breaks : Row) (before : Before) (p : Piece) (ps : List Piece) where
+module _ (breaks : Row) (before : Option Quad) (p : Piece) (ps : List Piece) where
   bad : valid_piece before (break_at breaks p.from) (break_at breaks p.to) p.control ≡ false → valid_from breaks before (p ∷ ps) ≡ false
   unfolding valid_from
   bad h = rw h
 
   good : valid_piece before (break_at breaks p.from) (break_at breaks p.to) p.control ≡ true →
-      valid_from breaks before (p ∷ ps) ≡ valid_from breaks (After (piece_quad breaks p)) ps
+      valid_from breaks before (p ∷ ps) ≡ valid_from breaks (Some (piece_quad breaks p)) ps
   unfolding valid_from
   good h = rw h
 
@@ -217,83 +215,83 @@ module _ (breaks : Row) (ps : List Piece) where
 
   pub good_joined : good_shape breaks ps ≡ true → joined (length breaks - 1) ps ≡ true
   unfolding good_shape
-  good_joined h = (both (joined (length breaks - 1) ps) (valid_from breaks Start ps) h).0
+  good_joined h = (both (joined (length breaks - 1) ps) (valid_from breaks None ps) h).0
 
-  pub well_joined : joined (length breaks - 1) ps ≡ true → valid_from breaks Start ps ≡ good_shape breaks ps
+  pub well_joined : joined (length breaks - 1) ps ≡ true → valid_from breaks None ps ≡ good_shape breaks ps
   unfolding good_shape
   well_joined h = rw h
 
 -- i pieces are valid, and `before` is what comes before the next
-abbrev pub Passing : Row → List ℕ → List ℕ → List Float → List Float → Before → ℕ → Type 0
+abbrev pub Passing : Row → List ℕ → List ℕ → List Float → List Float → Option Quad → ℕ → Type 0
 Passing breaks starts ends xs ys before i =
-    valid_from breaks Start (chain_in starts ends xs ys) ≡ valid_from breaks before (pieces_from starts ends xs ys (length starts - i) i)
+    valid_from breaks None (chain_in starts ends xs ys) ≡ valid_from breaks before (pieces_from starts ends xs ys (length starts - i) i)
 
-pub passing : (breaks : Row) (starts ends : List ℕ) (xs ys : List Float) → Passing breaks starts ends xs ys Start 0
+pub passing : (breaks : Row) (starts ends : List ℕ) (xs ys : List Float) → Passing breaks starts ends xs ys None 0
 passing breaks starts ends xs ys =
     let all : length starts - 0 ≡ length starts = omega arith in
     rw all
 
-module _ (breaks : Row) (starts ends : List ℕ) (xs ys : List Float) (before : Before) (i : ℕ) (s : Passing breaks starts ends xs ys before i) where
-  pub all_valid : length starts ≤ i → true ≡ valid_from breaks Start (chain_in starts ends xs ys)
+module _ (breaks : Row) (starts ends : List ℕ) (xs ys : List Float) (before : Option Quad) (i : ℕ) (s : Passing breaks starts ends xs ys before i) where
+  pub all_valid : length starts ≤ i → true ≡ valid_from breaks None (chain_in starts ends xs ys)
   unfolding valid_from
   all_valid h = sym (s ∙ rw (none starts ends xs ys i h))
 
   module _ (more : i < length starts) (p : Piece) (is : p ≡ piece_at starts ends xs ys i) (a b : Break) (from : a ≡ break_at breaks p.from) (to : b ≡ break_at breaks p.to) where
-    piece : valid_from breaks Start (chain_in starts ends xs ys) ≡ valid_from breaks before (p ∷ pieces_from starts ends xs ys (length starts - (i + 1)) (i + 1))
+    piece : valid_from breaks None (chain_in starts ends xs ys) ≡ valid_from breaks before (p ∷ pieces_from starts ends xs ys (length starts - (i + 1)) (i + 1))
     piece = s ∙ rw (next starts ends xs ys i more, is)
 
-    pub one_invalid : valid_piece before a b p.control ≡ false → false ≡ valid_from breaks Start (chain_in starts ends xs ys)
+    pub one_invalid : valid_piece before a b p.control ≡ false → false ≡ valid_from breaks None (chain_in starts ends xs ys)
     one_invalid h = sym (piece ∙ bad breaks before p _ (rw (from, to) at h))
 
-    pub passes_on : (q : Quad) → valid_piece before a b p.control ≡ true → q ≡ piece_quad breaks p → Passing breaks starts ends xs ys (After q) (i + 1)
+    pub passes_on : (q : Quad) → valid_piece before a b p.control ≡ true → q ≡ piece_quad breaks p → Passing breaks starts ends xs ys (Some q) (i + 1)
     passes_on q h drawn = piece ∙ good breaks before p _ (rw (from, to) at h) ∙ rw drawn
 
 -- ---- the sum
 module _ (samples : List (List Float)) (breaks : Row) (penalty : Float) where
-  ended : (before : Before) (ps : List Piece) → sum_from samples breaks penalty before Summed.Missing ps ≡ Summed.Missing
+  ended : (before : Option Quad) (ps : List Piece) → sum_from samples breaks penalty before None ps ≡ None
   unfolding sum_from
   ended before [] = refl
-  ended before (p ∷ ps) = ended (After (piece_quad breaks p)) ps
+  ended before (p ∷ ps) = ended (Some (piece_quad breaks p)) ps
 
-  module _ (before : Before) (s : Float) (p : Piece) (ps : List Piece) where
-    ends_it : measure_of samples (break_at breaks p.from).s (break_at breaks p.to).s (piece_quad breaks p) ≡ Measured.Missing →
-        sum_from samples breaks penalty before (Summed.At s) (p ∷ ps) ≡ Summed.Missing
+  module _ (before : Option Quad) (s : Float) (p : Piece) (ps : List Piece) where
+    ends_it : measure_of samples (break_at breaks p.from).s (break_at breaks p.to).s (piece_quad breaks p) ≡ None →
+        sum_from samples breaks penalty before (Some s) (p ∷ ps) ≡ None
     unfolding sum_from
-    ends_it h = rw h (ended (After (piece_quad breaks p)) ps)
+    ends_it h = rw h (ended (Some (piece_quad breaks p)) ps)
 
-    adds : (m : Measure) → measure_of samples (break_at breaks p.from).s (break_at breaks p.to).s (piece_quad breaks p) ≡ Measured.At m →
-        sum_from samples breaks penalty before (Summed.At s) (p ∷ ps)
-        ≡ sum_from samples breaks penalty (After (piece_quad breaks p)) (Summed.At (add binary64 (add binary64 s (mul binary64 penalty (joint_of before (piece_quad breaks p)))) m.error)) ps
+    adds : (m : Measure) → measure_of samples (break_at breaks p.from).s (break_at breaks p.to).s (piece_quad breaks p) ≡ Some m →
+        sum_from samples breaks penalty before (Some s) (p ∷ ps)
+        ≡ sum_from samples breaks penalty (Some (piece_quad breaks p)) (Some (add binary64 (add binary64 s (mul binary64 penalty (joint_of before (piece_quad breaks p)))) m.error)) ps
     unfolding sum_from
     adds m h = rw h
 
 -- i pieces are summed to s, and `before` is what comes before the next
-abbrev pub Summing : List (List Float) → Row → Float → List ℕ → List ℕ → List Float → List Float → Before → Float → ℕ → Type 0
+abbrev pub Summing : List (List Float) → Row → Float → List ℕ → List ℕ → List Float → List Float → Option Quad → Float → ℕ → Type 0
 Summing samples breaks penalty starts ends xs ys before s i =
-    sum_of samples breaks penalty (chain_in starts ends xs ys) ≡ sum_from samples breaks penalty before (Summed.At s) (pieces_from starts ends xs ys (length starts - i) i)
+    sum_of samples breaks penalty (chain_in starts ends xs ys) ≡ sum_from samples breaks penalty before (Some s) (pieces_from starts ends xs ys (length starts - i) i)
 
 module _ (samples : List (List Float)) (breaks : Row) (penalty : Float) (starts ends : List ℕ) (xs ys : List Float) where
-  pub summing : Summing samples breaks penalty starts ends xs ys Start nought 0
+  pub summing : Summing samples breaks penalty starts ends xs ys None nought 0
   summing =
       let all : length starts - 0 ≡ length starts = omega arith in
       rw all
 
-  module _ (before : Before) (s : Float) (i : ℕ) (so : Summing samples breaks penalty starts ends xs ys before s i) where
-    pub summed : length starts ≤ i → Summed.At s ≡ sum_of samples breaks penalty (chain_in starts ends xs ys)
+  module _ (before : Option Quad) (s : Float) (i : ℕ) (so : Summing samples breaks penalty starts ends xs ys before s i) where
+    pub summed : length starts ≤ i → (Some s) ≡ sum_of samples breaks penalty (chain_in starts ends xs ys)
     unfolding sum_from
     summed h = sym (so ∙ rw (none starts ends xs ys i h))
 
     module _ (more : i < length starts) (p : Piece) (is : p ≡ piece_at starts ends xs ys i) (q : Quad) (drawn : q ≡ piece_quad breaks p)
         (a b : Break) (from : a ≡ break_at breaks p.from) (to : b ≡ break_at breaks p.to) where
       turned : sum_of samples breaks penalty (chain_in starts ends xs ys)
-          ≡ sum_from samples breaks penalty before (Summed.At s) (p ∷ pieces_from starts ends xs ys (length starts - (i + 1)) (i + 1))
+          ≡ sum_from samples breaks penalty before (Some s) (p ∷ pieces_from starts ends xs ys (length starts - (i + 1)) (i + 1))
       turned = so ∙ rw (next starts ends xs ys i more, is)
 
-      pub one_refused : measure_of samples a.s b.s q ≡ Measured.Missing → Summed.Missing ≡ sum_of samples breaks penalty (chain_in starts ends xs ys)
+      pub one_refused : measure_of samples a.s b.s q ≡ None → None ≡ sum_of samples breaks penalty (chain_in starts ends xs ys)
       one_refused h = sym (turned ∙ ends_it samples breaks penalty before s p _ (rw (from, to, drawn) at h))
 
-      pub sums_on : (m : Measure) (j : Float) → measure_of samples a.s b.s q ≡ Measured.At m → j ≡ joint_of before q →
-          Summing samples breaks penalty starts ends xs ys (After q) (add binary64 (add binary64 s (mul binary64 penalty j)) m.error) (i + 1)
+      pub sums_on : (m : Measure) (j : Float) → measure_of samples a.s b.s q ≡ Some m → j ≡ joint_of before q →
+          Summing samples breaks penalty starts ends xs ys (Some q) (add binary64 (add binary64 s (mul binary64 penalty j)) m.error) (i + 1)
       sums_on m j h joint = turned ∙ adds samples breaks penalty before s p _ m (rw (from, to, drawn) at h) ∙ rw (joint, drawn)
 
 -- ---- the lookups that fell: so many in i pieces
@@ -307,13 +305,13 @@ module _ (samples : List (List Float)) (breaks : Row) (starts ends : List ℕ) (
       let all : length starts - 0 ≡ length starts = omega arith in
       record { sofar = rw all (omega arith); few = omega arith }
 
-  pub none_counted : (penalty : Float) → Summed.Missing ≡ sum_of samples breaks penalty (chain_in starts ends xs ys) →
+  pub none_counted : (penalty : Float) → None ≡ sum_of samples breaks penalty (chain_in starts ends xs ys) →
       0 ≡ fallen_of_sum samples breaks penalty (chain_in starts ends xs ys)
   unfolding fallen_of_sum
   none_counted penalty e = rw (← e) refl
 
   module _ {n i : ℕ} (so : Falling samples breaks starts ends xs ys n i) where
-    pub all_counted : length starts ≤ i → (penalty : Float) {s : Float} → Summed.At s ≡ sum_of samples breaks penalty (chain_in starts ends xs ys) →
+    pub all_counted : length starts ≤ i → (penalty : Float) {s : Float} → (Some s) ≡ sum_of samples breaks penalty (chain_in starts ends xs ys) →
         n ≡ fallen_of_sum samples breaks penalty (chain_in starts ends xs ys)
     unfolding fallen_of_sum fallen_along
     all_counted h penalty e = rw (← e) (sym (so.sofar ∙ rw (none starts ends xs ys i h) (omega arith)))

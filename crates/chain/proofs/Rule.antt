@@ -1,4 +1,5 @@
 -- The checker says yes exactly when a chain obeys the user's rule. Assumes nothing.
+use Rattle.std.specs.Prelude.{Option, Some, None}
 use Prim.Native.Nat.{ℕ, zero, suc}
 use native.Mathlib.Omega.{arith}
 use mathlib.Core.Bool.{Bool, true, false, not, ◌&&◌, ◌||◌, false≢true}
@@ -14,7 +15,6 @@ use Rattle.geometry.specs.Geometry.{lerp_of, is_line, is_whole, intersect_of, is
 use Rattle.geometry.specs.declared.Break.{Break}
 use Rattle.geometry.specs.declared.Point.{Point}
 use Rattle.geometry.specs.declared.Quad.{Quad}
-use Rattle.geometry.specs.declared.Crossing.{Crossing}
 use Rattle.breaks.specs.Breaks.{Row, break_at}
 use Rattle.chain.specs.Valid.{equals, equal_points, drawn, straight, at_rounded, bent, curved, follows_curve, valid_piece, leads, joined}
 use Rattle.chain.specs.Valid.{piece_quad, valid_from, good_shape, sum_of, verdict, judged_by, checked_chain, even_rows, checked_if, chain_in, check_rows}
@@ -22,10 +22,6 @@ use Rattle.chain.specs.Laws.{accepts_exactly}
 use Rattle.chain.specs.Rule.{Equal, EqualPoints, Straight, Bent, OnWhole, Curved, Follows, smoothly, Fine, Leads, arrived, onward}
 use Rattle.chain.specs.Rule.{Joined, staying, leading, Each, all, and, Shaped, Obeys, Even, Valid, ValidExactly}
 use Rattle.chain.specs.declared.Piece.{Piece}
-use Rattle.chain.specs.declared.Before.{Before}
-use Rattle.chain.specs.declared.Before.TheVariants.{Start, After}
-use Rattle.chain.specs.declared.Summed.{Summed}
-use Rattle.chain.specs.declared.Checked.{Checked}
 
 -- ---- tests and facts
 
@@ -81,23 +77,23 @@ points_are p q h = rw (equals_so p.x q.x h.0, equals_so p.y q.y h.1) refl
 -- ---- one piece
 
 module _ (a b : Break) (c : Point) where
-  bent_by : (x : Crossing) → intersect_of a.xy a.dir b.xy b.dir ≡ x → at_rounded c x ≡ true → Bent a b c
-  bent_by Crossing.Nowhere e h = absurd (false≢true h)
-  bent_by (Crossing.At p) e h = record { crossing = p; crosses = e; control = points_so c _ h }
+  bent_by : (x : Option Point) → intersect_of a.xy a.dir b.xy b.dir ≡ x → at_rounded c x ≡ true → Bent a b c
+  bent_by None e h = absurd (false≢true h)
+  bent_by (Some p) e h = record { crossing = p; crosses = e; control = points_so c _ h }
 
   bent_is : Bent a b c → bent a b c ≡ true
   bent_is k = rw k.crosses (points_are c _ k.control)
 
-follows_so : (before : Before) (q : Quad) → follows_curve before q ≡ true → Follows before q
-follows_so Start q e = absurd (false≢true e)
-follows_so (After p) q e =
+follows_so : (before : Option Quad) (q : Quad) → follows_curve before q ≡ true → Follows before q
+follows_so None q e = absurd (false≢true e)
+follows_so (Some p) q e =
     let h = both (curved p) (is_close (lerp_of p.p1 q.p1 half) q.p0) e in
     smoothly (not_so (is_line p) h.0) h.1
 
-follows_is : {before : Before} {q : Quad} → Follows before q → follows_curve before q ≡ true
+follows_is : {before : Option Quad} {q : Quad} → Follows before q → follows_curve before q ≡ true
 follows_is (smoothly k h) = rw (k, h) refl
 
-module _ (before : Before) (a b : Break) (c : Point) where
+module _ (before : Option Quad) (a b : Break) (c : Point) where
   fine_so : valid_piece before a b c ≡ true → Fine before a b c
   unfolding valid_piece
   fine_so e =
@@ -153,21 +149,21 @@ joined_is (staying {p} f t) = rw (eq-eqb p.from 0 f, eq-eqb p.to 0 t) refl
 joined_is (leading h) = leads_is h
 
 module _ (breaks : Row) where
-  each_so : (before : Before) (ps : List Piece) → valid_from breaks before ps ≡ true → Each breaks before ps
+  each_so : (before : Option Quad) (ps : List Piece) → valid_from breaks before ps ≡ true → Each breaks before ps
   unfolding valid_from
   each_so before [] e = all
   each_so before (p ∷ ps) e =
-      let h = both (valid_piece before (break_at breaks p.from) (break_at breaks p.to) p.control) (valid_from breaks (After (piece_quad breaks p)) ps) e in
-      and (fine_so before _ _ _ h.0) (each_so (After (piece_quad breaks p)) ps h.1)
+      let h = both (valid_piece before (break_at breaks p.from) (break_at breaks p.to) p.control) (valid_from breaks (Some (piece_quad breaks p)) ps) e in
+      and (fine_so before _ _ _ h.0) (each_so (Some (piece_quad breaks p)) ps h.1)
 
-  each_is : {before : Before} {ps : List Piece} → Each breaks before ps → valid_from breaks before ps ≡ true
+  each_is : {before : Option Quad} {ps : List Piece} → Each breaks before ps → valid_from breaks before ps ≡ true
   unfolding valid_from
   each_is all = refl
   each_is {before} (and {p = p} fine rest) = rw (fine_is before _ _ _ fine, each_is rest) refl
 
   shaped_so : (ps : List Piece) → good_shape breaks ps ≡ true → Shaped breaks ps
   unfolding good_shape
-  shaped_so ps e = let h = both _ (valid_from breaks Start ps) e in record { joined = joined_so _ ps h.0; pieces = each_so Start ps h.1 }
+  shaped_so ps e = let h = both _ (valid_from breaks None ps) e in record { joined = joined_so _ ps h.0; pieces = each_so None ps h.1 }
 
   shaped_is : (ps : List Piece) → Shaped breaks ps → good_shape breaks ps ≡ true
   unfolding good_shape
@@ -176,21 +172,21 @@ module _ (breaks : Row) where
 -- ---- the chain
 
 module _ (samples : List (List Float)) (breaks : Row) (penalty : Float) (ps : List Piece) (score : Float) where
-  obeys_by : (s : Summed) → sum_of samples breaks penalty ps ≡ s → checked_chain samples breaks penalty ps score ≡ Checked.Yes → Obeys samples breaks penalty ps score
+  obeys_by : (s : Option Float) → sum_of samples breaks penalty ps ≡ s → checked_chain samples breaks penalty ps score ≡ Some true → Obeys samples breaks penalty ps score
   unfolding checked_chain
-  obeys_by Summed.Missing e h = absurd (by (good_shape breaks ps) h)
+  obeys_by None e h = absurd (by (good_shape breaks ps) h)
     where
-      by : (good : Bool) → verdict samples breaks penalty good ps score ≡ Checked.Yes → ⊥
+      by : (good : Bool) → verdict samples breaks penalty good ps score ≡ Some true → ⊥
       by true k =
-          let last : judged_by samples breaks penalty Summed.Missing score ≡ Checked.Yes = rw e at k in
+          let last : judged_by samples breaks penalty None score ≡ (Some true) = rw e at k in
           let z : ◌≡◌ {A = ℕ} 0 1 = cc in
           omega arith
-      by false k = let z : ◌≡◌ {A = ℕ} 0 1 = cc in omega arith
-  obeys_by (Summed.At s) e h =
+      by false k = cc
+  obeys_by (Some s) e h =
       let k = (accepts_exactly samples breaks penalty ps score s e).0 h in
       record { shape = shaped_so breaks ps k.0; sum = s; summed = e; equal = equal_so s score k.1 }
 
-  obeys_is : Obeys samples breaks penalty ps score → checked_chain samples breaks penalty ps score ≡ Checked.Yes
+  obeys_is : Obeys samples breaks penalty ps score → checked_chain samples breaks penalty ps score ≡ Some true
   obeys_is o = (accepts_exactly samples breaks penalty ps score o.sum o.summed).1 (shaped_is breaks ps o.shape, equals_so o.sum score o.equal)
 
 even_so : (starts ends : List ℕ) (xs ys : List Float) → even_rows starts ends xs ys ≡ true → Even starts ends xs ys
@@ -207,7 +203,7 @@ pub valid_exactly : ValidExactly
 unfolding check_rows
 valid_exactly samples breaks penalty starts ends xs ys score = (by (even_rows starts ends xs ys) refl, λ v. rw (even_is starts ends xs ys v.even) (obeys_is samples breaks penalty _ score v.obeys))
   where
-    by : (even : Bool) → even_rows starts ends xs ys ≡ even → checked_if even (checked_chain samples breaks penalty (chain_in starts ends xs ys) score) ≡ Checked.Yes →
+    by : (even : Bool) → even_rows starts ends xs ys ≡ even → checked_if even (checked_chain samples breaks penalty (chain_in starts ends xs ys) score) ≡ Some true →
         Valid samples breaks penalty starts ends xs ys score
     by true e h = record { even = even_so starts ends xs ys e; obeys = obeys_by samples breaks penalty _ score _ refl h }
-    by false e h = let z : ◌≡◌ {A = ℕ} 0 1 = cc in absurd (omega arith)
+    by false e h = absurd cc

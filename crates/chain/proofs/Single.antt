@@ -1,4 +1,5 @@
 -- One piece: the definitions, by what the code's tests have found. Assumes nothing.
+use Rattle.std.specs.Prelude.{Option}
 use mathlib.Core.Bool.{true, false, not, ◌||◌, and-true, and-false, not-not}
 use mathlib.Core.Path.{◌≡◌, sym, ap, ◌∙◌}
 use borrow.Author.Tests.{not-true, not-false}
@@ -6,9 +7,9 @@ use lib.Ieee.{Float, eq, ne, is_nan}
 use Rattle.geometry.specs.Geometry.{is_line, is_whole}
 use Rattle.geometry.specs.declared.Break.{Break}
 use Rattle.geometry.specs.declared.Point.{Point}
+use Rattle.geometry.specs.declared.Quad.{Quad}
 use Rattle.chain.specs.Laws.{eq_self}
 use Rattle.chain.specs.Valid.{equals, drawn, straight, bent, follows_curve, valid_piece}
-use Rattle.chain.specs.declared.Before.{Before}
 
 -- ---- equality
 is_nan_lem : (x : Float) → eq x x ≡ false → is_nan x ≡ true
@@ -29,7 +30,7 @@ module _ (a b : Float) (h : eq a b ≡ false) where
   nans k = rw (h, is_nan_lem a k, ne_self b)
 
 -- ---- a piece from break a to break b with the control c
-module _ (before : Before) (a b : Break) (c : Point) where
+module _ (before : Option Quad) (a b : Break) (c : Point) where
   pub from_whole : is_whole a.xy ≡ true → valid_piece before a b c ≡ (straight a b c || bent a b c)
   unfolding valid_piece
   from_whole w = rw w (and-true (straight a b c || bent a b c))

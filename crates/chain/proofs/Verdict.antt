@@ -1,38 +1,33 @@
 -- What the checker says, by what the code has found. Assumes nothing.
+use Rattle.std.specs.Prelude.{Some, None}
 use Prim.Native.Nat.{ℕ}
-use mathlib.Core.Bool.{true, false}
+use mathlib.Core.Bool.{Bool, true, false}
 use mathlib.Core.List.{List}
 use mathlib.Core.Path.{◌≡◌}
 use lib.Ieee.{Float}
 use Rattle.breaks.specs.Breaks.{Row}
 use Rattle.chain.specs.Fallen.{fallen_of_sum, fallen_rows}
 use Rattle.chain.specs.Valid.{equals, good_shape, sum_of, checked_chain, chain_in, even_rows, check_rows}
-use Rattle.chain.specs.declared.Summed.TheVariants as Summed
-use Rattle.chain.specs.declared.Checked.TheVariants as Checked
 
 module _ (samples : List (List Float)) (breaks : Row) (penalty : Float) (starts ends : List ℕ) (xs ys : List Float) (score : Float) where
-  pub uneven : even_rows starts ends xs ys ≡ false → Checked.No ≡ check_rows samples breaks penalty starts ends xs ys score
+  pub uneven : even_rows starts ends xs ys ≡ false → Some false ≡ check_rows samples breaks penalty starts ends xs ys score
   unfolding check_rows
   uneven h = rw h
 
   module _ (even : even_rows starts ends xs ys ≡ true) where
-    pub misshapen : good_shape breaks (chain_in starts ends xs ys) ≡ false → Checked.No ≡ check_rows samples breaks penalty starts ends xs ys score
+    pub misshapen : good_shape breaks (chain_in starts ends xs ys) ≡ false → Some false ≡ check_rows samples breaks penalty starts ends xs ys score
     unfolding check_rows checked_chain
     misshapen h = rw (even, h)
 
     module _ (good : good_shape breaks (chain_in starts ends xs ys) ≡ true) where
-      pub unmeasured : sum_of samples breaks penalty (chain_in starts ends xs ys) ≡ Summed.Missing → Checked.Missing ≡ check_rows samples breaks penalty starts ends xs ys score
+      pub unmeasured : sum_of samples breaks penalty (chain_in starts ends xs ys) ≡ None → None ≡ check_rows samples breaks penalty starts ends xs ys score
       unfolding check_rows checked_chain
       unmeasured h = rw (even, good, h)
 
-      module _ (s : Float) (summed : sum_of samples breaks penalty (chain_in starts ends xs ys) ≡ Summed.At s) where
-        pub right : equals s score ≡ true → Checked.Yes ≡ check_rows samples breaks penalty starts ends xs ys score
+      module _ (s : Float) (summed : sum_of samples breaks penalty (chain_in starts ends xs ys) ≡ Some s) where
+        pub compared : {b : Bool} → b ≡ equals s score → Some b ≡ check_rows samples breaks penalty starts ends xs ys score
         unfolding check_rows checked_chain
-        right h = rw (even, good, summed, h)
-
-        pub wrong : equals s score ≡ false → Checked.No ≡ check_rows samples breaks penalty starts ends xs ys score
-        unfolding check_rows checked_chain
-        wrong h = rw (even, good, summed, h)
+        compared h = rw (h, even, good, summed)
 
 -- ---- the lookups that fell in the measures that were made
 

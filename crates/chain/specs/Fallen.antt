@@ -1,10 +1,9 @@
 -- How many lookups fell off the samples in the measures of a chain, as the checker makes them. Definitions only.
-use Rattle.std.specs.Prelude.{ℕ, ◌+◌, Bool, true, false, List, [], ◌∷◌, Float}
+use Rattle.std.specs.Prelude.{ℕ, ◌+◌, Bool, true, false, List, [], ◌∷◌, Float, Option, Some, None}
 use Rattle.breaks.specs.Breaks.{Row, break_at}
 use Rattle.measure.specs.Fallen.{fallen_of}
 use Rattle.chain.specs.Valid.{piece_quad, good_shape, sum_of, chain_in, even_rows}
 use Rattle.chain.specs.declared.Piece.{Piece}
-use Rattle.chain.specs.declared.Summed.{Summed}
 
 module _ (samples : List (List Float)) (breaks : Row) where
   -- in the measure of a piece, between the lengths of its two breaks
@@ -16,9 +15,9 @@ module _ (samples : List (List Float)) (breaks : Row) where
   fallen_along (p ∷ ps) = fallen_of_piece p + fallen_along ps
 
   -- a measure that is refused leaves none
-  abbrev pub unless_last : Summed → ℕ → ℕ
-  unless_last (Summed.At s) n = n
-  unless_last Summed.Missing n = 0
+  abbrev pub unless_last : Option Float → ℕ → ℕ
+  unless_last (Some s) n = n
+  unless_last None n = 0
 
   unfoldable pub fallen_of_sum : Float → List Piece → ℕ
   fallen_of_sum penalty ps = unless_last (sum_of samples breaks penalty ps) (fallen_along ps)

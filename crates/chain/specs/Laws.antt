@@ -1,13 +1,11 @@
 -- Theorems on the definitions of Valid: equality of f64 values, and what a checker's yes and 8 say. Assumes nothing.
-use Rattle.std.specs.Prelude.{ℕ, ◌*◌, Bool, true, false, not, ◌&&◌, ◌||◌, List, ◌↔◌, ◌≡◌, refl, Float}
+use Rattle.std.specs.Prelude.{ℕ, ◌*◌, Bool, true, false, not, ◌&&◌, ◌||◌, List, ◌↔◌, ◌≡◌, refl, Float, Option, Some, None}
 use Rattle.std.proofs.Common.{arith, eq-eqb}
 use Rattle.std.specs.Float.{nan, inf, fin}
 use Rattle.std.specs.Float.Ieee.{up, down, eq, is_nan}
 use Rattle.breaks.specs.Breaks.{Row}
-use Rattle.chain.specs.Valid.{equals, good_shape, sum_of, yes_if, judged_by, verdict, checked_chain}
+use Rattle.chain.specs.Valid.{equals, good_shape, sum_of, judged_by, verdict, checked_chain}
 use Rattle.chain.specs.declared.Piece.{Piece}
-use Rattle.chain.specs.declared.Summed.{Summed}
-use Rattle.chain.specs.declared.Checked.TheVariants as Checked
 
 -- ---- equality
 
@@ -30,37 +28,29 @@ equals_same x = rw (eq_self x) (either (is_nan x))
 -- ---- the checker
 
 module _ (samples : List (List Float)) (breaks : Row) (penalty : Float) where
-  never_last : (b : Bool) → yes_if samples breaks penalty b ≡ Checked.Missing → ⊥
-  never_last true e = let z : ◌≡◌ {A = ℕ} 0 1 = cc in omega arith
-  never_last false e = let z : ◌≡◌ {A = ℕ} 0 1 = cc in omega arith
-
-  yes_only : (b : Bool) → yes_if samples breaks penalty b ≡ Checked.Yes → b ≡ true
-  yes_only true e = refl
-  yes_only false e = absurd (let z : ◌≡◌ {A = ℕ} 0 1 = cc in omega arith)
-
   module _ (ps : List Piece) (score : Float) where
-    no_sum_lem : (s : Summed) → judged_by samples breaks penalty s score ≡ Checked.Missing → s ≡ Summed.Missing
-    no_sum_lem (Summed.At s) e = absurd (never_last (equals s score) e)
-    no_sum_lem Summed.Missing e = refl
+    no_sum_lem : (s : Option Float) → judged_by samples breaks penalty s score ≡ None → s ≡ None
+    no_sum_lem (Some s) e = absurd cc
+    no_sum_lem None e = refl
 
-    refused : (good : Bool) → verdict samples breaks penalty good ps score ≡ Checked.Missing →
-        (good ≡ true) × (sum_of samples breaks penalty ps ≡ Summed.Missing)
-    refused false e = absurd (let z : ◌≡◌ {A = ℕ} 0 1 = cc in omega arith)
+    refused : (good : Bool) → verdict samples breaks penalty good ps score ≡ None →
+        (good ≡ true) × (sum_of samples breaks penalty ps ≡ None)
+    refused false e = absurd cc
     refused true e = (refl, no_sum_lem (sum_of samples breaks penalty ps) e)
 
     -- 8 exactly when the shape is good and a measure of the sum is refused
-    pub refuses_exactly : (checked_chain samples breaks penalty ps score ≡ Checked.Missing) ↔
-        ((good_shape breaks ps ≡ true) × (sum_of samples breaks penalty ps ≡ Summed.Missing))
+    pub refuses_exactly : (checked_chain samples breaks penalty ps score ≡ None) ↔
+        ((good_shape breaks ps ≡ true) × (sum_of samples breaks penalty ps ≡ None))
     unfolding checked_chain
     refuses_exactly = (refused (good_shape breaks ps), λ h. rw (h.0, h.1))
 
-    yes : (s : Float) (good : Bool) → sum_of samples breaks penalty ps ≡ Summed.At s → verdict samples breaks penalty good ps score ≡ Checked.Yes →
+    yes : (s : Float) (good : Bool) → sum_of samples breaks penalty ps ≡ Some s → verdict samples breaks penalty good ps score ≡ Some true →
         (good ≡ true) × (equals s score ≡ true)
-    yes s false summed e = absurd (let z : ◌≡◌ {A = ℕ} 0 1 = cc in omega arith)
-    yes s true summed e = (refl, yes_only (equals s score) (rw summed at e))
+    yes s false summed e = absurd cc
+    yes s true summed e = (refl, let said : Some (equals s score) ≡ Some true = rw summed at e in cc)
 
     -- where the published sum is s, yes exactly when the shape is good and s equals the score
-    pub accepts_exactly : (s : Float) → sum_of samples breaks penalty ps ≡ Summed.At s →
-        (checked_chain samples breaks penalty ps score ≡ Checked.Yes) ↔ ((good_shape breaks ps ≡ true) × (equals s score ≡ true))
+    pub accepts_exactly : (s : Float) → sum_of samples breaks penalty ps ≡ Some s →
+        (checked_chain samples breaks penalty ps score ≡ Some true) ↔ ((good_shape breaks ps ≡ true) × (equals s score ≡ true))
     unfolding checked_chain
     accepts_exactly s summed = (yes s (good_shape breaks ps) summed, λ h. rw (h.0, summed, h.1))

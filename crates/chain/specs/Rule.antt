@@ -1,7 +1,7 @@
 -- The user's rule for a chain, in the user's words, as facts and not as a test: joined break by break from the first break to the last, rising; each
 -- piece straight or bent; the clause on half units; and a sum that is there and equals the score. The theorem that the checker says yes exactly then
 -- is `valid_exactly` of proofs/Rule.antt. Definitions only.
-use Rattle.std.specs.Prelude.{ℕ, suc, ◌-◌, ◌<◌, ◌≤◌, true, false, List, [], ◌∷◌, ◌⊎◌, ◌↔◌, ◌≡◌, length, Float}
+use Rattle.std.specs.Prelude.{ℕ, suc, ◌-◌, ◌<◌, ◌≤◌, true, false, List, [], ◌∷◌, ◌⊎◌, ◌↔◌, ◌≡◌, length, Float, Option, Some, None}
 use Rattle.std.specs.Float.{nan}
 use Rattle.std.specs.Float.Ieee.{eq}
 use Rattle.float.specs.Numbers.{half}
@@ -9,14 +9,9 @@ use Rattle.geometry.specs.Geometry.{lerp_of, is_close, is_line, is_whole, inters
 use Rattle.geometry.specs.declared.Break.{Break}
 use Rattle.geometry.specs.declared.Point.{Point}
 use Rattle.geometry.specs.declared.Quad.{Quad}
-use Rattle.geometry.specs.declared.Crossing.TheVariants as Crossing
 use Rattle.breaks.specs.Breaks.{Row, break_at}
 use Rattle.chain.specs.Valid.{drawn, piece_quad, sum_of, chain_in, check_rows}
 use Rattle.chain.specs.declared.Piece.{Piece}
-use Rattle.chain.specs.declared.Before.{Before}
-use Rattle.chain.specs.declared.Before.TheVariants.{Start, After}
-use Rattle.chain.specs.declared.Summed.TheVariants as Summed
-use Rattle.chain.specs.declared.Checked.TheVariants as Checked
 
 -- ---- equal as f64 values, NaN equal to NaN
 
@@ -35,7 +30,7 @@ Straight a b c = EqualPoints c (lerp_of a.xy b.xy half)
 -- the two directions cross, and the control is the crossing, rounded
 pub record Bent (a b : Break) (c : Point) : Type 0 where
   pub crossing : Point
-  pub crosses : intersect_of a.xy a.dir b.xy b.dir ≡ Crossing.At crossing
+  pub crosses : intersect_of a.xy a.dir b.xy b.dir ≡ Some crossing
   pub control : EqualPoints c (round_point_of crossing)
 
 abbrev pub OnWhole : Break → Type 0
@@ -45,10 +40,10 @@ abbrev pub Curved : Quad → Type 0
 Curved q = is_line q ≡ false
 
 -- a curved piece is before this one, and the middle of the two controls is at the join
-pub data Follows : Before → Quad → Type 0 where
-  smoothly : {p q : Quad} → Curved p → is_close (lerp_of p.p1 q.p1 half) q.p0 ≡ true → Follows (After p) q
+pub data Follows : Option Quad → Quad → Type 0 where
+  smoothly : {p q : Quad} → Curved p → is_close (lerp_of p.p1 q.p1 half) q.p0 ≡ true → Follows (Some p) q
 
-pub record Fine (before : Before) (a b : Break) (c : Point) : Type 0 where
+pub record Fine (before : Option Quad) (a b : Break) (c : Point) : Type 0 where
   -- straight from a whole-unit break, or bent
   pub drawn_so : (OnWhole a × Straight a b c) ⊎ Bent a b c
   -- and a piece that starts off whole units is curved and follows a curved one
@@ -67,14 +62,14 @@ pub data Joined : ℕ → List Piece → Type 0 where
   leading : {n : ℕ} {ps : List Piece} → Leads (suc n) 0 ps → Joined (suc n) ps
 
 module _ (breaks : Row) where
-  pub data Each : Before → List Piece → Type 0 where
-    all : {before : Before} → Each before []
-    and : {before : Before} {p : Piece} {ps : List Piece} → Fine before (break_at breaks p.from) (break_at breaks p.to) p.control →
-        Each (After (piece_quad breaks p)) ps → Each before (p ∷ ps)
+  pub data Each : Option Quad → List Piece → Type 0 where
+    all : {before : Option Quad} → Each before []
+    and : {before : Option Quad} {p : Piece} {ps : List Piece} → Fine before (break_at breaks p.from) (break_at breaks p.to) p.control →
+        Each (Some (piece_quad breaks p)) ps → Each before (p ∷ ps)
 
   pub record Shaped (ps : List Piece) : Type 0 where
     pub joined : Joined (length breaks - 1) ps
-    pub pieces : Each Start ps
+    pub pieces : Each None ps
 
 -- ---- the chain
 
@@ -82,7 +77,7 @@ pub record Obeys (samples : List (List Float)) (breaks : Row) (penalty : Float) 
   pub shape : Shaped breaks ps
   -- the published sum is there, and equals the score
   pub sum : Float
-  pub summed : sum_of samples breaks penalty ps ≡ Summed.At sum
+  pub summed : sum_of samples breaks penalty ps ≡ Some sum
   pub equal : Equal sum score
 
 -- rows of equal length
@@ -99,4 +94,4 @@ pub record Valid (samples : List (List Float)) (breaks : Row) (penalty : Float) 
 abbrev pub ValidExactly : Type 0
 ValidExactly =
     (samples : List (List Float)) (breaks : Row) (penalty : Float) (starts ends : List ℕ) (xs ys : List Float) (score : Float) →
-    (check_rows samples breaks penalty starts ends xs ys score ≡ Checked.Yes) ↔ Valid samples breaks penalty starts ends xs ys score
+    (check_rows samples breaks penalty starts ends xs ys score ≡ Some true) ↔ Valid samples breaks penalty starts ends xs ys score

@@ -1,6 +1,6 @@
 -- Demand 3: a chain of pieces over the breaks of a run, when its shape is good, its published sum, and what the checker says of it. Written in
 -- the user's words over document 01's points, quads, breaks and measure. Definitions only.
-use Rattle.std.specs.Prelude.{ℕ, zero, suc, ◌+◌, ◌-◌, Bool, true, false, not, ◌&&◌, ◌||◌, List, [], ◌∷◌, eqb, ltb, leb, length, get_or, Float}
+use Rattle.std.specs.Prelude.{ℕ, zero, suc, ◌+◌, ◌-◌, Bool, true, false, not, ◌&&◌, ◌||◌, List, [], ◌∷◌, eqb, ltb, leb, length, get_or, Float, Option, Some, None}
 use Rattle.std.specs.Float.{nan, binary64}
 use Rattle.std.specs.Float.Ieee.{add, mul, eq, is_nan}
 use Rattle.float.specs.Numbers.{nought, half, one, two}
@@ -8,15 +8,10 @@ use Rattle.geometry.specs.Geometry.{lerp_of, is_close, is_line, is_whole, inters
 use Rattle.geometry.specs.declared.Break.{Break}
 use Rattle.geometry.specs.declared.Point.{Point}
 use Rattle.geometry.specs.declared.Quad.{Quad}
-use Rattle.geometry.specs.declared.Crossing.{Crossing}
 use Rattle.breaks.specs.Breaks.{Row, break_at}
 use Rattle.measure.specs.Measure.{measure_of}
-use Rattle.measure.specs.declared.Measured.{Measured}
 use Rattle.chain.specs.declared.Piece.{Piece}
-use Rattle.chain.specs.declared.Before.{Before}
-use Rattle.chain.specs.declared.Before.TheVariants.{Start, After}
-use Rattle.chain.specs.declared.Summed.{Summed}
-use Rattle.chain.specs.declared.Checked.{Checked}
+use Rattle.measure.specs.declared.Measure.{Measure}
 
 -- ---- equal as f64 values: IEEE equality, or both NaN
 
@@ -36,9 +31,9 @@ abbrev pub straight : Break → Break → Point → Bool
 straight a b c = equal_points c (lerp_of a.xy b.xy half)
 
 -- the crossing of the two directions exists and the control equals its rounding
-abbrev pub at_rounded : Point → Crossing → Bool
-at_rounded c Crossing.Nowhere = false
-at_rounded c (Crossing.At p) = equal_points c (round_point_of p)
+abbrev pub at_rounded : Point → Option Point → Bool
+at_rounded c None = false
+at_rounded c (Some p) = equal_points c (round_point_of p)
 
 abbrev pub bent : Break → Break → Point → Bool
 bent a b c = at_rounded c (intersect_of a.xy a.dir b.xy b.dir)
@@ -47,12 +42,12 @@ abbrev pub curved : Quad → Bool
 curved q = not (is_line q)
 
 -- a piece is before this one, it is curved, and the midpoint of their controls is close to the join, in x and in y
-abbrev pub follows_curve : Before → Quad → Bool
-follows_curve Start q = false
-follows_curve (After p) q = curved p && is_close (lerp_of p.p1 q.p1 half) q.p0
+abbrev pub follows_curve : Option Quad → Quad → Bool
+follows_curve None q = false
+follows_curve (Some p) q = curved p && is_close (lerp_of p.p1 q.p1 half) q.p0
 
 -- straight from a whole-unit break, or bent; and one that starts off whole units is curved and follows a curved one
-unfoldable pub valid_piece : Before → Break → Break → Point → Bool
+unfoldable pub valid_piece : Option Quad → Break → Break → Point → Bool
 valid_piece before a b c =
     ((is_whole a.xy && straight a b c) || bent a b c)
     && (is_whole a.xy || (curved (drawn a b c) && follows_curve before (drawn a b c)))
@@ -79,12 +74,12 @@ module _ (breaks : Row) where
   abbrev pub piece_quad : Piece → Quad
   piece_quad p = drawn (break_at breaks p.from) (break_at breaks p.to) p.control
 
-  unfoldable pub valid_from : Before → List Piece → Bool
+  unfoldable pub valid_from : Option Quad → List Piece → Bool
   valid_from before [] = true
-  valid_from before (p ∷ ps) = valid_piece before (break_at breaks p.from) (break_at breaks p.to) p.control && valid_from (After (piece_quad p)) ps
+  valid_from before (p ∷ ps) = valid_piece before (break_at breaks p.from) (break_at breaks p.to) p.control && valid_from (Some (piece_quad p)) ps
 
   unfoldable pub good_shape : List Piece → Bool
-  good_shape ps = joined (length breaks - 1) ps && valid_from Start ps
+  good_shape ps = joined (length breaks - 1) ps && valid_from None ps
 
 -- ---- the published sum: (previous + penalty * m) + measure, previous 0.0 at the start
 
@@ -93,43 +88,39 @@ abbrev pub one_or_two : Bool → Float
 one_or_two true = one
 one_or_two false = two
 
-abbrev pub joint_of : Before → Quad → Float
+abbrev pub joint_of : Option Quad → Quad → Float
 joint_of before q = one_or_two (is_line q || follows_curve before q)
 
-abbrev pub added : Float → Before → Quad → Summed → Measured → Summed
-added penalty before q Summed.Missing m = Summed.Missing
-added penalty before q (Summed.At s) Measured.Missing = Summed.Missing
-added penalty before q (Summed.At s) (Measured.At m) = Summed.At (add binary64 (add binary64 s (mul binary64 penalty (joint_of before q))) m.error)
+abbrev pub added : Float → Option Quad → Quad → Option Float → Option Measure → Option Float
+added penalty before q None m = None
+added penalty before q (Some s) None = None
+added penalty before q (Some s) (Some m) = Some (add binary64 (add binary64 s (mul binary64 penalty (joint_of before q))) m.error)
 
 module _ (samples : List (List Float)) (breaks : Row) (penalty : Float) where
   -- how far the control as given is from the samples between the lengths of the two breaks
-  abbrev pub measure_of_piece : Piece → Measured
+  abbrev pub measure_of_piece : Piece → Option Measure
   measure_of_piece p = measure_of samples (break_at breaks p.from).s (break_at breaks p.to).s (piece_quad breaks p)
 
   -- in chain order; a measure that is refused ends it
-  unfoldable pub sum_from : Before → Summed → List Piece → Summed
+  unfoldable pub sum_from : Option Quad → Option Float → List Piece → Option Float
   sum_from before s [] = s
-  sum_from before s (p ∷ ps) = sum_from (After (piece_quad breaks p)) (added penalty before (piece_quad breaks p) s (measure_of_piece p)) ps
+  sum_from before s (p ∷ ps) = sum_from (Some (piece_quad breaks p)) (added penalty before (piece_quad breaks p) s (measure_of_piece p)) ps
 
-  abbrev pub sum_of : List Piece → Summed
-  sum_of ps = sum_from Start (Summed.At nought) ps
+  abbrev pub sum_of : List Piece → Option Float
+  sum_of ps = sum_from None (Some nought) ps
 
   -- ---- what the checker says
 
-  abbrev pub yes_if : Bool → Checked
-  yes_if true = Checked.Yes
-  yes_if false = Checked.No
-
-  abbrev pub judged_by : Summed → Float → Checked
-  judged_by Summed.Missing score = Checked.Missing
-  judged_by (Summed.At s) score = yes_if (equals s score)
+  abbrev pub judged_by : Option Float → Float → Option Bool
+  judged_by None score = None
+  judged_by (Some s) score = Some (equals s score)
 
   -- a fault of shape is no; then a measure that is refused is 8; then yes exactly when the sum equals the score
-  abbrev pub verdict : Bool → List Piece → Float → Checked
-  verdict false ps score = Checked.No
+  abbrev pub verdict : Bool → List Piece → Float → Option Bool
+  verdict false ps score = Some false
   verdict true ps score = judged_by (sum_of ps) score
 
-  unfoldable pub checked_chain : List Piece → Float → Checked
+  unfoldable pub checked_chain : List Piece → Float → Option Bool
   checked_chain ps score = verdict (good_shape breaks ps) ps score
 
 -- ---- a chain in rows: start breaks, end breaks, controls' x and y
@@ -150,10 +141,10 @@ abbrev pub even_rows : List ℕ → List ℕ → List Float → List Float → B
 even_rows starts ends xs ys = eqb (length ends) (length starts) && (eqb (length xs) (length starts) && eqb (length ys) (length starts))
 
 -- rows of unequal length get no
-abbrev pub checked_if : Bool → Checked → Checked
-checked_if false c = Checked.No
+abbrev pub checked_if : Bool → Option Bool → Option Bool
+checked_if false c = Some false
 checked_if true c = c
 
-unfoldable pub check_rows : List (List Float) → Row → Float → List ℕ → List ℕ → List Float → List Float → Float → Checked
+unfoldable pub check_rows : List (List Float) → Row → Float → List ℕ → List ℕ → List Float → List Float → Float → Option Bool
 check_rows samples breaks penalty starts ends xs ys score =
     checked_if (even_rows starts ends xs ys) (checked_chain samples breaks penalty (chain_in starts ends xs ys) score)

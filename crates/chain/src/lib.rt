@@ -10,7 +10,7 @@ ghost use Rattle.std.specs.Prelude.{◌≡◌, ◌<◌, ◌≤◌, length};
 ghost use Rattle.chain.specs.Valid.{check_rows};
 ghost use Rattle.chain.specs.Fallen.{fallen_rows};
 
-use geometry::{Point, Quad};
+use geometry::Point;
 
 // A piece: the numbers of the breaks where it starts and ends, and its control.
 #[derive(Clone, Copy)]
@@ -20,39 +20,18 @@ pub struct Piece {
     pub control: Point,
 }
 
-// What comes before a piece: the start of the run, or a piece.
-#[derive(Clone, Copy)]
-pub enum Before {
-    Start,
-    After(Quad),
-}
-
-// A sum of scores; or a measure was refused, 8.
-#[derive(Clone, Copy)]
-pub enum Summed {
-    At(f64),
-    Missing,
-}
-
-// A sum, and the lookups that fell in its measures.
+// A sum of scores, or none where a measure was refused by 8; and the lookups that fell in its measures.
 #[derive(Clone, Copy)]
 pub struct Total {
-    pub sum: Summed,
+    pub sum: Option<f64>,
     pub fallen: usize,
 }
 
-#[derive(Clone, Copy)]
-pub enum Checked {
-    // refusal 8
-    Missing,
-    Yes,
-    No,
-}
-
-// What is said of a chain, and the lookups that fell in the measures made for it.
+// Whether a chain is accepted, or none where a measure was refused by 8; and the lookups that fell in the
+// measures made for it.
 #[derive(Clone, Copy)]
 pub struct Checking {
-    pub said: Checked,
+    pub said: Option<bool>,
     pub fallen: usize,
 }
 
@@ -72,34 +51,21 @@ pub fn check(
 {
     if !shape::are_even(starts, ends, xs, ys) {
         return Checking {
-            said: Checked::No,
+            said: Some(false),
             fallen: 0,
         };
     }
     if !shape::is_good(breaks, starts, ends, xs, ys) {
         return Checking {
-            said: Checked::No,
+            said: Some(false),
             fallen: 0,
         };
     }
     let t = sum::sum(samples, breaks, starts, ends, xs, ys, penalty);
     let fallen = t.fallen;
-    let sum = t.sum;
-    let Summed::At(s) = sum else {
-        return Checking {
-            said: Checked::Missing,
-            fallen,
-        };
+    let Some(s) = t.sum else {
+        return Checking { said: None, fallen };
     };
-    if valid::equals(s, score) {
-        Checking {
-            said: Checked::Yes,
-            fallen,
-        }
-    } else {
-        Checking {
-            said: Checked::No,
-            fallen,
-        }
-    }
+    let said = Some(valid::equals(s, score));
+    Checking { said, fallen }
 }

@@ -1,9 +1,8 @@
 // The shape of a chain: all but the score. Break numbers are tested before any break is read.
-ghost use Rattle.std.specs.Prelude.{◌≡◌, true, ◌-◌, ◌<◌, List, length, Float};
+ghost use Rattle.std.specs.Prelude.{◌≡◌, true, ◌-◌, ◌<◌, List, length, Float, None};
 ghost use Rattle.chain.specs.Valid.{piece_quad, piece_at, chain_in, even_rows, joined, leads, valid_from, good_shape};
-ghost use Rattle.chain.specs.declared.Before.TheVariants.{Start};
 
-use crate::{Before, Piece, valid};
+use crate::{Piece, valid};
 use geometry::{Point, Quad};
 
 pub fn are_even(starts: &[u32], ends: &[u32], xs: &[f64], ys: &[f64]) -> bool
@@ -49,8 +48,7 @@ fn leads(starts: &[u32], ends: &[u32], n: usize) -> bool
     ensures { (xs ys : List Float) → result ≡ leads n 0 (chain_in starts.now ends.now xs ys) }
 {
     let mut at = 0;
-    let mut i = 0;
-    while i < starts.len() {
+    for i in 0..starts.len() {
         let a = starts[i] as usize;
         let b = ends[i] as usize;
         if a != at {
@@ -63,7 +61,6 @@ fn leads(starts: &[u32], ends: &[u32], n: usize) -> bool
             return false;
         }
         at = b;
-        i += 1;
     }
     at == n
 }
@@ -85,19 +82,17 @@ fn stays(starts: &[u32], ends: &[u32]) -> bool
 fn are_valid(breaks: &[[f64; 6]], starts: &[u32], ends: &[u32], xs: &[f64], ys: &[f64]) -> bool
     requires breaks_nonzero { (0 < length breaks.now) × (even_rows starts.now ends.now xs.now ys.now ≡ true) }
     requires ys_value { joined (length breaks.now - 1) (chain_in starts.now ends.now xs.now ys.now) ≡ true }
-    ensures { result ≡ valid_from breaks.now Start (chain_in starts.now ends.now xs.now ys.now) }
+    ensures { result ≡ valid_from breaks.now None (chain_in starts.now ends.now xs.now ys.now) }
 {
-    let mut before = Before::Start;
-    let mut i = 0;
-    while i < starts.len() {
+    let mut before = None;
+    for i in 0..starts.len() {
         let p = read(starts, ends, xs, ys, i);
         let a = breaks::read(breaks, p.from);
         let b = breaks::read(breaks, p.to);
         if !valid::is_valid(before, a, b, p.control) {
             return false;
         }
-        before = Before::After(quad_of(breaks, p));
-        i += 1;
+        before = Some(quad_of(breaks, p));
     }
     true
 }

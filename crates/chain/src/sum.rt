@@ -3,12 +3,11 @@ ghost use Rattle.std.specs.Prelude.{◌≡◌, true, ◌-◌, ◌<◌, ◌≤◌
 ghost use Rattle.chain.specs.Valid.{joint_of, joined, sum_of, chain_in, even_rows};
 ghost use Rattle.chain.specs.Fallen.{fallen_of_sum};
 
-use crate::{Before, Summed, Total, shape, valid};
+use crate::{Total, shape, valid};
 use geometry::Quad;
-use measure::Counted;
 
 // 1 for a line or a smooth joint of two curves, else 2.
-fn joint(before: Before, q: Quad) -> f64
+fn joint(before: Option<Quad>, q: Quad) -> f64
     ensures { result ≡ joint_of before q }
 {
     if q.is_line() {
@@ -35,28 +34,27 @@ pub fn sum(
     ensures { (result.sum ≡ sum_of samples.now breaks.now penalty (chain_in starts.now ends.now xs.now ys.now))
         × (result.fallen ≡ fallen_of_sum samples.now breaks.now penalty (chain_in starts.now ends.now xs.now ys.now)) }
 {
-    let mut before = Before::Start;
+    let mut before = None;
     let mut s = 0.0;
     let mut fallen = 0usize;
-    let mut i = 0;
-    while i < starts.len() {
+    for i in 0..starts.len() {
         let p = shape::read(starts, ends, xs, ys, i);
         let q = shape::quad_of(breaks, p);
         let a = breaks::read(breaks, p.from);
         let b = breaks::read(breaks, p.to);
-        let Counted::At(m, n) = measure::measure_quad(samples, a.s, b.s, q) else {
+        let Some(counted) = measure::measure_quad(samples, a.s, b.s, q) else {
             return Total {
-                sum: Summed::Missing,
+                sum: None,
                 fallen: 0,
             };
         };
+        let m = counted.measure;
         s = s + penalty * joint(before, q) + m.error;
-        fallen += n;
-        before = Before::After(q);
-        i += 1;
+        fallen += counted.fallen;
+        before = Some(q);
     }
     Total {
-        sum: Summed::At(s),
+        sum: Some(s),
         fallen,
     }
 }

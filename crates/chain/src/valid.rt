@@ -2,8 +2,7 @@
 ghost use Rattle.std.specs.Prelude.{◌≡◌, ◌||◌};
 ghost use Rattle.chain.specs.Valid.{equals, equal_points, straight, bent, follows_curve, valid_piece};
 
-use crate::Before;
-use geometry::{Break, Crossing, Point, Quad};
+use geometry::{Break, Point, Quad};
 
 // Equal as f64 values, NaN equal to NaN.
 pub fn equals(a: f64, b: f64) -> bool
@@ -38,18 +37,18 @@ fn is_straight(a: Break, b: Break, c: Point) -> bool
 fn is_bent(a: Break, b: Break, c: Point) -> bool
     ensures { result ≡ bent a b c }
 {
-    let Crossing::At(p) = geometry::intersect(a.xy, a.dir, b.xy, b.dir) else {
+    let Some(p) = geometry::intersect(a.xy, a.dir, b.xy, b.dir) else {
         return false;
     };
     equal_points(c, p.round())
 }
 
-pub fn follows_curve(before: Before, q: Quad) -> bool
+pub fn follows_curve(before: Option<Quad>, q: Quad) -> bool
     ensures { result ≡ follows_curve before q }
 {
     match before {
-        Before::Start => false,
-        Before::After(p) => {
+        None => false,
+        Some(p) => {
             if p.is_line() {
                 return false;
             }
@@ -68,7 +67,7 @@ fn is_valid_whole(a: Break, b: Break, c: Point) -> bool
     is_bent(a, b, c)
 }
 
-pub fn is_valid(before: Before, a: Break, b: Break, c: Point) -> bool
+pub fn is_valid(before: Option<Quad>, a: Break, b: Break, c: Point) -> bool
     ensures { result ≡ valid_piece before a b c }
 {
     let p0 = a.xy;

@@ -1,9 +1,10 @@
 -- No control that the chain entry writes has a NaN, in a run whose last break has none: `NoNanWritten` of specs/Controls. Assumes nothing.
+use Rattle.std.specs.Prelude.{Option, Some}
 use mathlib.Core.Bool.{false}
 use mathlib.Core.List.{List, [], ◌∷◌, ◌++◌}
-use mathlib.Core.Path.{◌≡◌, sym, ◌∙◌, subst}
+use mathlib.Core.Path.{◌≡◌, sym, ap, ◌∙◌, subst}
 use Rattle.quickmeasure.specs.Statements.{has_nan}
-use Rattle.runs.specs.declared.Run.TheVariants.{Between}
+use Rattle.runs.specs.declared.Run.{Run}
 use Rattle.survey.specs.Survey.{surveyed}
 use Rattle.settings.specs.Settings.{grid_of, penalty_of}
 use Rattle.attempt.specs.Answers.{Statelet}
@@ -31,9 +32,10 @@ pieces_number (goes n h) = each_on _ (pieces_number n) h
 pub no_nan_written : NoNanWritten
 no_nan_written rooms room settings xs ys fs k first count samples breaks run survey number ps score tally e =
     let r = chain_solved rooms room settings xs ys fs k ps score tally e in
-    let same : Between r.first r.count ≡ Between first count = sym r.run ∙ run in
-    let firsts : r.first ≡ first = cc in
-    let counts : r.count ≡ count = cc in
+    let same : ◌≡◌ {A = Option Run} (Some (record { first = r.first; count = r.count })) (Some (record { first = first; count = count })) = sym r.run ∙ run in
+    let ran : ◌≡◌ {A = Run} (record { first = r.first; count = r.count }) (record { first = first; count = count }) = cc in
+    let firsts : r.first ≡ first = ap (λ (x : Run). x.first) ran in
+    let counts : r.count ≡ count = ap (λ (x : Run). x.count) ran in
     let o = work_solved rooms (grid_of settings) (penalty_of settings) xs ys fs r.first r.count r.answer r.counted r.work in
     let there : surveyed o.samples o.breaks ≡ surveyed samples breaks = sym o.survey ∙ rw (firsts, counts) survey in
     let rows : o.breaks ≡ breaks = cc in

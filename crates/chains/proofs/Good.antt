@@ -1,8 +1,8 @@
 -- The score that the chain entry reports is the optimiser's. Assumes nothing.
+use Rattle.std.specs.Prelude.{Ok}
 use Prim.Native.Nat.{ℕ}
-use native.Mathlib.Omega.{arith}
 use mathlib.Core.List.{List}
-use mathlib.Core.Path.{◌≡◌, refl, ap, subst}
+use mathlib.Core.Path.{◌≡◌, refl, subst}
 use lib.Ieee.{Float}
 use lib.IntN.{ℤ}
 use Rattle.settings.specs.Settings.{grid_of, penalty_of}
@@ -18,7 +18,6 @@ use Rattle.rows.specs.Rows.{Work}
 use Rattle.chains.specs.Chains.{Outcome, refused, unchanged, chained}
 use Rattle.chains.specs.Entry.{Rows, room_in, answer_of, whole_of}
 use Rattle.chains.specs.Good.{Good, ChainGood, ReportsGood}
-use Rattle.chains.specs.declared.Chained as C
 use Rattle.chains.specs.declared.Chained.TheVariants as Chained
 use Rattle.chains.proofs.Solved.{chain_solved}
 
@@ -42,15 +41,10 @@ chain_good rooms room settings xs ys fs k ps score tally e =
 
 -- ---- the answer of the entry
 
-abbrev is_pieces : C.Chained → ℕ
-is_pieces (Chained.Refused k) = 0
-is_pieces (Chained.Unchanged t) = 0
-is_pieces (Chained.Pieces n s t) = 1
-
 module _ (xs ys : List ℤ) (fs : List ℕ) (settings : Settings) (k : ℕ) (c : Rows) (w : Work) (n : ℕ) (score : Float) (tally : Tally) where
-  answer_good : (o : Outcome) → whole_of (inputs xs ys fs) settings k c w ≡ o → answer_of o ≡ Chained.Pieces n score tally → Good (rooms_of w) settings xs ys fs k score
-  answer_good (refused m) e h = absurd (omega (arith, ap is_pieces h))
-  answer_good (unchanged t) e h = absurd (omega (arith, ap is_pieces h))
+  answer_good : (o : Outcome) → whole_of (inputs xs ys fs) settings k c w ≡ o → answer_of o ≡ Ok (Chained.Pieces n score tally) → Good (rooms_of w) settings xs ys fs k score
+  answer_good (refused m) e h = absurd cc
+  answer_good (unchanged t) e h = absurd cc
   answer_good (chained ps s t) e h =
       let same : s ≡ score = cc in
       subst (Good (rooms_of w) settings xs ys fs k) same (chain_good (rooms_of w) (room_in c) settings xs ys fs k ps s t e)

@@ -1,5 +1,6 @@
 -- The statement of specs/Own: the chain entry's breaks are those of the run's survey, each with the segment that holds its own length. No proof of a function
 -- uses it. Assumes nothing.
+use Rattle.std.specs.Prelude.{Some}
 use mathlib.Core.List.{List}
 use mathlib.Core.Path.{◌≡◌, refl, ap, ◌∙◌}
 use Prim.Native.Nat.{ℕ}
@@ -7,7 +8,6 @@ use lib.IntN.{ℤ}
 use lib.ListN.{length}
 use Rattle.breaks.specs.Breaks.{Row, break_at}
 use Rattle.runs.specs.Runs.{numbered_run}
-use Rattle.runs.specs.declared.Run.TheVariants.{Between}
 use Rattle.runs.proofs.Few.{run_few}
 use Rattle.edition.specs.Edition.{Rooms}
 use Rattle.samples.specs.Samples.{Sample}
@@ -21,7 +21,7 @@ use Rattle.chains.specs.Own.{BreaksCarrySegments}
 
 -- the run's breaks, each with its segment
 carried_are : (rooms : Rooms) (settings : Settings) (xs ys : List ℤ) (fs : List ℕ) (k first count : ℕ) (samples : List Sample) (breaks : Row) →
-    numbered_run settings.closed xs ys fs k ≡ Between first count →
+    numbered_run settings.closed xs ys fs k ≡ Some (record { first = first; count = count }) →
     survey_of rooms.samples rooms.breaks xs ys fs first count (grid_of settings) ≡ surveyed samples breaks →
     breaks_at rooms settings xs ys fs k ≡ carried xs ys fs first count breaks
 carried_are rooms settings xs ys fs k first count samples breaks run survey =

@@ -1,4 +1,6 @@
 -- The points of a contour that comes out are those of its runs' chains: `PointsAreChains` of specs/Points. Assumes nothing.
+use Rattle.std.specs.Prelude.{Some, Result, Ok, Err}
+use Rattle.refusals.specs.declared.refusal.Refusal.{Refusal}
 use Prim.Native.Nat.{ℕ, zero, suc, ◌+◌, ◌<◌}
 use native.Mathlib.Omega.{arith}
 use mathlib.Core.Bool.{Bool, true, false}
@@ -8,17 +10,16 @@ use borrow.Author.Tests.{le-ltb}
 use lib.Dec.{ltb}
 use lib.IntN.{ℤ}
 use lib.ListN.{length, get_or}
-use Rattle.refusals.specs.declared.Judged.{Judged}
 use Rattle.outline.specs.Segments.{start_of, seg_at}
-use Rattle.runs.specs.Runs.{Span, between, stops_of, runs_of, run_at, is_copied, unless_copied, numbered_run}
-use Rattle.runs.specs.declared.Run.TheVariants.{Between}
+use Rattle.runs.specs.Runs.{between, stops_of, runs_of, run_at, is_copied, unless_copied, numbered_run}
+use Rattle.runs.specs.declared.Run.{Run}
 use Rattle.settings.specs.Settings.{grid_of, penalty_of, judged_for}
 use Rattle.settings.specs.declared.Settings.{Settings}
 use Rattle.attempt.specs.Answers.{Statelet, score_of}
 use Rattle.optimize.specs.Optimize.{measure_by}
 use Rattle.optimize.specs.Tally.{untried, plus}
 use Rattle.optimize.specs.declared.Tally.{Tally}
-use Rattle.edition.specs.Edition.{Result, Rooms}
+use Rattle.edition.specs.Edition.{RunOutcome, Rooms}
 use Rattle.edition.specs.Edition as Edition
 use Rattle.edition.specs.Laws.{work_solved}
 use Rattle.contour.specs.Points.{Points, points_of, pieces_points, point_as, start_point}
@@ -34,26 +35,26 @@ use Rattle.chains.specs.Chains as Chains
 use Rattle.chains.specs.Chains.{of_run, chain_out, chain_of}
 use Rattle.chains.specs.Points.{all_of, Adds, by_chain, by_copy, joined_in, Left, by_run, no_corner, ComesOut, of_runs, left, PointsAreChains}
 
-module _ (rooms : Rooms) (settings : Settings) (xs ys : List ℤ) (fs : List ℕ) (fine : judged_for settings xs ys fs ≡ Judged.Fine) where
-  abbrev runs : List Span
+module _ (rooms : Rooms) (settings : Settings) (xs ys : List ℤ) (fs : List ℕ) (fine : judged_for settings xs ys fs ≡ Ok tt) where
+  abbrev runs : List Run
   runs = runs_of settings.closed xs ys fs
 
   -- ---- the chain entry on run k
 
   chain_is : (room k : ℕ) → chain_of rooms room settings xs ys fs k ≡ of_run rooms room settings xs ys fs (numbered_run settings.closed xs ys fs k)
   unfolding chain_of
-  chain_is room k = ap (λ (j : Judged). Chains.after_judging j (of_run rooms room settings xs ys fs (numbered_run settings.closed xs ys fs k))) fine
+  chain_is room k = ap (λ (j : Result Unit Refusal). Chains.after_judging j (of_run rooms room settings xs ys fs (numbered_run settings.closed xs ys fs k))) fine
 
-  module _ (k : ℕ) (r : Span) (at : run_at runs k ≡ Between r.first r.count) where
-    numbered : (b : Bool) → is_copied xs ys fs (Between r.first r.count) ≡ b → numbered_run settings.closed xs ys fs k ≡ unless_copied b (Between r.first r.count)
+  module _ (k : ℕ) (r : Run) (at : run_at runs k ≡ Some (record { first = r.first; count = r.count })) where
+    numbered : (b : Bool) → is_copied xs ys fs (Some r) ≡ b → numbered_run settings.closed xs ys fs k ≡ unless_copied b (Some r)
     unfolding numbered_run
     numbered b e = rw (at, e) refl
 
-    worked_is : (room : ℕ) → is_copied xs ys fs (Between r.first r.count) ≡ false → (x : Result) → result_of rooms settings xs ys fs r ≡ x →
+    worked_is : (room : ℕ) → is_copied xs ys fs (Some r) ≡ false → (x : RunOutcome) → result_of rooms settings xs ys fs r ≡ x →
         chain_of rooms room settings xs ys fs k ≡ chain_out room x
     worked_is room e x is = chain_is room k ∙ ap (of_run rooms room settings xs ys fs) (numbered false e) ∙ ap (chain_out room) is
 
-    copy_adds : is_copied xs ys fs (Between r.first r.count) ≡ true → Adds rooms settings xs ys fs k (points_of (seg_at xs ys fs r.first))
+    copy_adds : is_copied xs ys fs (Some r) ≡ true → Adds rooms settings xs ys fs k (points_of (seg_at xs ys fs r.first))
     copy_adds e = by_copy (record {
       first = r.first;
       count = r.count;
@@ -63,7 +64,7 @@ module _ (rooms : Rooms) (settings : Settings) (xs ys : List ℤ) (fs : List ℕ
       points = refl;
     })
 
-    chain_adds : is_copied xs ys fs (Between r.first r.count) ≡ false → (a : Statelet) (t : Tally) → result_of rooms settings xs ys fs r ≡ Edition.solved a t →
+    chain_adds : is_copied xs ys fs (Some r) ≡ false → (a : Statelet) (t : Tally) → result_of rooms settings xs ys fs r ≡ Edition.solved a t →
         Adds rooms settings xs ys fs k (pieces_points (quads_of a))
     chain_adds e a t is =
         let o = work_solved rooms (grid_of settings) (penalty_of settings) xs ys fs r.first r.count a t is in
@@ -84,13 +85,13 @@ module _ (rooms : Rooms) (settings : Settings) (xs ys : List ℤ) (fs : List ℕ
 
   -- ---- the runs from run o on, after the points so far
 
-  data Walked (o : ℕ) (rs : List Span) (ps : Points) : State → Type 0 where
-    refuses : {n : ℕ} → Walked o rs ps (State.refused n)
+  data Walked (o : ℕ) (rs : List Run) (ps : Points) : State → Type 0 where
+    refuses : {n : Refusal} → Walked o rs ps (State.refused n)
     ends : {t : Tally} → Left rooms settings xs ys fs → Walked o rs ps (State.ended (itself rooms settings xs ys fs) t)
     goes : {t : Tally} (parts : List Points) → length parts ≡ length rs → ((k : ℕ) → k < length parts → Adds rooms settings xs ys fs (o + k) (get_or parts k [])) →
         Walked o rs ps (State.going (ps ++ all_of parts) t)
 
-  more : (o : ℕ) (r : Span) (rs : List Span) (ps part : Points) {s : State} → Adds rooms settings xs ys fs o part → Walked (o + 1) rs (ps ++ part) s → Walked o (r ∷ rs) ps s
+  more : (o : ℕ) (r : Run) (rs : List Run) (ps part : Points) {s : State} → Adds rooms settings xs ys fs o part → Walked (o + 1) rs (ps ++ part) s → Walked o (r ∷ rs) ps s
   unfolding all_of
   more o r rs ps part a refuses = refuses
   more o r rs ps part a (ends l) = ends l
@@ -102,25 +103,25 @@ module _ (rooms : Rooms) (settings : Settings) (xs ys : List ℤ) (fs : List ℕ
       here (suc k) h = let z : o + suc k ≡ o + 1 + k = omega arith in rw z (each k (omega arith))
 
   -- one run more, and whatever follows it
-  module _ (o : ℕ) (r : Span) (rs : List Span) (here : run_at runs o ≡ Between r.first r.count) (ps : Points) (t : Tally)
+  module _ (o : ℕ) (r : Run) (rs : List Run) (here : run_at runs o ≡ Some (record { first = r.first; count = r.count })) (ps : Points) (t : Tally)
       (again : (qs : Points) (u : Tally) → Walked (o + 1) rs qs (crunch_all rooms settings xs ys fs rs (State.going qs u))) where
-    worked : is_copied xs ys fs (Between r.first r.count) ≡ false → (x : Result) → result_of rooms settings xs ys fs r ≡ x →
+    worked : is_copied xs ys fs (Some r) ≡ false → (x : RunOutcome) → result_of rooms settings xs ys fs r ≡ x →
         Walked o (r ∷ rs) ps (crunch_all rooms settings xs ys fs rs (added (itself rooms settings xs ys fs) x ps t))
     worked e (Edition.refused n) is = rw (stays_refused rooms settings xs ys fs rs n) refuses
     worked e (Edition.unchanged u) is =
         rw (stays_ended rooms settings xs ys fs rs (itself rooms settings xs ys fs) (plus t u)) (ends (by_run o u (λ room. worked_is o r here room e (Edition.unchanged u) is)))
     worked e (Edition.solved a u) is = more o r rs ps (pieces_points (quads_of a)) (chain_adds o r here e a u is) (again (ps ++ pieces_points (quads_of a)) (plus t u))
 
-    by : (b : Bool) → is_copied xs ys fs (Between r.first r.count) ≡ b → Walked o (r ∷ rs) ps (crunch_all rooms settings xs ys fs rs (run_if rooms settings xs ys fs b r ps t))
+    by : (b : Bool) → is_copied xs ys fs (Some r) ≡ b → Walked o (r ∷ rs) ps (crunch_all rooms settings xs ys fs rs (run_if rooms settings xs ys fs b r ps t))
     by true e = more o r rs ps (points_of (seg_at xs ys fs r.first)) (copy_adds o r here e) (again (ps ++ points_of (seg_at xs ys fs r.first)) t)
     by false e = worked e (result_of rooms settings xs ys fs r) refl
 
-  walks : (rs : List Span) (o : ℕ) → ((k : ℕ) → run_at rs k ≡ run_at runs (o + k)) → (ps : Points) (t : Tally) → Walked o rs ps (crunch_all rooms settings xs ys fs rs (State.going ps t))
+  walks : (rs : List Run) (o : ℕ) → ((k : ℕ) → run_at rs k ≡ run_at runs (o + k)) → (ps : Points) (t : Tally) → Walked o rs ps (crunch_all rooms settings xs ys fs rs (State.going ps t))
   unfolding crunch_all after_run run_at all_of
   walks [] o at ps t = subst (λ (q : Points). Walked o [] ps (State.going q t)) (append-nil ps) (goes {t = t} [] refl (λ k h. absurd (omega arith)))
   walks (r ∷ rs) o at ps t =
       let z : o + 0 ≡ o = omega arith in
-      by o r rs (sym (at 0 ∙ ap (run_at runs) z)) ps t (λ qs u. walks rs (o + 1) (λ k. at (suc k) ∙ ap (run_at runs) (shifted o k)) qs u) (is_copied xs ys fs (Between r.first r.count)) refl
+      by o r rs (sym (at 0 ∙ ap (run_at runs) z)) ps t (λ qs u. walks rs (o + 1) (λ k. at (suc k) ∙ ap (run_at runs) (shifted o k)) qs u) (is_copied xs ys fs (Some r)) refl
     where
       shifted : (o k : ℕ) → o + suc k ≡ o + 1 + k
       shifted o k = omega arith
@@ -128,7 +129,7 @@ module _ (rooms : Rooms) (settings : Settings) (xs ys : List ℤ) (fs : List ℕ
   -- ---- the end
 
   crunched_is : (closed b : Bool) (ps out : Points) (t u : Tally) → over_if closed b ps t ≡ crunched out u → out ≡ finished closed ps
-  crunched_is closed true ps out t u e = let z : ◌≡◌ {A = ℕ} 0 1 = cc in absurd (omega arith)
+  crunched_is closed true ps out t u e = absurd cc
   crunched_is closed false ps out t u e = cc
 
   module _ (room : ℕ) (out : Points) (t : Tally) where
@@ -140,13 +141,13 @@ module _ (rooms : Rooms) (settings : Settings) (xs ys : List ℤ) (fs : List ℕ
 
     -- what the points so far are put into
     ends_so : (c : Bool) → settings.closed ≡ c → (wrap : State → State) (start : Points) {s : State} → Walked 0 runs start s →
-        ((n : ℕ) → wrap (State.refused n) ≡ State.refused n) →
+        ((n : Refusal) → wrap (State.refused n) ≡ State.refused n) →
         ((ps : Points) (u : Tally) → wrap (State.ended ps u) ≡ State.ended ps u) →
         ((ps : Points) (u : Tally) → wrap (State.going (start ++ ps) u) ≡ State.going (joined_in rooms settings xs ys fs c ps) u) →
         outcome_of settings.closed room (wrap s) ≡ crunched out t → Comes
     ends_so c is wrap start (refuses {n}) refusing ending going e =
         let f : outcome_of settings.closed room (State.refused n) ≡ crunched out t = subst (λ (x : State). outcome_of settings.closed room x ≡ crunched out t) (refusing n) e in
-        let z : ◌≡◌ {A = ℕ} 0 1 = cc in absurd (omega arith)
+        absurd cc
     ends_so c is wrap start (ends {t = u} l) refusing ending going e =
         left l (out_is (itself rooms settings xs ys fs) u
         (subst (λ (x : State). outcome_of settings.closed room x ≡ crunched out t) (ending (itself rooms settings xs ys fs) u) e))
@@ -186,10 +187,10 @@ module _ (rooms : Rooms) (settings : Settings) (xs ys : List ℤ) (fs : List ℕ
     unfolding crunch_runs
     comes e = modes settings.closed refl e
 
-judged_comes : (rooms : Rooms) (room : ℕ) (settings : Settings) (xs ys : List ℤ) (fs : List ℕ) (out : Points) (t : Tally) (j : Judged) → judged_for settings xs ys fs ≡ j →
+judged_comes : (rooms : Rooms) (room : ℕ) (settings : Settings) (xs ys : List ℤ) (fs : List ℕ) (out : Points) (t : Tally) (j : Result Unit Refusal) → judged_for settings xs ys fs ≡ j →
     after_judging j (outcome_of settings.closed room (crunch_runs rooms settings xs ys fs)) ≡ crunched out t → ComesOut rooms settings xs ys fs out
-judged_comes rooms room settings xs ys fs out t (Judged.Refused n) is e = let z : ◌≡◌ {A = ℕ} 0 1 = cc in absurd (omega arith)
-judged_comes rooms room settings xs ys fs out t Judged.Fine is e = comes rooms settings xs ys fs is room out t e
+judged_comes rooms room settings xs ys fs out t (Err n) is e = absurd cc
+judged_comes rooms room settings xs ys fs out t (Ok _) is e = comes rooms settings xs ys fs is room out t e
 
 pub points_are_chains : PointsAreChains
 unfolding crunch_of

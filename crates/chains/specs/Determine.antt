@@ -1,9 +1,10 @@
 -- The promise of `chain_of_run` determines the answer and every lent row. Of the scratch rows only the lengths count, of the chain's rows only the
 -- shortest's: equal orders get equal answers and write equal places. Assumes nothing.
-use Rattle.std.specs.Prelude.{ℕ, List, map, ◌≡◌, refl, Float, length, take}
+use Rattle.std.specs.Prelude.{ℕ, List, map, ◌≡◌, refl, Float, length, take, Result}
 use Rattle.std.proofs.Common.{sym, ap, subst, ◌∙◌}
 use Rattle.std.proofs.lemmas.List.{length-map}
 use Rattle.std.proofs.Math.Seq.{take-append_seam}
+use Rattle.refusals.specs.declared.refusal.Refusal.{Refusal}
 use Rattle.chain.specs.declared.Piece.{Piece}
 use Rattle.contour.specs.Output.{front}
 use Rattle.rows.specs.Rows.{Work}
@@ -23,20 +24,20 @@ use Rattle.chains.specs.declared.Chained as C
 
 -- ---- an answer has document 01's values of what became of the run
 
-pub values_are : (o : Outcome) {r : C.Chained} → r ≡ answer_of o → report r ≡ values_of o
+pub values_are : (o : Outcome) {r : Result C.Chained Refusal} → r ≡ answer_of o → report r ≡ values_of o
 values_are (refused k) e = ap report e
 values_are (unchanged t) e = ap report e
 values_are (Chains.chained ps s t) e = ap report e
 
 -- ---- one order
 
-pub record Same (r r' : C.Chained) (c c' : Rows) (w w' : Work) : Type 0 where
+pub record Same (r r' : Result C.Chained Refusal) (c c' : Rows) (w w' : Work) : Type 0 where
   pub answer : r ≡ r'
   pub rows : c ≡ c'
   pub work : w ≡ w'
 
 -- two outcomes of one order are one, in the chain's rows also beyond the pieces
-pub determined : {i : Inputs} {settings : Settings} {k : ℕ} {c c' : LentChain} {w w' : Scratch} {r r' : C.Chained} → c.entry ≡ c'.entry →
+pub determined : {i : Inputs} {settings : Settings} {k : ℕ} {c c' : LentChain} {w w' : Scratch} {r r' : Result C.Chained Refusal} → c.entry ≡ c'.entry →
     w.entry ≡ w'.entry →
     Promise i settings k c w r → Promise i settings k c' w' r' → Same r r' c.exit c'.exit w.exit w'.exit
 determined {i} {settings} {k} {c} {c'} {w} {w'} e f p q =
@@ -85,13 +86,13 @@ same_places (refused k) breaks (rows (chain st en cx cy) sp) (rows (chain st' en
 same_places (unchanged t) breaks (rows (chain st en cx cy) sp) (rows (chain st' en' cx' cy') sp') = refl
 same_places (Chains.chained ps s t) breaks c c' = chained_places ps s t breaks c ∙ sym (chained_places ps s t breaks c')
 
-pub record Equal (r r' : C.Chained) (c c' : Rows) (w w' : Work) : Type 0 where
+pub record Equal (r r' : Result C.Chained Refusal) (c c' : Rows) (w w' : Work) : Type 0 where
   pub answer : r ≡ r'
   pub places : places_of (report r).pieces c ≡ places_of (report r).pieces c'
   pub work : w ≡ w'
 
 -- two orders of one contour and run, in rows of equal lengths: the answers, the pieces written and the scratch rows are equal
-pub equal_orders : {i : Inputs} {settings : Settings} {k : ℕ} {c c' : LentChain} {w w' : Scratch} {r r' : C.Chained} →
+pub equal_orders : {i : Inputs} {settings : Settings} {k : ℕ} {c c' : LentChain} {w w' : Scratch} {r r' : Result C.Chained Refusal} →
     room_in c.entry ≡ room_in c'.entry → rooms_of w.entry ≡ rooms_of w'.entry →
     Promise i settings k c w r → Promise i settings k c' w' r' → Equal r r' c.exit c'.exit w.exit w'.exit
 equal_orders {i} {settings} {k} {c} {c'} {w} {w'} room rooms p q =

@@ -1,7 +1,9 @@
 -- What the chain entry hands back and leaves in every lent row. Definitions only.
-use Rattle.std.specs.Prelude.{ℕ, min, List, map, ◌≡◌, Float, length}
+use Rattle.std.specs.Prelude.{ℕ, min, List, map, ◌≡◌, Float, length, Result, Ok, Err}
 use denote.Triple.Both.{Both}
 use Rattle.float.specs.Numbers.{nought}
+use Rattle.refusals.specs.declared.refusal.Refusal.{Refusal}
+use Rattle.refusals.specs.Number.{number_of}
 use Rattle.rows.specs.Rows.{Work}
 use Rattle.rows.specs.Lent.{Lent, before, after, Inputs, inputs}
 use Rattle.settings.specs.declared.Settings.{Settings}
@@ -24,21 +26,21 @@ pub record Report : Type 0 where
   pub pairs : ℕ
   pub fallen : ℕ
 
-abbrev pub report : C.Chained → Report
-report (Chained.Refused k) = record { number = k; pieces = 0; score = nought; pairs = 0; fallen = 0 }
-report (Chained.Unchanged t) = record { number = 0; pieces = 0; score = nought; pairs = t.pairs; fallen = t.fallen }
-report (Chained.Pieces n s t) = record { number = 0; pieces = n; score = s; pairs = t.pairs; fallen = t.fallen }
+abbrev pub report : Result C.Chained Refusal → Report
+report (Err k) = record { number = number_of k; pieces = 0; score = nought; pairs = 0; fallen = 0 }
+report (Ok (Chained.Unchanged t)) = record { number = 0; pieces = 0; score = nought; pairs = t.pairs; fallen = t.fallen }
+report (Ok (Chained.Pieces n s t)) = record { number = 0; pieces = n; score = s; pairs = t.pairs; fallen = t.fallen }
 
 -- the same values, of what becomes of a run
 abbrev pub values_of : Outcome → Report
-values_of (refused k) = record { number = k; pieces = 0; score = nought; pairs = 0; fallen = 0 }
+values_of (refused k) = record { number = number_of k; pieces = 0; score = nought; pairs = 0; fallen = 0 }
 values_of (unchanged t) = record { number = 0; pieces = 0; score = nought; pairs = t.pairs; fallen = t.fallen }
 values_of (Chains.chained ps s t) = record { number = 0; pieces = length ps; score = s; pairs = t.pairs; fallen = t.fallen }
 
-abbrev pub answer_of : Outcome → C.Chained
-answer_of (refused k) = Chained.Refused k
-answer_of (unchanged t) = Chained.Unchanged t
-answer_of (Chains.chained ps s t) = Chained.Pieces (length ps) s t
+abbrev pub answer_of : Outcome → Result C.Chained Refusal
+answer_of (refused k) = Err k
+answer_of (unchanged t) = Ok (Chained.Unchanged t)
+answer_of (Chains.chained ps s t) = Ok (Chained.Pieces (length ps) s t)
 
 -- ---- the rows
 
@@ -76,7 +78,7 @@ breaks_in (inputs xs ys fs) settings k w = breaks_at (rooms_of w) settings xs ys
 
 -- the entry's contract: what it hands back, by its case and by document 01's values, what it leaves in the chain's rows, and that the scratch rows are zero
 -- throughout, whatever they held
-pub record Promise (i : Inputs) (settings : Settings) (k : ℕ) (c : LentChain) (w : Scratch) (r : C.Chained) : Type 0 where
+pub record Promise (i : Inputs) (settings : Settings) (k : ℕ) (c : LentChain) (w : Scratch) (r : Result C.Chained Refusal) : Type 0 where
   pub answer : r ≡ answer_of (whole_of i settings k c.entry w.entry)
   pub values : report r ≡ values_of (whole_of i settings k c.entry w.entry)
   pub rows : c.exit ≡ rows_of (whole_of i settings k c.entry w.entry) (breaks_in i settings k w.entry) c.entry

@@ -1,13 +1,12 @@
 -- How good the chain of a run is: the score that the chain entry reports is the optimiser's, and so the least of the scores of attempts into the run's last
 -- break, if the first of them is no NaN. The theorems, `chain_good` and `reports_good`, stand in proofs/Good.antt. Definitions only.
-use Rattle.std.specs.Prelude.{ℕ, false, List, ◌≡◌, Float, ℤ, get_or}
+use Rattle.std.specs.Prelude.{ℕ, false, List, ◌≡◌, Float, ℤ, get_or, Some, Ok}
 use Rattle.std.specs.Float.{nan}
 use Rattle.std.specs.Float.Ieee.{is_nan}
 use Rattle.breaks.specs.Breaks.{Row}
 use Rattle.settings.specs.Settings.{grid_of, penalty_of}
 use Rattle.settings.specs.declared.Settings.{Settings}
 use Rattle.chain.specs.declared.Piece.{Piece}
-use Rattle.runs.specs.declared.Run.TheVariants.{Between}
 use Rattle.edition.specs.Edition.{Rooms}
 use Rattle.edition.specs.Scratch.{rooms_of}
 use Rattle.runs.specs.Runs.{numbered_run}
@@ -26,7 +25,7 @@ use Rattle.chains.specs.declared.Chained.TheVariants as Chained
 pub record Good (rooms : Rooms) (settings : Settings) (xs ys : List ℤ) (fs : List ℕ) (k : ℕ) (score : Float) : Type 0 where
   pub first : ℕ
   pub count : ℕ
-  pub run : numbered_run settings.closed xs ys fs k ≡ Between first count
+  pub run : numbered_run settings.closed xs ys fs k ≡ Some (record { first = first; count = count })
   pub samples : List Sample
   pub breaks : Row
   pub survey : survey_of rooms.samples rooms.breaks xs ys fs first count (grid_of settings) ≡ surveyed samples breaks
@@ -42,4 +41,4 @@ ChainGood =
 abbrev pub ReportsGood : Type 0
 ReportsGood =
     (xs ys : List ℤ) (fs : List ℕ) (settings : Settings) (k : ℕ) (c : Rows) (w : Work) (n : ℕ) (score : Float) (tally : Tally) →
-    answer_of (whole_of (inputs xs ys fs) settings k c w) ≡ Chained.Pieces n score tally → Good (rooms_of w) settings xs ys fs k score
+    answer_of (whole_of (inputs xs ys fs) settings k c w) ≡ Ok (Chained.Pieces n score tally) → Good (rooms_of w) settings xs ys fs k score

@@ -1,9 +1,8 @@
 -- What the chain entry's breaks carry, as a type; the theorem `breaks_carry` of proofs/Own is of it. Statements only.
-use Rattle.std.specs.Prelude.{ℕ, ◌≤◌, ◌<◌, List, ◌≡◌, ℤ, length}
+use Rattle.std.specs.Prelude.{ℕ, ◌≤◌, ◌<◌, List, ◌≡◌, ℤ, length, Some}
 use Rattle.breaks.specs.Breaks.{Row, break_at}
 use Rattle.outline.specs.Segments.{count_of}
 use Rattle.runs.specs.Runs.{numbered_run}
-use Rattle.runs.specs.declared.Run.TheVariants.{Between}
 use Rattle.edition.specs.Edition.{Rooms}
 use Rattle.samples.specs.Samples.{Sample}
 use Rattle.segments.specs.Segments.{ends_of, segment_of, segment_at}
@@ -24,6 +23,6 @@ pub record Carries (rooms : Rooms) (settings : Settings) (xs ys : List ℤ) (fs 
 abbrev pub BreaksCarrySegments : Type 0
 BreaksCarrySegments =
     (rooms : Rooms) (settings : Settings) (xs ys : List ℤ) (fs : List ℕ) (k first count : ℕ) (samples : List Sample) (breaks : Row) →
-    numbered_run settings.closed xs ys fs k ≡ Between first count →
+    numbered_run settings.closed xs ys fs k ≡ Some (record { first = first; count = count }) →
     survey_of rooms.samples rooms.breaks xs ys fs first count (grid_of settings) ≡ surveyed samples breaks →
     Carries rooms settings xs ys fs k first count breaks

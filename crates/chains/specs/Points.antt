@@ -1,11 +1,11 @@
 -- The points of a contour that comes out are those of its runs' chains: each worked run adds the points of the chain that the chain entry gives for it with the
 -- same settings, in both modes, and a copied run its end; and the checker accepts that chain. So it accepts what was filed. The theorem `points_are_chains`
 -- of proofs/Points is of the statement here. Definitions and statements.
-use Rattle.std.specs.Prelude.{ℕ, ◌≤◌, ◌<◌, Bool, true, false, List, [], ◌∷◌, ◌++◌, map, ◌≡◌, Float, ℤ, length, get_or}
+use Rattle.std.specs.Prelude.{ℕ, ◌≤◌, ◌<◌, Bool, true, false, List, [], ◌∷◌, ◌++◌, map, ◌≡◌, Float, ℤ, length, get_or, Some}
+use Rattle.refusals.specs.declared.refusal.Refusal.TheVariants.{NoSuchRun}
 use Rattle.breaks.specs.Breaks.{Row}
 use Rattle.outline.specs.Segments.{start_of, seg_at}
 use Rattle.runs.specs.Runs.{stops_of, runs_of, run_at, is_copied, numbered_run}
-use Rattle.runs.specs.declared.Run.TheVariants.{Between}
 use Rattle.samples.specs.Samples.{Sample}
 use Rattle.survey.specs.Survey.{surveyed, survey_of}
 use Rattle.settings.specs.Settings.{grid_of, penalty_of}
@@ -13,7 +13,6 @@ use Rattle.settings.specs.declared.Settings.{Settings}
 use Rattle.optimize.specs.declared.Tally.{Tally}
 use Rattle.edition.specs.Edition.{Rooms}
 use Rattle.chain.specs.Valid.{piece_quad, checked_chain}
-use Rattle.chain.specs.declared.Checked.TheVariants as Checked
 use Rattle.chain.specs.declared.Piece.{Piece}
 use Rattle.contour.specs.Points.{Points, points_of, pieces_points, point_as, start_point, unchanged_in, around}
 use Rattle.contour.specs.Implied.{finished}
@@ -36,7 +35,7 @@ module _ (rooms : Rooms) (settings : Settings) (xs ys : List ℤ) (fs : List ℕ
   pub record ByChain (k : ℕ) (added : Points) : Type 0 where
     pub first : ℕ
     pub count : ℕ
-    pub run : numbered_run settings.closed xs ys fs k ≡ Between first count
+    pub run : numbered_run settings.closed xs ys fs k ≡ Some (record { first = first; count = count })
     pub samples : List Sample
     pub breaks : Row
     pub survey : survey_of rooms.samples rooms.breaks xs ys fs first count (grid_of settings) ≡ surveyed samples breaks
@@ -44,16 +43,16 @@ module _ (rooms : Rooms) (settings : Settings) (xs ys : List ℤ) (fs : List ℕ
     pub score : Float
     pub tally : Tally
     pub chain : (room : ℕ) → length pieces ≤ room → chain_of rooms room settings xs ys fs k ≡ chained pieces score tally
-    pub accepted : checked_chain samples breaks (penalty_of settings) pieces score ≡ Checked.Yes
+    pub accepted : checked_chain samples breaks (penalty_of settings) pieces score ≡ Some true
     pub points : added ≡ chain_points breaks pieces
 
   -- the end of a line, for which the chain entry gives 10
   pub record ByCopy (k : ℕ) (added : Points) : Type 0 where
     pub first : ℕ
     pub count : ℕ
-    pub run : run_at (runs_of settings.closed xs ys fs) k ≡ Between first count
-    pub copied : is_copied xs ys fs (Between first count) ≡ true
-    pub no_chain : (room : ℕ) → chain_of rooms room settings xs ys fs k ≡ refused 10
+    pub run : run_at (runs_of settings.closed xs ys fs) k ≡ Some (record { first = first; count = count })
+    pub copied : is_copied xs ys fs (Some (record { first = first; count = count })) ≡ true
+    pub no_chain : (room : ℕ) → chain_of rooms room settings xs ys fs k ≡ refused NoSuchRun
     pub points : added ≡ points_of (seg_at xs ys fs first)
 
   pub data Adds (k : ℕ) (added : Points) : Type 0 where

@@ -1,12 +1,11 @@
 -- Which segments the pieces of a chain replace, document 02's W8, as types; the theorems `breaks_in_run` and `spans_rise` of proofs/Replaced are of them.
 -- That the last break carries the run's last segment is not among them: docs/DECISIONS.md has a run where it does not. Statements only.
-use Rattle.std.specs.Prelude.{ℕ, ◌+◌, ◌-◌, ◌≤◌, ◌<◌, true, List, [], ◌∷◌, ◌≡◌, ℤ, length}
+use Rattle.std.specs.Prelude.{ℕ, ◌+◌, ◌-◌, ◌≤◌, ◌<◌, true, List, [], ◌∷◌, ◌≡◌, ℤ, length, Some}
 use Rattle.breaks.specs.Breaks.{Row, break_at}
 use Rattle.chain.specs.Valid.{joined}
 use Rattle.chain.specs.declared.Piece.{Piece}
 use Rattle.outline.specs.Segments.{count_of}
 use Rattle.runs.specs.Runs.{numbered_run}
-use Rattle.runs.specs.declared.Run.TheVariants.{Between}
 use Rattle.edition.specs.Edition.{Rooms}
 use Rattle.samples.specs.Samples.{Sample}
 use Rattle.segments.specs.Segments.{ends_of, place_in, number_of, segment_at}
@@ -36,7 +35,7 @@ pub record InRun (rooms : Rooms) (settings : Settings) (xs ys : List ℤ) (fs : 
 abbrev pub BreaksInRun : Type 0
 BreaksInRun =
     (rooms : Rooms) (settings : Settings) (xs ys : List ℤ) (fs : List ℕ) (k first count : ℕ) (samples : List Sample) (breaks : Row) → Sixteen xs → Sixteen ys →
-    numbered_run settings.closed xs ys fs k ≡ Between first count →
+    numbered_run settings.closed xs ys fs k ≡ Some (record { first = first; count = count }) →
     survey_of rooms.samples rooms.breaks xs ys fs first count (grid_of settings) ≡ surveyed samples breaks →
     InRun rooms settings xs ys fs k first count breaks
 
@@ -49,6 +48,6 @@ pub data Rising (place : ℕ → ℕ) : ℕ → List Piece → Type 0 where
 abbrev pub SpansRise : Type 0
 SpansRise =
     (rooms : Rooms) (settings : Settings) (xs ys : List ℤ) (fs : List ℕ) (k first count : ℕ) (samples : List Sample) (breaks : Row) → Sixteen xs → Sixteen ys →
-    numbered_run settings.closed xs ys fs k ≡ Between first count →
+    numbered_run settings.closed xs ys fs k ≡ Some (record { first = first; count = count }) →
     survey_of rooms.samples rooms.breaks xs ys fs first count (grid_of settings) ≡ surveyed samples breaks → 0 < length breaks →
     (ps : List Piece) → joined (length breaks - 1) ps ≡ true → Rising (place_of xs ys fs first count breaks) (place_of xs ys fs first count breaks 0) ps

@@ -1,11 +1,10 @@
 -- Document 02's W8 in a chain: for each piece, the segments of the contour that hold its start break and its end break. Definitions only.
-use Rattle.std.specs.Prelude.{ℕ, List, [], ◌∷◌, ℤ}
+use Rattle.std.specs.Prelude.{ℕ, List, [], ◌∷◌, ℤ, Option, Some, None}
 use Rattle.breaks.specs.Breaks.{Row}
 use Rattle.chain.specs.declared.Piece.{Piece}
 use Rattle.edition.specs.Edition.{Rooms}
 use Rattle.runs.specs.Runs.{numbered_run}
 use Rattle.runs.specs.declared.Run.{Run}
-use Rattle.runs.specs.declared.Run.TheVariants.{Between, Nothing}
 use Rattle.segments.specs.Segments.{carried, segment_at}
 use Rattle.settings.specs.Settings.{grid_of}
 use Rattle.settings.specs.declared.Settings.{Settings}
@@ -29,10 +28,10 @@ row_of (surveyed samples breaks) = breaks
 
 module _ (rooms : Rooms) (settings : Settings) (xs ys : List ℤ) (fs : List ℕ) where
   -- those of a run, each with its segment
-  abbrev pub breaks_of : Run → Row
-  breaks_of Nothing = []
-  breaks_of (Between first count) =
-      carried xs ys fs first count (row_of (survey_of rooms.samples rooms.breaks xs ys fs first count (grid_of settings)))
+  abbrev pub breaks_of : Option Run → Row
+  breaks_of None = []
+  breaks_of (Some r) =
+      carried xs ys fs r.first r.count (row_of (survey_of rooms.samples rooms.breaks xs ys fs r.first r.count (grid_of settings)))
 
   -- of run k
   abbrev pub breaks_at : ℕ → Row

@@ -3,15 +3,14 @@
 // scratch rows, which are left zero throughout whatever they held.
 #![tactic(auto)]
 
-ghost use Rattle.std.specs.Prelude.{◌≡◌, ◌≤◌, Float, length, take};
+ghost use Rattle.std.specs.Prelude.{◌≡◌, ◌≤◌, Float, length, take, Some, Result};
 ghost use Rattle.rows.specs.Lent.{before, room, contour};
 ghost use Rattle.breaks.specs.Breaks.{Row};
 ghost use Rattle.segments.specs.Segments.{carried};
 ghost use Rattle.attempt.specs.Answers.{Statelet};
 ghost use Rattle.optimize.specs.Stored.{Anywhere, Holds};
 ghost use Rattle.runs.specs.Runs.{numbered_run};
-ghost use Rattle.runs.specs.declared.Run.TheVariants.{Between};
-ghost use Rattle.edition.specs.Edition.{Result, solved, edition_of, FoundBreaks, Works};
+ghost use Rattle.edition.specs.Edition.{RunOutcome, solved, edition_of, FoundBreaks, Works};
 ghost use Rattle.edition.specs.Scratch.{rooms_in, scratch};
 ghost use Rattle.contour.specs.Output.{front};
 ghost use Rattle.pieces.specs.Slots.{Held};
@@ -22,16 +21,13 @@ ghost use Rattle.chains.specs.Steps.{Hands, Readable};
 
 use edition::Worked;
 use optimize::Tally;
-use pieces::Put;
-use refusals::Judged;
+use refusals::Refusal;
 use runs::Run;
 use settings::Settings;
 use survey::Surveyed;
 
 #[derive(Clone, Copy)]
 pub enum Chained {
-    // the number of a refusal
-    Refused(u8),
     // the run leaves the contour unchanged: no piece; the pairs tried and the lookups that fell in them
     Unchanged(Tally),
     // pieces written, the score, and the same
@@ -43,12 +39,10 @@ fn put_spans(breaks: &[[f64; 6]], starts: &[u32], ends: &[u32], n: usize, spans:
     requires { (n ≤ length starts.now) × (n ≤ length ends.now) × (n ≤ length spans.old) }
     ensures { spans.new ≡ front (spans_from breaks.now (take n starts.now) (take n ends.now)) (before spans) }
 {
-    let mut i = 0;
-    while i < n {
+    for i in 0..n {
         let a = segments::segment_at(breaks, starts[i] as usize);
         let b = segments::segment_at(breaks, ends[i] as usize);
         spans[i] = [a, b];
-        i += 1;
     }
 }
 
@@ -64,22 +58,20 @@ fn put_solved(
     cxs: &mut [f64],
     cys: &mut [f64],
     spans: &mut [[u32; 2]],
-) -> Chained
+) -> Result<Chained, Refusal>
     requires { Held answers.now links.now k }
     ensures { (b : Row) (a : Statelet) → Holds Anywhere b answers.now links.now k a →
         Hands (chain_out (room_in (chain_in starts ends cxs cys spans).entry) (solved a tally)) breaks.now (chain_in starts ends cxs cys spans) result }
 {
-    match pieces::put_chain(answers, links, k, spans.len(), starts, ends, cxs, cys) {
-        Put::Over => Chained::Refused(9),
-        Put::Pieces(n) => {
-            put_spans(breaks, starts, ends, n, spans);
-            Chained::Pieces(n, answers[k][0], tally)
-        }
-    }
+    let Some(n) = pieces::put_chain(answers, links, k, spans.len(), starts, ends, cxs, cys) else {
+        return Err(Refusal::OutputTooShort);
+    };
+    put_spans(breaks, starts, ends, n, spans);
+    Ok(Chained::Pieces(n, answers[k][0], tally))
 }
 
 fn put_worked(
-    worked: Worked,
+    worked: Result<Worked, Refusal>,
     breaks: &[[f64; 6]],
     answers: &[[f64; 3]],
     links: &[u32],
@@ -88,14 +80,13 @@ fn put_worked(
     cxs: &mut [f64],
     cys: &mut [f64],
     spans: &mut [[u32; 2]],
-) -> Chained
+) -> Result<Chained, Refusal>
     requires { Readable answers.now links.now worked }
-    ensures { (penalty : Float) (b : Row) (x : Result) → Works penalty b answers.now links.now x worked →
+    ensures { (penalty : Float) (b : Row) (x : RunOutcome) → Works penalty b answers.now links.now x worked →
         Hands (chain_out (room_in (chain_in starts ends cxs cys spans).entry) x) breaks.now (chain_in starts ends cxs cys spans) result }
 {
-    match worked {
-        Worked::Refused(n) => Chained::Refused(n),
-        Worked::Unchanged(tally) => Chained::Unchanged(tally),
+    match worked? {
+        Worked::Unchanged(tally) => Ok(Chained::Unchanged(tally)),
         Worked::Done(_, k, tally) => {
             put_solved(
                 breaks, answers, links, k, tally, starts, ends, cxs, cys, spans,
@@ -121,7 +112,7 @@ fn chain_surveyed(
     breaks: &mut [[f64; 6]],
     answers: &mut [[f64; 3]],
     links: &mut [u32],
-) -> Chained
+) -> Result<Chained, Refusal>
     requires { FoundBreaks breaks.old × (first ≤ 2048) × (count ≤ 2048) }
     ensures { Hands (chain_out (room_in (chain_in starts ends cxs cys spans).entry)
         (edition_of (room answers) (room links) samples.now (before breaks) penalty))
@@ -151,11 +142,11 @@ fn chain_run(
     breaks: &mut [[f64; 6]],
     answers: &mut [[f64; 3]],
     links: &mut [u32],
-) -> Chained
+) -> Result<Chained, Refusal>
     requires { (first ≤ 2048) × (count ≤ 2048) }
     ensures { Hands (of_run (rooms_in samples breaks answers links) (room_in (chain_in starts ends cxs cys spans).entry) settings
-        xs.now ys.now flags.now (Between first count))
-        (breaks_of (rooms_in samples breaks answers links) settings xs.now ys.now flags.now (Between first count))
+        xs.now ys.now flags.now (Some (record { first = first; count = count })))
+        (breaks_of (rooms_in samples breaks answers links) settings xs.now ys.now flags.now (Some (record { first = first; count = count })))
         (chain_in starts ends cxs cys spans) result }
 {
     let penalty = settings.per_piece();
@@ -168,13 +159,17 @@ fn chain_run(
         settings.grid(),
         samples,
         breaks,
-    ) {
-        Surveyed::Refused(k) => Chained::Refused(k),
-        Surveyed::Past => Chained::Unchanged(Tally {
+    )? {
+        None => Ok(Chained::Unchanged(Tally {
             pairs: 0,
             fallen: 0,
-        }),
-        Surveyed::Rows(n, m) => {
+        })),
+        Some(
+            Surveyed {
+                samples: n,
+                breaks: m,
+            },
+        ) => {
             chain_surveyed(
                 xs,
                 ys,
@@ -212,15 +207,15 @@ fn chain_fine(
     breaks: &mut [[f64; 6]],
     answers: &mut [[f64; 3]],
     links: &mut [u32],
-) -> Chained
+) -> Result<Chained, Refusal>
     requires { length flags.now ≤ 1024 }
     ensures { Hands (of_run (rooms_in samples breaks answers links) (room_in (chain_in starts ends cxs cys spans).entry) settings
         xs.now ys.now flags.now (numbered_run settings.closed xs.now ys.now flags.now k))
         (breaks_at (rooms_in samples breaks answers links) settings xs.now ys.now flags.now k) (chain_in starts ends cxs cys spans) result }
 {
     match runs::numbered_run(xs, ys, flags, settings.closed, k) {
-        Run::Nothing => Chained::Refused(10),
-        Run::Between(first, count) => {
+        None => Err(Refusal::NoSuchRun),
+        Some(Run { first, count }) => {
             chain_run(
                 xs, ys, flags, first, count, settings, starts, ends, cxs, cys, spans, samples,
                 breaks, answers, links,
@@ -244,20 +239,15 @@ fn chain_judged(
     breaks: &mut [[f64; 6]],
     answers: &mut [[f64; 3]],
     links: &mut [u32],
-) -> Chained
+) -> Result<Chained, Refusal>
     ensures { Hands (chain_of (rooms_in samples breaks answers links) (room_in (chain_in starts ends cxs cys spans).entry) settings
         xs.now ys.now flags.now k)
         (breaks_at (rooms_in samples breaks answers links) settings xs.now ys.now flags.now k) (chain_in starts ends cxs cys spans) result }
 {
-    match settings.judge(xs, ys, flags) {
-        Judged::Refused(n) => Chained::Refused(n),
-        Judged::Fine => {
-            chain_fine(
-                xs, ys, flags, k, settings, starts, ends, cxs, cys, spans, samples, breaks,
-                answers, links,
-            )
-        }
-    }
+    settings.judge(xs, ys, flags)?;
+    chain_fine(
+        xs, ys, flags, k, settings, starts, ends, cxs, cys, spans, samples, breaks, answers, links,
+    )
 }
 
 pub fn chain_of_run(
@@ -275,7 +265,7 @@ pub fn chain_of_run(
     breaks: &mut [[f64; 6]],
     answers: &mut [[f64; 3]],
     links: &mut [u32],
-) -> Chained
+) -> Result<Chained, Refusal>
     ensures { Promise (contour xs ys flags) settings k (chain_in starts ends cxs cys spans) (scratch samples breaks answers links) result }
 {
     let r = chain_judged(

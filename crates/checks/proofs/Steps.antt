@@ -1,4 +1,6 @@
 -- What the checker says, of what its steps hand on. Assumes nothing.
+use Rattle.std.specs.Prelude.{Option, Result}
+use Rattle.refusals.specs.declared.refusal.Refusal.{Refusal}
 use Prim.Native.Nat.{ℕ, min, ◌/◌}
 use mathlib.Core.List.{List}
 use mathlib.Core.Path.{◌≡◌, refl, sym, ap, ◌∙◌}
@@ -21,7 +23,7 @@ use Rattle.checks.specs.declared.Ruling.{Ruling}
 
 -- ---- a run, of its survey
 
-pub survey_is : (sampleRow breakRow : ℕ) (xs ys : List ℤ) (fs : List ℕ) (first count : ℕ) (samples : List Sample) (breaks : Row) {g h : Grid} {r s : Y.Surveyed} → g ≡ h →
+pub survey_is : (sampleRow breakRow : ℕ) (xs ys : List ℤ) (fs : List ℕ) (first count : ℕ) (samples : List Sample) (breaks : Row) {g h : Grid} {r s : Result (Option Y.Surveyed) Refusal} → g ≡ h →
     survey_of sampleRow breakRow xs ys fs first count g ≡ survey_in samples breaks r → r ≡ s → survey_in samples breaks s ≡ survey_of sampleRow breakRow xs ys fs first count h
 survey_is sampleRow breakRow xs ys fs first count samples breaks grid e is =
     ap (survey_in samples breaks) (sym is) ∙ sym e ∙ ap (survey_of sampleRow breakRow xs ys fs first count) grid

@@ -1,31 +1,28 @@
 -- Demand 3 for one run of a contour: what the checker says of a chain, given how many places the scratch rows have. Definitions only.
-use Rattle.std.specs.Prelude.{ℕ, Bool, true, false, List, ltb, Float, ℤ, length}
-use Rattle.refusals.specs.declared.Judged.{Judged}
+use Rattle.std.specs.Prelude.{ℕ, Bool, true, false, List, ltb, Float, ℤ, length, Option, Some, None, Result, Ok, Err}
+use Rattle.refusals.specs.declared.refusal.Refusal.TheVariants.{TooManyBreaks, PastLastSample, NoSuchRun}
+use Rattle.refusals.specs.declared.refusal.Refusal.{Refusal}
 use Rattle.runs.specs.declared.Run.{Run}
-use Rattle.runs.specs.declared.Run.TheVariants.{Between, Nothing}
 use Rattle.runs.specs.Runs.{numbered_run}
 use Rattle.settings.specs.Settings.{grid_of, penalty_of, judged_for}
 use Rattle.settings.specs.declared.Settings.{Settings}
 use Rattle.survey.specs.Survey.{Survey, survey_of}
 use Rattle.chain.specs.Valid.{check_rows}
 use Rattle.chain.specs.Fallen.{fallen_rows}
-use Rattle.chain.specs.declared.Checked.{Checked}
 use Rattle.rows.specs.Scratch.{Rooms, answer_room}
-use Rattle.checks.specs.declared.Verdict as D
-use Rattle.checks.specs.declared.Verdict.TheVariants as Verdict
 use Rattle.checks.specs.declared.Ruling.{Ruling}
 
-abbrev pub verdict_of : Checked → D.Verdict
-verdict_of Checked.Missing = Verdict.Refused 8
-verdict_of Checked.Yes = Verdict.Yes
-verdict_of Checked.No = Verdict.No
+abbrev pub verdict_of : Option Bool → Result Bool Refusal
+verdict_of None = Err PastLastSample
+verdict_of (Some true) = Ok true
+verdict_of (Some false) = Ok false
 
 -- a verdict, and the lookups that fell in measuring the chain
-abbrev pub ruling : D.Verdict → ℕ → Ruling
+abbrev pub ruling : Result Bool Refusal → ℕ → Ruling
 ruling verdict fallen = record { verdict = verdict; fallen = fallen }
 
-abbrev pub refusing : ℕ → Ruling
-refusing k = ruling (Verdict.Refused k) 0
+abbrev pub refusing : Refusal → Ruling
+refusing k = ruling (Err k) 0
 
 -- a chain: its four rows and its score
 pub record GivenChain : Type 0 where
@@ -36,29 +33,29 @@ pub record GivenChain : Type 0 where
   pub score : Float
 
 abbrev pub unless_short : Bool → Ruling → Ruling
-unless_short true v = refusing 7
+unless_short true v = refusing TooManyBreaks
 unless_short false v = v
 
 -- half: half the shortest answer row, a room for breaks. After 6 and 7 the chain is judged. A length past the samples is never met
 -- (survey/specs/Never); it would be 8
 abbrev pub of_survey : ℕ → Float → GivenChain → Survey → Ruling
 of_survey half penalty c (Survey.refused k) = refusing k
-of_survey half penalty c Survey.past = refusing 8
+of_survey half penalty c Survey.past = refusing PastLastSample
 of_survey half penalty c (Survey.surveyed samples breaks) =
     unless_short (ltb half (length breaks))
     (ruling (verdict_of (check_rows samples breaks penalty c.starts c.ends c.xs c.ys c.score))
     (fallen_rows samples breaks penalty c.starts c.ends c.xs c.ys))
 
 -- refusal 10: no such run, or the run is one copied line
-abbrev pub of_run : ℕ → Settings → GivenChain → ℕ → ℕ → List ℤ → List ℤ → List ℕ → Run → Ruling
-of_run half settings c sampleRow breakRow xs ys fs Nothing = refusing 10
-of_run half settings c sampleRow breakRow xs ys fs (Between first count) =
-    of_survey half (penalty_of settings) c (survey_of sampleRow breakRow xs ys fs first count (grid_of settings))
+abbrev pub of_run : ℕ → Settings → GivenChain → ℕ → ℕ → List ℤ → List ℤ → List ℕ → Option Run → Ruling
+of_run half settings c sampleRow breakRow xs ys fs None = refusing NoSuchRun
+of_run half settings c sampleRow breakRow xs ys fs (Some r) =
+    of_survey half (penalty_of settings) c (survey_of sampleRow breakRow xs ys fs r.first r.count (grid_of settings))
 
 -- refusals 1 to 5, and then 16, first
-abbrev pub after_judging : Judged → Ruling → Ruling
-after_judging (Judged.Refused k) v = refusing k
-after_judging Judged.Fine v = v
+abbrev pub after_judging : Result Unit Refusal → Ruling → Ruling
+after_judging (Err k) v = refusing k
+after_judging (Ok _) v = v
 
 -- of a chain for run k
 unfoldable pub check_of : Rooms → Settings → List ℤ → List ℤ → List ℕ → GivenChain → ℕ → Ruling

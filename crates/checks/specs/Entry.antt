@@ -1,12 +1,12 @@
 -- What the checker's entry hands back and leaves in every lent row. Definitions only.
-use Rattle.std.specs.Prelude.{ℕ, Bool, true, false, ◌≡◌, Float}
+use Rattle.std.specs.Prelude.{ℕ, Bool, true, false, ◌≡◌, Float, Result, Ok, Err}
+use Rattle.refusals.specs.declared.refusal.Refusal.{Refusal}
+use Rattle.refusals.specs.Number.{number_of}
 use Rattle.rows.specs.Rows.{Work}
 use Rattle.rows.specs.Lent.{Shared, shared, Inputs, inputs}
 use Rattle.settings.specs.declared.Settings.{Settings}
 use Rattle.rows.specs.Scratch.{Scratch, rooms_of, cleared}
 use Rattle.checks.specs.Checks.{GivenChain, check_of}
-use Rattle.checks.specs.declared.Verdict as D
-use Rattle.checks.specs.declared.Verdict.TheVariants as Verdict
 use Rattle.checks.specs.declared.Ruling.{Ruling}
 
 -- document 01's values for each answer: its number, which is 0 where nothing is refused, whether the chain is accepted, and document 02's lookups that fell
@@ -15,10 +15,10 @@ pub record Report : Type 0 where
   pub accepted : Bool
   pub fallen : ℕ
 
-abbrev pub report_of : D.Verdict → ℕ → Report
-report_of (Verdict.Refused k) n = record { number = k; accepted = false; fallen = 0 }
-report_of Verdict.Yes n = record { number = 0; accepted = true; fallen = n }
-report_of Verdict.No n = record { number = 0; accepted = false; fallen = n }
+abbrev pub report_of : Result Bool Refusal → ℕ → Report
+report_of (Err k) n = record { number = number_of k; accepted = false; fallen = 0 }
+report_of (Ok true) n = record { number = 0; accepted = true; fallen = n }
+report_of (Ok false) n = record { number = 0; accepted = false; fallen = n }
 
 abbrev pub report : Ruling → Report
 report r = report_of r.verdict r.fallen

@@ -1,8 +1,9 @@
--- What the checker's entry says, exactly when: yes, no, a refusal by each number, and 8 above all. Definitions and statements; the theorems stand in
+-- What the checker's entry says, exactly when: yes, no, each refusal, and 8 above all. Definitions and statements; the theorems stand in
 -- proofs/Exactly.
-use Rattle.std.specs.Prelude.{ℕ, ◌≤◌, ◌<◌, true, List, ◌↔◌, ◌≡◌, Float, ℤ, length}
-use Rattle.refusals.specs.declared.Judged.TheVariants as Judged
-use Rattle.runs.specs.declared.Run.TheVariants.{Between, Nothing}
+use Rattle.std.specs.Prelude.{ℕ, ◌≤◌, ◌<◌, true, false, List, ◌↔◌, ◌≡◌, Float, ℤ, length, Some, None, Ok, Err}
+use Rattle.refusals.specs.declared.refusal.Refusal.TheVariants.{TooManyBreaks, PastLastSample, NoSuchRun}
+use Rattle.refusals.specs.declared.refusal.Refusal.{Refusal}
+use Rattle.refusals.specs.Number.{number_of}
 use Rattle.runs.specs.Runs.{numbered_run}
 use Rattle.settings.specs.Settings.{grid_of, penalty_of, judged_for}
 use Rattle.settings.specs.declared.Settings.{Settings}
@@ -13,13 +14,11 @@ use Rattle.survey.specs.Survey as Survey
 use Rattle.survey.specs.Never.{Sixteen}
 use Rattle.chain.specs.Valid.{good_shape, sum_of, chain_in, even_rows}
 use Rattle.chain.specs.Rule.{Valid}
-use Rattle.chain.specs.declared.Summed.TheVariants as Summed
 use Rattle.rows.specs.Rows.{Work}
 use Rattle.rows.specs.Lent.{inputs}
 use Rattle.rows.specs.Scratch.{Rooms, answer_room, rooms_of}
 use Rattle.checks.specs.Checks.{GivenChain}
 use Rattle.checks.specs.Entry.{whole_of}
-use Rattle.checks.specs.declared.Verdict.TheVariants as Verdict
 
 -- nothing is refused, the run is there and surveyed, and its breaks fit
 pub record Reached (rooms : Rooms) (settings : Settings) (xs ys : List ℤ) (fs : List ℕ) (k : ℕ) : Type 0 where
@@ -27,8 +26,8 @@ pub record Reached (rooms : Rooms) (settings : Settings) (xs ys : List ℤ) (fs 
   pub count : ℕ
   pub samples : List Sample
   pub breaks : Row
-  pub fine : judged_for settings xs ys fs ≡ Judged.Fine
-  pub run : numbered_run settings.closed xs ys fs k ≡ Between first count
+  pub fine : judged_for settings xs ys fs ≡ Ok tt
+  pub run : numbered_run settings.closed xs ys fs k ≡ Some (record { first = first; count = count })
   pub survey : survey_of rooms.samples rooms.breaks xs ys fs first count (grid_of settings) ≡ Survey.surveyed samples breaks
   pub room : length breaks ≤ answer_room rooms.answers rooms.links
 
@@ -36,7 +35,7 @@ pub record Reached (rooms : Rooms) (settings : Settings) (xs ys : List ℤ) (fs 
 pub record Unmeasured (samples : List Sample) (breaks : Row) (penalty : Float) (c : GivenChain) : Type 0 where
   pub even : even_rows c.starts c.ends c.xs c.ys ≡ true
   pub good : good_shape breaks (chain_in c.starts c.ends c.xs c.ys) ≡ true
-  pub refused : sum_of samples breaks penalty (chain_in c.starts c.ends c.xs c.ys) ≡ Summed.Missing
+  pub refused : sum_of samples breaks penalty (chain_in c.starts c.ends c.xs c.ys) ≡ None
 
 module _ (rooms : Rooms) (settings : Settings) (xs ys : List ℤ) (fs : List ℕ) (k : ℕ) (c : GivenChain) where
   -- the chain obeys the user's rule (chain/specs/Rule.antt)
@@ -54,54 +53,55 @@ module _ (rooms : Rooms) (settings : Settings) (xs ys : List ℤ) (fs : List ℕ
     pub at : Reached rooms settings xs ys fs k
     pub unmeasured : Unmeasured at.samples at.breaks (penalty_of settings) c
 
-  -- refused before the chain is looked at, and by which number
-  pub data Turned : ℕ → Type 0 where
+  -- refused before the chain is looked at, and for which reason
+  pub data Turned : Refusal → Type 0 where
     -- 1 to 5 of the rows, then 16 of the penalty
-    unfit : {n : ℕ} → judged_for settings xs ys fs ≡ Judged.Refused n → Turned n
+    unfit : {n : Refusal} → judged_for settings xs ys fs ≡ Err n → Turned n
     -- no such run, or the run is one copied line
-    no_run : judged_for settings xs ys fs ≡ Judged.Fine → numbered_run settings.closed xs ys fs k ≡ Nothing → Turned 10
+    no_run : judged_for settings xs ys fs ≡ Ok tt → numbered_run settings.closed xs ys fs k ≡ None → Turned NoSuchRun
     -- 6 or 7: its samples, or its breaks, have no room
-    unsurveyed : {first count n : ℕ} → judged_for settings xs ys fs ≡ Judged.Fine → numbered_run settings.closed xs ys fs k ≡ Between first count →
+    unsurveyed : {first count : ℕ} {n : Refusal} → judged_for settings xs ys fs ≡ Ok tt → numbered_run settings.closed xs ys fs k ≡ Some (record { first = first; count = count }) →
         survey_of rooms.samples rooms.breaks xs ys fs first count (grid_of settings) ≡ Survey.refused n → Turned n
     -- its breaks are more than half the answer rows
-    short : {first count : ℕ} {samples : List Sample} {breaks : Row} → judged_for settings xs ys fs ≡ Judged.Fine →
-        numbered_run settings.closed xs ys fs k ≡ Between first count →
+    short : {first count : ℕ} {samples : List Sample} {breaks : Row} → judged_for settings xs ys fs ≡ Ok tt →
+        numbered_run settings.closed xs ys fs k ≡ Some (record { first = first; count = count }) →
         survey_of rooms.samples rooms.breaks xs ys fs first count (grid_of settings) ≡ Survey.surveyed samples breaks →
-        answer_room rooms.answers rooms.links < length breaks → Turned 7
+        answer_room rooms.answers rooms.links < length breaks → Turned TooManyBreaks
     -- a length past the samples, which no contour in 16 bits has (survey/specs/Never)
-    past : {first count : ℕ} → judged_for settings xs ys fs ≡ Judged.Fine → numbered_run settings.closed xs ys fs k ≡ Between first count →
-        survey_of rooms.samples rooms.breaks xs ys fs first count (grid_of settings) ≡ Survey.past → Turned 8
+    past : {first count : ℕ} → judged_for settings xs ys fs ≡ Ok tt → numbered_run settings.closed xs ys fs k ≡ Some (record { first = first; count = count }) →
+        survey_of rooms.samples rooms.breaks xs ys fs first count (grid_of settings) ≡ Survey.past → Turned PastLastSample
 
-  -- refused, and by which number: then, or in measuring a chain of good shape
-  pub data RefusedBy : ℕ → Type 0 where
-    before : {n : ℕ} → Turned n → RefusedBy n
-    measuring : Unsettled → RefusedBy 8
+  -- refused, and for which reason: then, or in measuring a chain of good shape
+  pub data RefusedBy : Refusal → Type 0 where
+    before : {n : Refusal} → Turned n → RefusedBy n
+    measuring : Unsettled → RefusedBy PastLastSample
 
 -- yes exactly then
 abbrev pub YesExactly : Type 0
 YesExactly =
     (xs ys : List ℤ) (fs : List ℕ) (settings : Settings) (k : ℕ) (c : GivenChain) (w : Work) →
-    ((whole_of (inputs xs ys fs) settings k c w).verdict ≡ Verdict.Yes) ↔ Accepted (rooms_of w) settings xs ys fs k c
+    ((whole_of (inputs xs ys fs) settings k c w).verdict ≡ Ok true) ↔ Accepted (rooms_of w) settings xs ys fs k c
 
 -- no exactly then
 abbrev pub NoExactly : Type 0
 NoExactly =
     (xs ys : List ℤ) (fs : List ℕ) (settings : Settings) (k : ℕ) (c : GivenChain) (w : Work) →
-    ((whole_of (inputs xs ys fs) settings k c w).verdict ≡ Verdict.No) ↔ Denied (rooms_of w) settings xs ys fs k c
+    ((whole_of (inputs xs ys fs) settings k c w).verdict ≡ Ok false) ↔ Denied (rooms_of w) settings xs ys fs k c
 
 -- 8 exactly then, of a contour in 16 bits
 abbrev pub EightExactly : Type 0
 EightExactly =
     (xs ys : List ℤ) (fs : List ℕ) (settings : Settings) (k : ℕ) (c : GivenChain) (w : Work) → Sixteen xs → Sixteen ys →
-    ((whole_of (inputs xs ys fs) settings k c w).verdict ≡ Verdict.Refused 8) ↔ Unsettled (rooms_of w) settings xs ys fs k c
+    ((whole_of (inputs xs ys fs) settings k c w).verdict ≡ Err PastLastSample) ↔ Unsettled (rooms_of w) settings xs ys fs k c
 
--- refused by each number exactly then
+-- each refusal exactly then
 abbrev pub RefusedExactly : Type 0
 RefusedExactly =
-    (xs ys : List ℤ) (fs : List ℕ) (settings : Settings) (k : ℕ) (c : GivenChain) (w : Work) (n : ℕ) →
-    ((whole_of (inputs xs ys fs) settings k c w).verdict ≡ Verdict.Refused n) ↔ RefusedBy (rooms_of w) settings xs ys fs k c n
+    (xs ys : List ℤ) (fs : List ℕ) (settings : Settings) (k : ℕ) (c : GivenChain) (w : Work) (n : Refusal) →
+    ((whole_of (inputs xs ys fs) settings k c w).verdict ≡ Err n) ↔ RefusedBy (rooms_of w) settings xs ys fs k c n
 
 -- and never by 0, which is the number of a check that is not refused
 abbrev pub NeverByZero : Type 0
 NeverByZero =
-    (rooms : Rooms) (settings : Settings) (xs ys : List ℤ) (fs : List ℕ) (k : ℕ) (c : GivenChain) → RefusedBy rooms settings xs ys fs k c 0 → ⊥
+    (rooms : Rooms) (settings : Settings) (xs ys : List ℤ) (fs : List ℕ) (k : ℕ) (c : GivenChain) (n : Refusal) →
+    RefusedBy rooms settings xs ys fs k c n → number_of n ≡ 0 → ⊥

@@ -12,44 +12,32 @@ ghost use Rattle.rows.specs.Scratch.{scratch};
 ghost use Rattle.checks.specs.Checks.{refusing, verdict_of, of_survey, of_run, after_judging};
 ghost use Rattle.checks.specs.Entry.{chain_given, Promise};
 
-use chain::Checked;
-use refusals::Judged;
+use refusals::Refusal;
 use runs::Run;
 use settings::Settings;
 use survey::Surveyed;
 
-#[derive(Clone, Copy)]
-pub enum Verdict {
-    // the number of a refusal
-    Refused(u8),
-    Yes,
-    No,
-}
-
-// The verdict, and the lookups that fell in measuring the chain; none where it is refused.
+// Whether the chain is accepted, and the lookups that fell in measuring it; none where it is refused.
 #[derive(Clone, Copy)]
 pub struct Ruling {
-    pub verdict: Verdict,
+    pub verdict: Result<bool, Refusal>,
     pub fallen: usize,
 }
 
-fn refused(k: u8) -> Ruling
+fn refused(k: Refusal) -> Ruling
     ensures { result ≡ refusing k }
 {
     Ruling {
-        verdict: Verdict::Refused(k),
+        verdict: Err(k),
         fallen: 0,
     }
 }
 
-fn verdict_of(c: Checked) -> Verdict
+// A chain of which nothing is said asks for a sample at the last stored place.
+fn verdict_of(c: Option<bool>) -> Result<bool, Refusal>
     ensures { result ≡ verdict_of c }
 {
-    match c {
-        Checked::Missing => Verdict::Refused(8),
-        Checked::Yes => Verdict::Yes,
-        Checked::No => Verdict::No,
-    }
+    c.ok_or(Refusal::PastLastSample)
 }
 
 // A surveyed run; half: half the shortest answer row, a room for breaks.
@@ -69,7 +57,7 @@ fn check_surveyed(
         (surveyed samples.now breaks.now) }
 {
     if half < breaks.len() {
-        return refused(7);
+        return refused(Refusal::TooManyBreaks);
     }
     let c = chain::check(
         samples,
@@ -118,9 +106,16 @@ fn check_run(
         samples,
         breaks,
     ) {
-        Surveyed::Refused(n) => refused(n),
-        Surveyed::Past => refused(8),
-        Surveyed::Rows(n, m) => {
+        Err(k) => refused(k),
+        Ok(None) => refused(Refusal::PastLastSample),
+        Ok(
+            Some(
+                Surveyed {
+                    samples: n,
+                    breaks: m,
+                },
+            ),
+        ) => {
             check_surveyed(
                 &samples[..n],
                 &breaks[..m],
@@ -156,8 +151,8 @@ fn check_fine(
         (room samples) (room breaks) xs.now ys.now flags.now (numbered_run settings.closed xs.now ys.now flags.now k) }
 {
     match runs::numbered_run(xs, ys, flags, settings.closed, k) {
-        Run::Nothing => refused(10),
-        Run::Between(first, count) => {
+        None => refused(Refusal::NoSuchRun),
+        Some(Run { first, count }) => {
             check_run(
                 xs, ys, flags, first, count, starts, ends, cxs, cys, score, half, settings,
                 samples, breaks,
@@ -185,8 +180,8 @@ fn check_judged(
         (room samples) (room breaks) xs.now ys.now flags.now (numbered_run settings.closed xs.now ys.now flags.now k)) }
 {
     match settings.judge(xs, ys, flags) {
-        Judged::Refused(n) => refused(n),
-        Judged::Fine => {
+        Err(k) => refused(k),
+        Ok(()) => {
             check_fine(
                 xs, ys, flags, k, starts, ends, cxs, cys, score, half, settings, samples, breaks,
             )

@@ -1,4 +1,5 @@
 -- What the entry's rows hold while drops are put back. Assumes nothing.
+use Rattle.std.specs.Prelude.{Result, Ok, Err}
 use Prim.Native.Nat.{ℕ, zero, suc, min, ◌+◌, ◌-◌, ◌≤◌, ◌<◌}
 use mathlib.Core.Bool.{Bool, true, false}
 use mathlib.Core.List.{List, [], ◌∷◌, map}
@@ -11,14 +12,14 @@ use lib.IntN.{ℤ}
 use lib.ListN.{length, get_or, set, take, drop, length-map, get_or-map}
 use lib.Seq.{take_all, take_at, drop-cons, drop-length}
 use Rattle.refusals.specs.Refusals.{rows_differ, no_point, refuse}
-use Rattle.refusals.specs.declared.Judged.{Judged}
+use Rattle.refusals.specs.declared.refusal.Refusal.TheVariants.{UnevenRows, NoPoint, TooManyPoints, OutputTooShort}
+use Rattle.refusals.specs.declared.refusal.Refusal.{Refusal}
 use Rattle.rows.specs.Lent.{inputs}
 use Rattle.rows.proofs.Filled.{Filled, more, filled}
 use Rattle.contour.specs.Output.{Outputs, outputs}
 use Rattle.clean.specs.Clean.{up_from}
 use Rattle.clean.specs.PutBack.{number_of, why_of, insert_at, restored, put_back, mark_for, copied_spot, kept_spot, bit_by, spots_of}
 use Rattle.clean.specs.Entry.{spots_into, judged_back, Restores}
-use Rattle.clean.specs.declared.Restored.TheVariants.{Refused, Points}
 use Rattle.clean.specs.Determine.{length_up}
 use Rattle.clean.proofs.Inserting.{insert_end}
 
@@ -126,11 +127,11 @@ pub spots_are : (n : ℕ) (list : List (List ℕ)) {kept row : List (List ℕ)} 
 unfolding spots_of
 spots_are n list all first = rw (all, first)
 
-never_fine : {k : ℕ} → Judged.Refused k ≡ Judged.Fine → ⊥
+never_fine : {k : Refusal} → ◌≡◌ {A = Result Unit Refusal} (Err k) (Ok tt) → ⊥
 never_fine h = let z : ◌≡◌ {A = ℕ} 0 1 = cc in omega arith
 
 -- 3 and 9 are not given
-neither_back : (a b c d : Bool) → refuse 1 a (refuse 2 b (refuse 3 c (refuse 9 d Judged.Fine))) ≡ Judged.Fine → (c ≡ false) × (d ≡ false)
+neither_back : (a b c d : Bool) → refuse UnevenRows a (refuse NoPoint b (refuse TooManyPoints c (refuse OutputTooShort d (Ok tt)))) ≡ Ok tt → (c ≡ false) × (d ≡ false)
 neither_back true b c d h = absurd (never_fine h)
 neither_back false true c d h = absurd (never_fine h)
 neither_back false false true d h = absurd (never_fine h)
@@ -142,15 +143,15 @@ module _ (xs ys : List ℤ) (fs : List ℕ) (drops : ℕ) (spots : List (List �
   abbrev lent_out : Outputs
   lent_out = outputs ox oy of
 
-  module _ {m n : ℕ} {j : Judged} (two : m ≡ min (length ox) (length oy)) (three : n ≡ min m (length of))
+  module _ {m n : ℕ} {j : Result Unit Refusal} (two : m ≡ min (length ox) (length oy)) (three : n ≡ min m (length of))
       (is : j ≡ judged_back (length xs) (length ys) (length fs) drops n) where
     room_is : min (min (length ox) (length oy)) (length of) ≡ n
     room_is = rw (← two) (sym three)
 
-    pub put_refused : {k : ℕ} → j ≡ Judged.Refused k → Restores (inputs xs ys fs) drops spots (record { entry = lent_out; exit = lent_out }) (Refused k)
+    pub put_refused : {k : Refusal} → j ≡ Err k → Restores (inputs xs ys fs) drops spots (record { entry = lent_out; exit = lent_out }) (Err k)
     put_refused h = record { answer = rw (room_is, ← is, h); values = rw (room_is, ← is, h); left = refl }
 
-    pub put_fits : j ≡ Judged.Fine →
+    pub put_fits : j ≡ Ok tt →
         (length fs + drops ≤ 1024) × (length fs + drops ≤ length ox) × (length fs + drops ≤ length oy) × (length fs + drops ≤ length of)
     put_fits h =
         let none =
@@ -159,8 +160,8 @@ module _ (xs ys : List ℤ) (fs : List ℕ) (drops : ℕ) (spots : List (List �
         let room = ltb-false n (length fs + drops) none.1 in
         (total, omega arith, omega arith, omega arith)
 
-    pub put_done : j ≡ Judged.Fine → {ox' oy' : List ℤ} {of' : List ℕ} → outputs ox' oy' of' ≡ spots_into (inputs xs ys fs) spots lent_out →
-        Restores (inputs xs ys fs) drops spots (record { entry = lent_out; exit = outputs ox' oy' of' }) (Points (length fs + drops))
+    pub put_done : j ≡ Ok tt → {ox' oy' : List ℤ} {of' : List ℕ} → outputs ox' oy' of' ≡ spots_into (inputs xs ys fs) spots lent_out →
+        Restores (inputs xs ys fs) drops spots (record { entry = lent_out; exit = outputs ox' oy' of' }) (Ok (length fs + drops))
     put_done h e = record { answer = rw (room_is, ← is, h); values = rw (room_is, ← is, h); left = e }
 
 over_is : (n m : ℕ) (t : Bool) → n ≤ 1024 → ltb (1024 - n) m ≡ t → t ≡ ltb 1024 (n + m)

@@ -1,5 +1,6 @@
 -- Of every upload that none of 1 to 5 is given for: one pass cleans it; every point not listed is kept in order; what is left is refused by none of
 -- 1 to 5; and cleaning it again drops nothing more. The statements are those of specs/Statements. Assumes nothing.
+use Rattle.std.specs.Prelude.{Ok}
 use Prim.Native.Nat.{ℕ, zero, suc, ◌+◌, ◌-◌, ◌%◌, ◌≤◌}
 use mathlib.Core.Bool.{Bool, true, false, not, ◌&&◌}
 use mathlib.Core.List.{List, [], ◌∷◌, ◌++◌, map}
@@ -11,7 +12,6 @@ use lib.ListN.{length, get_or, length-append, length-map, get_or-map, get_or-eq_
 use lib.Seq.{get_or_at, append_snoc}
 use Rattle.refusals.specs.Refusals.{is_on, off_neighbours, judged}
 use Rattle.refusals.specs.Accepted.{Accepted, accepted, judged_fine}
-use Rattle.refusals.specs.declared.Judged.TheVariants.{Fine}
 use Rattle.clean.specs.Clean.{same_place, on_place, Look, none, gone, behind, at_place, cleaned, reason, lowest, dropping, up_from, clean_of}
 use Rattle.clean.specs.Entry.{coordinate_in, bit_in}
 use Rattle.clean.specs.Statements.{OnePassCleans, KeptInOrder, TwiceDropsNothing, coordinates_left, flags_left}
@@ -184,7 +184,7 @@ module _ {xs ys : List ℤ} {fs : List ℕ} (a : Accepted xs ys fs) {kept : List
   found_left : Ended (on_place fs) (same_place xs ys) 0 (up_from 1 (length fs - 1)) (ending a).kept drops
   found_left = let same : (ending a).drops ≡ drops = (let is = (ending a).is in cc) in rw same at (ending a).ended
 
-  none_refused : judged (xs' xs ys fs kept) (ys' xs ys fs kept) (fs' xs ys fs kept) ≡ Fine
+  none_refused : judged (xs' xs ys fs kept) (ys' xs ys fs kept) (fs' xs ys fs kept) ≡ Ok tt
   none_refused = judged_fine (accepted_left (ending a).kept same_kept found_left)
 
   nothing_twice : clean_of (xs' xs ys fs kept) (ys' xs ys fs kept) (fs' xs ys fs kept) (length kept - 1) ≡ cleaned (up_from 0 (length kept)) []

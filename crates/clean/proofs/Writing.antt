@@ -1,4 +1,7 @@
 -- What is written out. Assumes nothing.
+use Rattle.std.specs.Prelude.{Result, Ok, Err}
+use Rattle.refusals.specs.declared.refusal.Refusal.TheVariants.{OutputTooShort, ListTooShort}
+use Rattle.refusals.specs.declared.refusal.Refusal.{Refusal}
 use Prim.Native.Nat.{ℕ, min, ◌+◌, ◌≤◌, ◌<◌}
 use mathlib.Core.Bool.{Bool, true, false}
 use mathlib.Core.List.{List, [], ◌++◌}
@@ -11,16 +14,13 @@ use lib.IntN.{ℤ}
 use lib.ListN.{length, take, drop, set, get_or}
 use lib.Seq.{length-take-le, take_all, get_or-take}
 use denote.Triple.Both.{Both}
-use Rattle.refusals.specs.declared.Judged.{Judged}
 use Rattle.rows.proofs.Filled.{Filled, more, filled}
 use Rattle.rows.specs.Lent.{Inputs}
 use Rattle.contour.specs.Output.{outputs, front}
 use Rattle.clean.specs.Clean.{Cleaning, cleaned}
 use Rattle.clean.specs.Entry.{Rows, rows, point_room, list_room, points_into, judged_of, Written, Sifts}
 use Rattle.clean.specs.Entry.{Report, report, refusing, keeping, refuse_if, said_in, answer_in}
-use Rattle.clean.specs.declared.Cleaned as D
-use Rattle.clean.specs.declared.Cleaned.TheVariants as Cleaned
-use Rattle.clean.specs.declared.Cleaned.TheVariants.{Refused, Points}
+use Rattle.clean.specs.declared.Cleaned.{Cleaned}
 
 -- ---- a row whose first n places are those of another
 
@@ -45,18 +45,18 @@ module _ (i : Inputs) (kept : List ℕ) (k : ℕ) (gone : List (List ℕ)) (d : 
   abbrev cleaning : Cleaning
   cleaning = cleaned (take k kept) (take d gone)
 
-  pub no_list : length list < d → Written i cleaning (record { entry = lent_rows; exit = lent_rows }) (Refused 18)
+  pub no_list : length list < d → Written i cleaning (record { entry = lent_rows; exit = lent_rows }) (Err ListTooShort)
   no_list h = record { answer = rw (length-take-le d gone d-in, lt-ltb (length list) d h); left = refl }
 
   pub no_points_lem : {m n : ℕ} → d ≤ length list → m ≡ min (length ox) (length oy) → n ≡ min m (length of) → n < k →
-      Written i cleaning (record { entry = lent_rows; exit = lent_rows }) (Refused 9)
+      Written i cleaning (record { entry = lent_rows; exit = lent_rows }) (Err OutputTooShort)
   no_points_lem {m} {n} h e f g =
       let short : min (min (length ox) (length oy)) (length of) < k = rw (← e, ← f) g in
       record { answer = rw (length-take-le d gone d-in, length-take-le k kept k-in, le-ltb (length list) d h, lt-ltb _ k short); left = refl }
 
   pub all_written : {m n : ℕ} {ox' oy' : List ℤ} {of' : List ℕ} {list' : List (List ℕ)} → d ≤ length list → m ≡ min (length ox) (length oy) → n ≡ min m (length of) → k ≤ n →
       outputs ox' oy' of' ≡ points_into i (take k kept) (outputs ox oy of) → list' ≡ front (take d gone) list →
-      Written i cleaning (record { entry = lent_rows; exit = rows (outputs ox' oy' of') list' }) (Points k d)
+      Written i cleaning (record { entry = lent_rows; exit = rows (outputs ox' oy' of') list' }) (Ok (record { kept = k; dropped = d }))
   all_written {m} {n} h e f g points listed =
       let fits : k ≤ min (min (length ox) (length oy)) (length of) = rw (← e, ← f) g in
       record {
@@ -66,13 +66,13 @@ module _ (i : Inputs) (kept : List ℕ) (k : ℕ) (gone : List (List ℕ)) (d : 
 
 -- ---- 1 to 5 first
 
-abbrev refused : ℕ → Bool → D.Cleaned → D.Cleaned
-refused = refuse_if Cleaned.Refused Cleaned.Points
+abbrev refused : Refusal → Bool → Result Cleaned Refusal → Result Cleaned Refusal
+refused = refuse_if Err (λ k d. Ok (record { kept = k; dropped = d }))
 
-abbrev number : ℕ → Bool → Report → Report
+abbrev number : Refusal → Bool → Report → Report
 number = refuse_if refusing keeping
 
-report_so : (s t : Bool) (n m : ℕ) → report (refused 18 s (refused 9 t (Points n m))) ≡ number 18 s (number 9 t (keeping n m))
+report_so : (s t : Bool) (n m : ℕ) → report (refused ListTooShort s (refused OutputTooShort t (Ok (record { kept = n; dropped = m })))) ≡ number ListTooShort s (number OutputTooShort t (keeping n m))
 report_so true t n m = refl
 report_so false true n m = refl
 report_so false false n m = refl
@@ -80,10 +80,10 @@ report_so false false n m = refl
 report_in : (list points : ℕ) (c : Cleaning) → report (answer_in list points c) ≡ said_in refusing keeping list points c
 report_in list points (cleaned kept drops) = report_so (ltb list (length drops)) (ltb points (length kept)) (length kept) (length drops)
 
-pub refused_first : (i : Inputs) (c : Cleaning) (r : Rows) {j : Judged} {k : ℕ} → j ≡ judged_of i → j ≡ Judged.Refused k → Sifts i c (record { entry = r; exit = r }) (Refused k)
+pub refused_first : (i : Inputs) (c : Cleaning) (r : Rows) {j : Result Unit Refusal} {k : Refusal} → j ≡ judged_of i → j ≡ Err k → Sifts i c (record { entry = r; exit = r }) (Err k)
 refused_first i c r is h = record { answer = rw (← is, h); values = rw (← is, h); left = refl }
 
-pub after_judging_lem : (i : Inputs) {c : Cleaning} {w : Both Rows Rows} {j : Judged} {r : D.Cleaned} → j ≡ judged_of i → j ≡ Judged.Fine → Written i c w r → Sifts i c w r
+pub after_judging_lem : (i : Inputs) {c : Cleaning} {w : Both Rows Rows} {j : Result Unit Refusal} {r : Result Cleaned Refusal} → j ≡ judged_of i → j ≡ Ok tt → Written i c w r → Sifts i c w r
 after_judging_lem i {c} {w} is h written = record {
   answer = rw (← is, h) written.answer;
   values = rw (← is, h) (ap report written.answer ∙ report_in (list_room w.entry) (point_room w.entry) c);
@@ -91,5 +91,5 @@ after_judging_lem i {c} {w} is h written = record {
 }
 
 -- of another cleaning that is the same
-pub written_of : (i : Inputs) {c c' : Cleaning} {w : Both Rows Rows} {r : D.Cleaned} → c ≡ c' → Written i c w r → Written i c' w r
+pub written_of : (i : Inputs) {c c' : Cleaning} {w : Both Rows Rows} {r : Result Cleaned Refusal} → c ≡ c' → Written i c w r → Written i c' w r
 written_of i e written = rw e at written

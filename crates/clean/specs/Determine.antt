@@ -1,12 +1,13 @@
 -- The statement of an entry that drops points and lists them, as `clean_contour` is, determines the answer and every lent row; and the answer and
 -- what is written are those of the contour and of the lengths of the rows alone, whatever the rows held. So it is of one that puts them back.
 -- Assumes nothing.
-use Rattle.std.specs.Prelude.{ℕ, zero, suc, min, ◌+◌, ◌-◌, Bool, true, false, List, [], ◌∷◌, map, ◌≡◌, refl, eqb, ltb, length, get_or, take}
+use Rattle.std.specs.Prelude.{ℕ, zero, suc, min, ◌+◌, ◌-◌, Bool, true, false, List, [], ◌∷◌, map, ◌≡◌, refl, eqb, ltb, length, get_or, take, Result, Ok, Err}
 use Rattle.std.proofs.Common.{arith, sym, ap, ◌∙◌, length-append}
 use Rattle.std.proofs.lemmas.List.{length-map}
+use Rattle.refusals.specs.declared.refusal.Refusal.TheVariants.{OutputTooShort, ListTooShort}
+use Rattle.refusals.specs.declared.refusal.Refusal.{Refusal}
 use Rattle.contour.specs.Laws.{front_first}
 use denote.Triple.Both.{Both}
-use Rattle.refusals.specs.declared.Judged.{Judged}
 use Rattle.rows.specs.Lent.{Inputs, inputs}
 use Rattle.contour.specs.Output.{Outputs, outputs}
 use Rattle.clean.specs.Clean.{Cleaning, cleaned, up_from}
@@ -14,10 +15,7 @@ use Rattle.clean.specs.PutBack.{number_of, why_of, insert_at, put_in, put_back, 
 use Rattle.clean.specs.Entry.{coordinate_in, bit_in, Rows, rows, point_room, list_room, refuse_if, answer_in, left_by}
 use Rattle.clean.specs.Entry.{after_judging, judged_of, Sifts}
 use Rattle.clean.specs.Entry.{spot_x, spot_bit, output_room, judged_back, unless_refused, restored_of, spots_for, left_back, Restores}
-use Rattle.clean.specs.declared.Restored as R
-use Rattle.clean.specs.declared.Restored.TheVariants as Restored
-use Rattle.clean.specs.declared.Cleaned as D
-use Rattle.clean.specs.declared.Cleaned.TheVariants as Cleaned
+use Rattle.clean.specs.declared.Cleaned.{Cleaned}
 
 -- ---- two outcomes of one order are one
 
@@ -25,7 +23,7 @@ pub record Same {R W : Type 0} (r r' : R) (w w' : W) : Type 0 where
   pub answer : r ≡ r'
   pub left : w ≡ w'
 
-pub determined : {i : Inputs} {c : Cleaning} {w w' : Both Rows Rows} {r r' : D.Cleaned} → w.entry ≡ w'.entry →
+pub determined : {i : Inputs} {c : Cleaning} {w w' : Both Rows Rows} {r r' : Result Cleaned Refusal} → w.entry ≡ w'.entry →
     Sifts i c w r → Sifts i c w' r' → Same r r' w.exit w'.exit
 determined {i} {c} {w} {w'} {r} {r'} e p p' =
     let answer : r ≡ r' = p.answer ∙ rw e (sym p'.answer) in
@@ -43,14 +41,14 @@ abbrev pub places_of : Rows → Places
 places_of (rows (outputs ox oy of) list) = record { x = length ox; y = length oy; flags = length of; list = length list }
 
 -- the places that an answer says are written
-abbrev pub first_of : D.Cleaned → Rows → Rows
-first_of (Cleaned.Refused k) w = rows (outputs [] [] []) []
-first_of (Cleaned.Points n m) (rows (outputs ox oy of) list) = rows (outputs (take n ox) (take n oy) (take n of)) (take m list)
+abbrev pub first_of : Result Cleaned Refusal → Rows → Rows
+first_of (Err k) w = rows (outputs [] [] []) []
+first_of (Ok c) (rows (outputs ox oy of) list) = rows (outputs (take c.kept ox) (take c.kept oy) (take c.kept of)) (take c.dropped list)
 
 -- what stands there: nothing where the contour is refused
-abbrev pub shown : D.Cleaned → Inputs → Cleaning → Rows
-shown (Cleaned.Refused k) i c = rows (outputs [] [] []) []
-shown (Cleaned.Points n m) (inputs xs ys fs) (cleaned kept drops) =
+abbrev pub shown : Result Cleaned Refusal → Inputs → Cleaning → Rows
+shown (Err k) i c = rows (outputs [] [] []) []
+shown (Ok c) (inputs xs ys fs) (cleaned kept drops) =
     rows (outputs (map (coordinate_in xs) kept) (map (coordinate_in ys) kept) (map (bit_in fs) kept)) drops
 
 same_rooms : (w w' : Rows) → places_of w ≡ places_of w' → (list_room w ≡ list_room w') × (point_room w ≡ point_room w')
@@ -58,42 +56,42 @@ same_rooms (rows (outputs ox oy of) list) (rows (outputs ox' oy' of') list') e =
     (ap (λ (p : Places). p.list) e, ap (λ (p : Places). min (min p.x p.y) p.flags) e)
 
 -- what is counted is what there is
-abbrev counts_of : D.Cleaned → ℕ → ℕ → Type 0
-counts_of (Cleaned.Refused k) a b = Unit {0}
-counts_of (Cleaned.Points n m) a b = (n ≡ a) × (m ≡ b)
+abbrev counts_of : Result Cleaned Refusal → ℕ → ℕ → Type 0
+counts_of (Err k) a b = Unit {0}
+counts_of (Ok c) a b = (c.kept ≡ a) × (c.dropped ≡ b)
 
-abbrev refused : ℕ → Bool → D.Cleaned → D.Cleaned
-refused = refuse_if Cleaned.Refused Cleaned.Points
+abbrev refused : Refusal → Bool → Result Cleaned Refusal → Result Cleaned Refusal
+refused = refuse_if Err (λ k d. Ok (record { kept = k; dropped = d }))
 
-counted : (s t : Bool) (a b : ℕ) → counts_of (refused 18 s (refused 9 t (Cleaned.Points a b))) a b
+counted : (s t : Bool) (a b : ℕ) → counts_of (refused ListTooShort s (refused OutputTooShort t (Ok (record { kept = a; dropped = b })))) a b
 counted true t a b = tt
 counted false true a b = tt
 counted false false a b = (refl, refl)
 
-counts_whole : (j : Judged) (list points : ℕ) (kept : List ℕ) (drops : List (List ℕ)) →
+counts_whole : (j : Result Unit Refusal) (list points : ℕ) (kept : List ℕ) (drops : List (List ℕ)) →
     counts_of (after_judging j (answer_in list points (cleaned kept drops))) (length kept) (length drops)
-counts_whole (Judged.Refused k) list points kept drops = tt
-counts_whole Judged.Fine list points kept drops = counted (ltb list (length drops)) (ltb points (length kept)) (length kept) (length drops)
+counts_whole (Err k) list points kept drops = tt
+counts_whole (Ok tt) list points kept drops = counted (ltb list (length drops)) (ltb points (length kept)) (length kept) (length drops)
 
-first_shown : (r : D.Cleaned) (i : Inputs) (kept : List ℕ) (drops : List (List ℕ)) (w : Rows) → counts_of r (length kept) (length drops) →
+first_shown : (r : Result Cleaned Refusal) (i : Inputs) (kept : List ℕ) (drops : List (List ℕ)) (w : Rows) → counts_of r (length kept) (length drops) →
     first_of r (left_by r i (cleaned kept drops) w) ≡ shown r i (cleaned kept drops)
-first_shown (Cleaned.Refused k) i kept drops w h = refl
-first_shown (Cleaned.Points n m) (inputs xs ys fs) kept drops (rows (outputs ox oy of) list) h =
+first_shown (Err k) i kept drops w h = refl
+first_shown (Ok c) (inputs xs ys fs) kept drops (rows (outputs ox oy of) list) h =
     rw (
-      front_first n (map (coordinate_in xs) kept) ox (length-map kept (coordinate_in xs) ∙ sym h.0),
-      front_first n (map (coordinate_in ys) kept) oy (length-map kept (coordinate_in ys) ∙ sym h.0),
-      front_first n (map (bit_in fs) kept) of (length-map kept (bit_in fs) ∙ sym h.0),
-      front_first m drops list (sym h.1),
+      front_first c.kept (map (coordinate_in xs) kept) ox (length-map kept (coordinate_in xs) ∙ sym h.0),
+      front_first c.kept (map (coordinate_in ys) kept) oy (length-map kept (coordinate_in ys) ∙ sym h.0),
+      front_first c.kept (map (bit_in fs) kept) of (length-map kept (bit_in fs) ∙ sym h.0),
+      front_first c.dropped drops list (sym h.1),
     )
 
-promise_shows : {i : Inputs} {w : Both Rows Rows} {r : D.Cleaned} (c : Cleaning) → Sifts i c w r → first_of r w.exit ≡ shown r i c
+promise_shows : {i : Inputs} {w : Both Rows Rows} {r : Result Cleaned Refusal} (c : Cleaning) → Sifts i c w r → first_of r w.exit ≡ shown r i c
 promise_shows {i} {w} {r} (cleaned kept drops) p =
     let counts : counts_of r (length kept) (length drops) =
     rw p.answer (counts_whole (judged_of i) (list_room w.entry) (point_room w.entry) kept drops) in
     rw p.left (first_shown r i kept drops w.entry counts)
 
 -- two orders of one contour, in rows of equal lengths: the answer and what is written are equal
-pub equal_orders : {i : Inputs} {c : Cleaning} {w w' : Both Rows Rows} {r r' : D.Cleaned} → places_of w.entry ≡ places_of w'.entry →
+pub equal_orders : {i : Inputs} {c : Cleaning} {w w' : Both Rows Rows} {r r' : Result Cleaned Refusal} → places_of w.entry ≡ places_of w'.entry →
     Sifts i c w r → Sifts i c w' r' →
     Same r r' (first_of r w.exit) (first_of r' w'.exit)
 equal_orders {i} {c} {w} {w'} {r} {r'} e p p' =
@@ -103,7 +101,7 @@ equal_orders {i} {c} {w} {w'} {r} {r'} e p p' =
 
 -- ---- putting back
 
-pub put_determined : {i : Inputs} {drops : ℕ} {spots : List (List ℕ)} {w w' : Both Outputs Outputs} {r r' : R.Restored} → w.entry ≡ w'.entry →
+pub put_determined : {i : Inputs} {drops : ℕ} {spots : List (List ℕ)} {w w' : Both Outputs Outputs} {r r' : Result ℕ Refusal} → w.entry ≡ w'.entry →
     Restores i drops spots w r → Restores i drops spots w' r' → Same r r' w.exit w'.exit
 put_determined {i} {drops} {spots} {w} {w'} {r} {r'} e p p' =
     let answer : r ≡ r' = p.answer ∙ rw e (sym p'.answer) in
@@ -117,9 +115,9 @@ pub record PointPlaces : Type 0 where
 abbrev pub point_places : Outputs → PointPlaces
 point_places (outputs ox oy of) = record { x = length ox; y = length oy; flags = length of }
 
-abbrev pub first_points : R.Restored → Outputs → Outputs
-first_points (Restored.Refused k) o = outputs [] [] []
-first_points (Restored.Points n) (outputs ox oy of) = outputs (take n ox) (take n oy) (take n of)
+abbrev pub first_points : Result ℕ Refusal → Outputs → Outputs
+first_points (Err k) o = outputs [] [] []
+first_points (Ok n) (outputs ox oy of) = outputs (take n ox) (take n oy) (take n of)
 
 same_room : (o o' : Outputs) → point_places o ≡ point_places o' → output_room o ≡ output_room o'
 same_room (outputs ox oy of) (outputs ox' oy' of') e = ap (λ (p : PointPlaces). min (min p.x p.y) p.flags) e
@@ -155,18 +153,18 @@ length_spots n list =
     length_back copied_spot (kept_spot n) 0 list (map kept_spot (up_from 0 n))
     ∙ ap (λ (k : ℕ). k + length list) (length-map (up_from 0 n) kept_spot ∙ length_up 0 n)
 
-abbrev total_of : R.Restored → ℕ → Type 0
-total_of (Restored.Refused k) n = Unit {0}
-total_of (Restored.Points m) n = m ≡ n
+abbrev total_of : Result ℕ Refusal → ℕ → Type 0
+total_of (Err k) n = Unit {0}
+total_of (Ok m) n = m ≡ n
 
-totals : (j : Judged) (n : ℕ) → total_of (unless_refused j n) n
-totals (Judged.Refused k) n = tt
-totals Judged.Fine n = refl
+totals : (j : Result Unit Refusal) (n : ℕ) → total_of (unless_refused j n) n
+totals (Err k) n = tt
+totals (Ok tt) n = refl
 
-first_points_lem : (r : R.Restored) (i : Inputs) (spots : List (List ℕ)) (o o' : Outputs) → total_of r (length spots) →
+first_points_lem : (r : Result ℕ Refusal) (i : Inputs) (spots : List (List ℕ)) (o o' : Outputs) → total_of r (length spots) →
     first_points r (left_back r i spots o) ≡ first_points r (left_back r i spots o')
-first_points_lem (Restored.Refused k) i spots o o' h = refl
-first_points_lem (Restored.Points n) (inputs xs ys fs) spots (outputs ox oy of) (outputs ox' oy' of') h =
+first_points_lem (Err k) i spots o o' h = refl
+first_points_lem (Ok n) (inputs xs ys fs) spots (outputs ox oy of) (outputs ox' oy' of') h =
     let x = length-map spots (spot_x xs) ∙ sym h in
     let y = length-map spots (spot_x ys) ∙ sym h in
     let f = length-map spots (spot_bit fs) ∙ sym h in
@@ -190,7 +188,7 @@ pub counted_back : (i : Inputs) (list : List (List ℕ)) → Counted i (length l
 counted_back (inputs xs ys fs) list = length_spots (length fs) list
 
 -- two orders of the same points and spots, in rows of equal lengths
-pub put_equal_orders : {i : Inputs} {drops : ℕ} {spots : List (List ℕ)} {w w' : Both Outputs Outputs} {r r' : R.Restored} → Counted i drops spots →
+pub put_equal_orders : {i : Inputs} {drops : ℕ} {spots : List (List ℕ)} {w w' : Both Outputs Outputs} {r r' : Result ℕ Refusal} → Counted i drops spots →
     point_places w.entry ≡ point_places w'.entry →
     Restores i drops spots w r → Restores i drops spots w' r' → Same r r' (first_points r w.exit) (first_points r' w'.exit)
 put_equal_orders {i} {drops} {spots} {w} {w'} {r} {r'} count e p p' =

@@ -1,16 +1,15 @@
 -- What the cleaning entry hands back and leaves in every lent row. Definitions only.
-use Rattle.std.specs.Prelude.{ℕ, min, ◌+◌, ◌-◌, ◌%◌, Bool, true, false, List, map, ◌≡◌, ltb, ℤ, pos, length, get_or}
+use Rattle.std.specs.Prelude.{ℕ, min, ◌+◌, ◌-◌, ◌%◌, Bool, true, false, List, map, ◌≡◌, ltb, ℤ, pos, length, get_or, Result, Ok, Err}
 use denote.Triple.Both.{Both}
 use Rattle.refusals.specs.Refusals.{rows_differ, no_point, judged, refuse}
-use Rattle.refusals.specs.declared.Judged.{Judged}
+use Rattle.refusals.specs.declared.refusal.Refusal.TheVariants.{UnevenRows, NoPoint, TooManyPoints, OutputTooShort, ListTooShort}
+use Rattle.refusals.specs.declared.refusal.Refusal.{Refusal}
+use Rattle.refusals.specs.Number as Number
 use Rattle.contour.specs.Output.{Outputs, outputs, front}
 use Rattle.rows.specs.Lent.{Lent, before, after, Inputs, inputs}
 use Rattle.clean.specs.Clean.{Cleaning, cleaned, clean_of}
 use Rattle.clean.specs.PutBack.{number_of, why_of, bit_by, spots_of}
-use Rattle.clean.specs.declared.Restored as R
-use Rattle.clean.specs.declared.Restored.TheVariants as Restored
-use Rattle.clean.specs.declared.Cleaned as D
-use Rattle.clean.specs.declared.Cleaned.TheVariants as Cleaned
+use Rattle.clean.specs.declared.Cleaned.{Cleaned}
 
 -- ---- points by their numbers
 
@@ -50,49 +49,49 @@ pub record Report : Type 0 where
   pub kept : ℕ
   pub dropped : ℕ
 
-abbrev pub refusing : ℕ → Report
-refusing k = record { number = k; kept = 0; dropped = 0 }
+abbrev pub refusing : Refusal → Report
+refusing k = record { number = Number.number_of k; kept = 0; dropped = 0 }
 
 abbrev pub keeping : ℕ → ℕ → Report
 keeping n m = record { number = 0; kept = n; dropped = m }
 
-abbrev pub report : D.Cleaned → Report
-report (Cleaned.Refused k) = refusing k
-report (Cleaned.Points n m) = keeping n m
+abbrev pub report : Result Cleaned Refusal → Report
+report (Err k) = refusing k
+report (Ok c) = keeping c.kept c.dropped
 
-abbrev pub judged_of : Inputs → Judged
+abbrev pub judged_of : Inputs → Result Unit Refusal
 judged_of (inputs xs ys fs) = judged xs ys fs
 
 abbrev pub cleaning_of : Inputs → Cleaning
 cleaning_of (inputs xs ys fs) = clean_of xs ys fs (length fs - 1)
 
 -- what becomes of a contour: said by an answer, or by the documents' values
-module _ {A : Type 0} (refused : ℕ → A) (points-said : ℕ → ℕ → A) where
-  abbrev pub refuse_if : ℕ → Bool → A → A
+module _ {A : Type 0} (refused : Refusal → A) (points-said : ℕ → ℕ → A) where
+  abbrev pub refuse_if : Refusal → Bool → A → A
   refuse_if k true later = refused k
   refuse_if k false later = later
 
   -- 18: the list row is too short for the drops; last 9: an output row is too short for the points kept
   abbrev pub said_in : ℕ → ℕ → Cleaning → A
   said_in list points (cleaned kept drops) =
-      refuse_if 18 (ltb list (length drops)) (refuse_if 9 (ltb points (length kept)) (points-said (length kept) (length drops)))
+      refuse_if ListTooShort (ltb list (length drops)) (refuse_if OutputTooShort (ltb points (length kept)) (points-said (length kept) (length drops)))
 
   -- 1 to 5 first
-  abbrev pub said_after : Judged → A → A
-  said_after (Judged.Refused k) later = refused k
-  said_after Judged.Fine later = later
+  abbrev pub said_after : Result Unit Refusal → A → A
+  said_after (Err k) later = refused k
+  said_after (Ok tt) later = later
 
   abbrev pub said_of : Inputs → Cleaning → ℕ → ℕ → A
   said_of i c list points = said_after (judged_of i) (said_in list points c)
 
-abbrev pub answer_in : ℕ → ℕ → Cleaning → D.Cleaned
-answer_in = said_in Cleaned.Refused Cleaned.Points
+abbrev pub answer_in : ℕ → ℕ → Cleaning → Result Cleaned Refusal
+answer_in = said_in Err (λ k d. Ok (record { kept = k; dropped = d }))
 
-abbrev pub after_judging : Judged → D.Cleaned → D.Cleaned
-after_judging = said_after Cleaned.Refused Cleaned.Points
+abbrev pub after_judging : Result Unit Refusal → Result Cleaned Refusal → Result Cleaned Refusal
+after_judging = said_after Err (λ k d. Ok (record { kept = k; dropped = d }))
 
-abbrev pub whole_of : Inputs → Cleaning → ℕ → ℕ → D.Cleaned
-whole_of = said_of Cleaned.Refused Cleaned.Points
+abbrev pub whole_of : Inputs → Cleaning → ℕ → ℕ → Result Cleaned Refusal
+whole_of = said_of Err (λ k d. Ok (record { kept = k; dropped = d }))
 
 abbrev pub values_of : Inputs → Cleaning → ℕ → ℕ → Report
 values_of = said_of refusing keeping
@@ -101,23 +100,23 @@ abbrev pub written_in : Inputs → Cleaning → Rows → Rows
 written_in i (cleaned kept drops) (rows o list) = rows (points_into i kept o) (front drops list)
 
 -- a refusal writes nothing
-abbrev pub left_by : D.Cleaned → Inputs → Cleaning → Rows → Rows
-left_by (Cleaned.Refused k) i c r = r
-left_by (Cleaned.Points n m) i c r = written_in i c r
+abbrev pub left_by : Result Cleaned Refusal → Inputs → Cleaning → Rows → Rows
+left_by (Err k) i c r = r
+left_by (Ok n) i c r = written_in i c r
 
 -- of a contour that is cleaned
-pub record Written (i : Inputs) (c : Cleaning) (w : Both Rows Rows) (r : D.Cleaned) : Type 0 where
+pub record Written (i : Inputs) (c : Cleaning) (w : Both Rows Rows) (r : Result Cleaned Refusal) : Type 0 where
   pub answer : r ≡ answer_in (list_room w.entry) (point_room w.entry) c
   pub left : w.exit ≡ left_by r i c w.entry
 
 -- the contract of an entry that keeps and lists what c says: what it hands back, by its case and by the documents' values, and what it leaves in the rows w
-pub record Sifts (i : Inputs) (c : Cleaning) (w : Both Rows Rows) (r : D.Cleaned) : Type 0 where
+pub record Sifts (i : Inputs) (c : Cleaning) (w : Both Rows Rows) (r : Result Cleaned Refusal) : Type 0 where
   pub answer : r ≡ whole_of i c (list_room w.entry) (point_room w.entry)
   pub values : report r ≡ values_of i c (list_room w.entry) (point_room w.entry)
   pub left : w.exit ≡ left_by r i c w.entry
 
 -- the cleaning entry's
-abbrev pub Promise : Inputs → Both Rows Rows → D.Cleaned → Type 0
+abbrev pub Promise : Inputs → Both Rows Rows → Result Cleaned Refusal → Type 0
 Promise i w r = Sifts i (cleaning_of i) w r
 
 -- ---- putting back: kept points and a list
@@ -143,36 +142,36 @@ pub record PutReport : Type 0 where
   pub number : ℕ
   pub points : ℕ
 
-abbrev pub put_refusing : ℕ → PutReport
-put_refusing k = record { number = k; points = 0 }
+abbrev pub put_refusing : Refusal → PutReport
+put_refusing k = record { number = Number.number_of k; points = 0 }
 
 abbrev pub putting : ℕ → PutReport
 putting n = record { number = 0; points = n }
 
-abbrev pub put_report : R.Restored → PutReport
-put_report (Restored.Refused k) = put_refusing k
-put_report (Restored.Points n) = putting n
+abbrev pub put_report : Result ℕ Refusal → PutReport
+put_report (Err k) = put_refusing k
+put_report (Ok n) = putting n
 
 -- 1: the kept rows differ in length; 2: no point is kept; 3: more than 1,024 points with the drops; last 9: an output row is too short for them
-abbrev pub judged_back : ℕ → ℕ → ℕ → ℕ → ℕ → Judged
+abbrev pub judged_back : ℕ → ℕ → ℕ → ℕ → ℕ → Result Unit Refusal
 judged_back x y n drops room =
-    refuse 1 (rows_differ x y n)
-    (refuse 2 (no_point n) (refuse 3 (ltb 1024 (n + drops)) (refuse 9 (ltb room (n + drops)) Judged.Fine)))
+    refuse UnevenRows (rows_differ x y n)
+    (refuse NoPoint (no_point n) (refuse TooManyPoints (ltb 1024 (n + drops)) (refuse OutputTooShort (ltb room (n + drops)) (Ok tt))))
 
 -- said by an answer, or by these values
-module _ {A : Type 0} (refused back : ℕ → A) where
-  abbrev pub said_back : Judged → ℕ → A
-  said_back (Judged.Refused k) n = refused k
-  said_back Judged.Fine n = back n
+module _ {A : Type 0} (refused : Refusal → A) (back : ℕ → A) where
+  abbrev pub said_back : Result Unit Refusal → ℕ → A
+  said_back (Err k) n = refused k
+  said_back (Ok tt) n = back n
 
   abbrev pub back_of : Inputs → ℕ → ℕ → A
   back_of (inputs xs ys fs) drops room = said_back (judged_back (length xs) (length ys) (length fs) drops room) (length fs + drops)
 
-abbrev pub unless_refused : Judged → ℕ → R.Restored
-unless_refused = said_back Restored.Refused Restored.Points
+abbrev pub unless_refused : Result Unit Refusal → ℕ → Result ℕ Refusal
+unless_refused = said_back Err Ok
 
-abbrev pub restored_of : Inputs → ℕ → ℕ → R.Restored
-restored_of = back_of Restored.Refused Restored.Points
+abbrev pub restored_of : Inputs → ℕ → ℕ → Result ℕ Refusal
+restored_of = back_of Err Ok
 
 abbrev pub put_values_of : Inputs → ℕ → ℕ → PutReport
 put_values_of = back_of put_refusing putting
@@ -181,15 +180,15 @@ abbrev pub spots_for : Inputs → List (List ℕ) → List (List ℕ)
 spots_for (inputs xs ys fs) list = spots_of (length fs) list
 
 -- by where each point comes from
-abbrev pub left_back : R.Restored → Inputs → List (List ℕ) → Outputs → Outputs
-left_back (Restored.Refused k) i spots o = o
-left_back (Restored.Points n) i spots o = spots_into i spots o
+abbrev pub left_back : Result ℕ Refusal → Inputs → List (List ℕ) → Outputs → Outputs
+left_back (Err k) i spots o = o
+left_back (Ok n) i spots o = spots_into i spots o
 
 -- the contract of an entry that puts so many drops back by these spots
-pub record Restores (i : Inputs) (drops : ℕ) (spots : List (List ℕ)) (w : Both Outputs Outputs) (r : R.Restored) : Type 0 where
+pub record Restores (i : Inputs) (drops : ℕ) (spots : List (List ℕ)) (w : Both Outputs Outputs) (r : Result ℕ Refusal) : Type 0 where
   pub answer : r ≡ restored_of i drops (output_room w.entry)
   pub values : put_report r ≡ put_values_of i drops (output_room w.entry)
   pub left : w.exit ≡ left_back r i spots w.entry
 
-abbrev pub PutPromise : Inputs → List (List ℕ) → Both Outputs Outputs → R.Restored → Type 0
+abbrev pub PutPromise : Inputs → List (List ℕ) → Both Outputs Outputs → Result ℕ Refusal → Type 0
 PutPromise i list w r = Restores i (length list) (spots_for i list) w r

@@ -3,6 +3,7 @@
 use Rattle.std.specs.Prelude.{ℕ, zero, suc, ◌+◌, ◌-◌, ◌≤◌, ◌<◌, Bool, true, false, ◌&&◌, List, [], ◌∷◌, ◌++◌, ◌≡◌, ltb, length, take, set}
 use Rattle.clean.specs.Clean.{for_before, for_both, for_first, or_else, next_in, Cleaning, cleaned, is_before, is_both}
 use Rattle.clean.specs.declared.Passed.{Passed}
+use Rattle.clean.specs.declared.Cleaned.{Cleaned}
 
 abbrev pub pick_number : Bool → ℕ → ℕ → ℕ
 pick_number true a b = a
@@ -59,6 +60,10 @@ pub record Roomy (n kept_row goneRow : ℕ) : Type 0 where
   pub few : n ≤ 1024
   pub kept : n ≤ kept_row
   pub gone : n ≤ goneRow
+
+abbrev pub counted_as : ℕ → Cleaned → Cleaned
+counted_as zero at = record { kept = at.kept + 1; dropped = at.dropped }
+counted_as (suc w) at = record { kept = at.kept; dropped = at.dropped + 1 }
 
 abbrev pub numbered_as : ℕ → ℕ → Passed → Passed
 numbered_as zero i at = record { last = i; kept = at.kept + 1; dropped = at.dropped }

@@ -1,7 +1,6 @@
 -- What W11 asks to be proved of a cleaning, as types; a theorem of proofs/Theorems or proofs/Back is of each. Definitions and statements only.
-use Rattle.std.specs.Prelude.{ℕ, ◌+◌, ◌-◌, Bool, true, false, List, [], ◌∷◌, map, ◌≡◌, eqb, ℤ, length}
+use Rattle.std.specs.Prelude.{ℕ, ◌+◌, ◌-◌, Bool, true, false, List, [], ◌∷◌, map, ◌≡◌, eqb, ℤ, length, Ok}
 use Rattle.refusals.specs.Refusals.{judged}
-use Rattle.refusals.specs.declared.Judged.TheVariants.{Fine}
 use Rattle.clean.specs.Clean.{on_place, same_place, cleaned, up_from, clean_of}
 use Rattle.clean.specs.Pass.{swept}
 use Rattle.clean.specs.PutBack.{number_of, put_back, spots_of, Point, point, copied_for, past_end, point_at}
@@ -13,14 +12,14 @@ after fs = up_from 1 (length fs - 1)
 
 -- an upload that 1 to 5 let through, the numbers of its points that are kept, and the list
 pub record CleanedTo (xs ys : List ℤ) (fs kept : List ℕ) (drops : List (List ℕ)) : Type 0 where
-  pub fine : judged xs ys fs ≡ Fine
+  pub fine : judged xs ys fs ≡ Ok tt
   pub is : clean_of xs ys fs (length fs - 1) ≡ cleaned kept drops
 
 -- ---- one pass over the upload drops what the rule drops, lowest place first and from the start each time
 
 abbrev pub OnePassCleans : Type 0
 OnePassCleans =
-    (xs ys : List ℤ) (fs : List ℕ) → judged xs ys fs ≡ Fine →
+    (xs ys : List ℤ) (fs : List ℕ) → judged xs ys fs ≡ Ok tt →
     swept (on_place fs) (same_place xs ys) 0 (after fs) ≡ clean_of xs ys fs (length fs - 1)
 
 -- ---- every point not listed is kept in order
@@ -56,7 +55,7 @@ flags_left fs kept = map (bit_in fs) kept
 
 -- it is refused by none of 1 to 5; and cleaning twice drops nothing more
 pub record Left (xs ys : List ℤ) (fs kept : List ℕ) : Type 0 where
-  pub fine : judged (coordinates_left xs kept) (coordinates_left ys kept) (flags_left fs kept) ≡ Fine
+  pub fine : judged (coordinates_left xs kept) (coordinates_left ys kept) (flags_left fs kept) ≡ Ok tt
   pub twice :
       clean_of (coordinates_left xs kept) (coordinates_left ys kept) (flags_left fs kept) (length kept - 1) ≡ cleaned (up_from 0 (length kept)) []
 

@@ -9,73 +9,53 @@ ghost use Rattle.contour.specs.Implied.{same};
 ghost use Rattle.contour.specs.Output.{front, outputs};
 ghost use Rattle.rows.specs.Lent.{before, after, contour};
 ghost use Rattle.clean.specs.Clean.{same_place, on_place, is_before, is_both, up_from, clean_of, cleaned};
-ghost use Rattle.clean.specs.Pass.{repeats, after_of, numbered_as, start_of, passing, ends_first, Closed, Stands, Holds, Roomy};
+ghost use Rattle.clean.specs.Pass.{repeats, after_of, counted_as, numbered_as, start_of, passing, ends_first, Closed, Stands, Holds, Roomy};
 ghost use Rattle.clean.specs.PutBack.{mark_for, copied_spot, kept_spot, insert_at, restored, put_back, bit_by, spots_of};
 ghost use Rattle.clean.specs.Entry.{coordinate_in, bit_in, points_into, cleaning_of, lent, Written, Promise};
 ghost use Rattle.clean.specs.Entry.{spot_x, spot_bit, spots_into, judged_back, lent_outputs, PutPromise};
 
-use refusals::Judged;
+use refusals::Refusal;
 
-// What cleaning answers.
-#[derive(Clone, Copy)]
-pub enum Cleaned {
-    // the number of a refusal
-    Refused(u8),
-    // points kept, points dropped
-    Points(usize, usize),
-}
-
-// What putting back answers.
-#[derive(Clone, Copy)]
-pub enum Restored {
-    // the number of a refusal
-    Refused(u8),
-    // points written
-    Points(usize),
+// How many points are kept and dropped.
+#[derive(Clone, Copy, Debug, PartialEq, Eq)]
+pub struct Cleaned {
+    pub kept: usize,
+    pub dropped: usize,
 }
 
 // Where a pass over the points is: the number of the last point kept, and how many are kept and dropped so far.
-#[derive(Clone, Copy)]
+#[derive(Clone, Copy, Debug, PartialEq, Eq)]
 pub struct Passed {
     pub last: usize,
     pub kept: usize,
     pub dropped: usize,
 }
 
-// A coordinate by its number, 0 past the end.
-fn coordinate(row: &[i16], i: usize) -> i16
-    ensures { result ≡ get_or row.now i (pos 0) }
+// What a row holds at a place, and something else past its end.
+fn at_or<T: Copy>(row: &[T], i: usize, past: T) -> T
+    ensures { result ≡ get_or row.now i past }
 {
-    if i < row.len() { row[i] } else { 0 }
-}
-
-fn flag(row: &[u8], i: usize) -> u8
-    ensures { result ≡ get_or row.now i 0 }
-{
-    if i < row.len() { row[i] } else { 0 }
+    if i < row.len() { row[i] } else { past }
 }
 
 // Whether coordinates a and b of a row are equal.
 fn same_in(row: &[i16], a: usize, b: usize) -> bool
     ensures { result ≡ same (get_or row.now a (pos 0)) (get_or row.now b (pos 0)) }
 {
-    coordinate(row, a) == coordinate(row, b)
+    at_or(row, a, 0) == at_or(row, b, 0)
 }
 
 // Whether points a and b are equal in x and y.
 pub fn same_place(xs: &[i16], ys: &[i16], a: usize, b: usize) -> bool
     ensures { result ≡ same_place xs.now ys.now a b }
 {
-    if same_in(xs, a, b) {
-        return same_in(ys, a, b);
-    }
-    false
+    same_in(xs, a, b) && same_in(ys, a, b)
 }
 
 pub fn on_place(flags: &[u8], i: usize) -> bool
     ensures { result ≡ on_place flags.now i }
 {
-    refusals::is_on(flag(flags, i))
+    refusals::is_on(at_or(flags, i, 0))
 }
 
 // The number after i, of n, going round.
@@ -90,26 +70,14 @@ pub fn following(i: usize, n: usize) -> usize
 fn is_before(xs: &[i16], ys: &[i16], flags: &[u8], last: usize, i: usize) -> bool
     ensures { result ≡ is_before (on_place flags.now) (same_place xs.now ys.now) 0 last i }
 {
-    if !on_place(flags, i) {
-        return false;
-    }
-    if !on_place(flags, last) {
-        return false;
-    }
-    same_place(xs, ys, i, last)
+    on_place(flags, i) && on_place(flags, last) && same_place(xs, ys, i, last)
 }
 
 // For both: off-curve and equal to both neighbours.
 fn is_both(xs: &[i16], ys: &[i16], flags: &[u8], last: usize, i: usize, next: usize) -> bool
     ensures { result ≡ is_both (on_place flags.now) (same_place xs.now ys.now) 0 last i next }
 {
-    if on_place(flags, i) {
-        return false;
-    }
-    if !same_place(xs, ys, i, last) {
-        return false;
-    }
-    same_place(xs, ys, i, next)
+    !on_place(flags, i) && same_place(xs, ys, i, last) && same_place(xs, ys, i, next)
 }
 
 // Why point i goes after the last point kept, whatever comes at the end: 1 before, 2 both, 0 neither.
@@ -124,6 +92,25 @@ fn repeats(xs: &[i16], ys: &[i16], flags: &[u8], last: usize, i: usize) -> u32
         return 2;
     }
     0
+}
+
+impl Cleaned {
+    // One point more: kept where w is 0.
+    pub fn next(self, w: u32) -> Cleaned
+        requires { (self.kept ≤ 1024) × (self.dropped ≤ 1024) }
+        ensures { result ≡ counted_as w self }
+    {
+        if w == 0 {
+            return Cleaned {
+                kept: self.kept + 1,
+                dropped: self.dropped,
+            };
+        }
+        Cleaned {
+            kept: self.kept,
+            dropped: self.dropped + 1,
+        }
+    }
 }
 
 impl Passed {
@@ -160,15 +147,13 @@ fn pass(xs: &[i16], ys: &[i16], flags: &[u8], kept: &mut [u32], gone: &mut [[u32
         kept: 1,
         dropped: 0,
     };
-    let mut i = 1;
-    while i < flags.len() {
+    for i in 1..flags.len() {
         let w = repeats(xs, ys, flags, at.last, i);
         let k = at.kept;
         let d = at.dropped;
         kept[k] = i as u32;
         gone[d] = [i as u32, w];
         at = at.next(i, w);
-        i += 1;
     }
     at
 }
@@ -177,13 +162,7 @@ fn pass(xs: &[i16], ys: &[i16], flags: &[u8], kept: &mut [u32], gone: &mut [[u32
 fn ends_first(xs: &[i16], ys: &[i16], flags: &[u8], at: Passed) -> bool
     ensures { result ≡ ends_first (on_place flags.now) (same_place xs.now ys.now) at }
 {
-    if at.kept <= 1 {
-        return false;
-    }
-    if !on_place(flags, at.last) {
-        return false;
-    }
-    same_place(xs, ys, at.last, 0)
+    1 < at.kept && on_place(flags, at.last) && same_place(xs, ys, at.last, 0)
 }
 
 // After the pass: the last point kept may go for first.
@@ -220,7 +199,7 @@ fn copy_coordinates(row: &[i16], numbers: &[u32], n: usize, out: &mut [i16])
     ensures { after out ≡ front (map (coordinate_in row.now) (take n numbers.now)) (before out) }
 {
     for i in 0..n {
-        out[i] = coordinate(row, numbers[i] as usize);
+        out[i] = at_or(row, numbers[i] as usize, 0);
     }
 }
 
@@ -230,7 +209,7 @@ fn copy_flags(row: &[u8], numbers: &[u32], n: usize, out: &mut [u8])
     ensures { after out ≡ front (map (bit_in row.now) (take n numbers.now)) (before out) }
 {
     for i in 0..n {
-        out[i] = flag(row, numbers[i] as usize) % 2;
+        out[i] = at_or(row, numbers[i] as usize, 0) % 2;
     }
 }
 
@@ -239,9 +218,7 @@ fn copy_list(gone: &[[u32; 2]], n: usize, list: &mut [[u32; 2]])
     requires { (n ≤ length gone.now) × (n ≤ length list.old) }
     ensures { after list ≡ front (take n gone.now) (before list) }
 {
-    for i in 0..n {
-        list[i] = gone[i];
-    }
+    list[..n].copy_from_slice(&gone[..n]);
 }
 
 // The points with the first n numbers, to the first n places of the output rows.
@@ -277,19 +254,22 @@ pub fn write_cleaned(
     oy: &mut [i16],
     of: &mut [u8],
     list: &mut [[u32; 2]],
-) -> Cleaned
+) -> Result<Cleaned, Refusal>
     requires { (k ≤ length kept.now) × (d ≤ length gone.now) }
     ensures { Written (contour xs ys flags) (cleaned (take k kept.now) (take d gone.now)) (lent ox oy of list) result }
 {
     if list.len() < d {
-        return Cleaned::Refused(18);
+        return Err(Refusal::ListTooShort);
     }
     if rows::least(rows::least(ox.len(), oy.len()), of.len()) < k {
-        return Cleaned::Refused(9);
+        return Err(Refusal::OutputTooShort);
     }
     write_points(xs, ys, flags, kept, k, ox, oy, of);
     copy_list(gone, d, list);
-    Cleaned::Points(k, d)
+    Ok(Cleaned {
+        kept: k,
+        dropped: d,
+    })
 }
 
 // A contour that none of refusals 1 to 5 is given for.
@@ -301,7 +281,7 @@ fn clean_fine(
     oy: &mut [i16],
     of: &mut [u8],
     list: &mut [[u32; 2]],
-) -> Cleaned
+) -> Result<Cleaned, Refusal>
     requires { Accepted xs.now ys.now flags.now }
     ensures { Written (contour xs ys flags) (cleaning_of (contour xs ys flags)) (lent ox oy of list) result }
 {
@@ -322,13 +302,11 @@ pub fn clean_contour(
     oy: &mut [i16],
     of: &mut [u8],
     list: &mut [[u32; 2]],
-) -> Cleaned
+) -> Result<Cleaned, Refusal>
     ensures { Promise (contour xs ys flags) (lent ox oy of list) result }
 {
-    match refusals::judge(xs, ys, flags) {
-        Judged::Refused(k) => Cleaned::Refused(k),
-        Judged::Fine => clean_fine(xs, ys, flags, ox, oy, of, list),
-    }
+    refusals::judge(xs, ys, flags)?;
+    clean_fine(xs, ys, flags, ox, oy, of, list)
 }
 
 // ---- putting back
@@ -357,11 +335,9 @@ fn insert(spots: &mut [[u32; 2]], n: usize, q: usize, v: [u32; 2])
     ensures { take (n + 1) (after spots) ≡ insert_at q v (take n (before spots)) }
 {
     spots[n] = v;
-    let mut i = n;
-    while q < i {
-        spots[i] = spots[i - 1];
-        spots[i - 1] = v;
-        i -= 1;
+    for i in (q..n).rev() {
+        spots[i + 1] = spots[i];
+        spots[i] = v;
     }
 }
 
@@ -375,7 +351,7 @@ fn put_in(spots: &mut [[u32; 2]], n: usize, place: usize, why: u32, kept: usize)
         insert(spots, n, n, [first[0], mark(why)]);
         return;
     }
-    let from = spot_at(spots, n, less(place, 1), kept);
+    let from = spot_at(spots, n, place.saturating_sub(1), kept);
     insert(spots, n, rows::least(place, n), [from[0], mark(why)]);
 }
 
@@ -383,13 +359,6 @@ pub fn wide(x: u32) -> usize
     ensures { result ≡ x }
 {
     x as usize
-}
-
-// The difference, or 0.
-pub fn less(a: usize, b: usize) -> usize
-    ensures { result ≡ a - b }
-{
-    if a < b { 0 } else { a - b }
 }
 
 // The kept points alone.
@@ -409,10 +378,14 @@ fn put_all(spots: &mut [[u32; 2]], kept: usize, list: &[[u32; 2]])
         ≡ put_back copied_spot (kept_spot kept) 0 list.now (take kept (before spots)) }
 {
     let mut n = kept;
-    let mut j = list.len();
-    while 0 < j {
-        j -= 1;
-        put_in(spots, n, less(wide(list[j][0]), j), list[j][1], kept);
+    for j in (0..list.len()).rev() {
+        put_in(
+            spots,
+            n,
+            wide(list[j][0]).saturating_sub(j),
+            list[j][1],
+            kept,
+        );
         n += 1;
     }
 }
@@ -422,7 +395,7 @@ fn copy_spots(row: &[i16], spots: &[[u32; 2]], n: usize, out: &mut [i16])
     ensures { after out ≡ front (map (spot_x row.now) (take n spots.now)) (before out) }
 {
     for i in 0..n {
-        out[i] = coordinate(row, wide(spots[i][0]));
+        out[i] = at_or(row, wide(spots[i][0]), 0);
     }
 }
 
@@ -441,7 +414,7 @@ fn copy_bits(row: &[u8], spots: &[[u32; 2]], n: usize, out: &mut [u8])
     ensures { after out ≡ front (map (spot_bit row.now) (take n spots.now)) (before out) }
 {
     for i in 0..n {
-        out[i] = bit_by(spots[i][1], flag(row, wide(spots[i][0])) % 2);
+        out[i] = bit_by(spots[i][1], at_or(row, wide(spots[i][0]), 0) % 2);
     }
 }
 
@@ -490,29 +463,26 @@ fn put_fine(
 fn over(n: usize, m: usize) -> bool
     ensures { result ≡ ltb 1024 (n + m) }
 {
-    if 1024 < n {
-        return true;
-    }
-    1024 - n < m
+    1024 < n || 1024 - n < m
 }
 
 // Refusals 1, 2, 3 and 9, in their order: of kept rows of these lengths, so many drops, and the shortest output row.
-pub fn judge_back(x: usize, y: usize, flag: usize, drops: usize, room: usize) -> Judged
+pub fn judge_back(x: usize, y: usize, flag: usize, drops: usize, room: usize) -> Result<(), Refusal>
     ensures { result ≡ judged_back x y flag drops room }
 {
     if refusals::rows_differ(x, y, flag) {
-        return Judged::Refused(1);
+        return Err(Refusal::UnevenRows);
     }
     if refusals::no_point(flag) {
-        return Judged::Refused(2);
+        return Err(Refusal::NoPoint);
     }
     if over(flag, drops) {
-        return Judged::Refused(3);
+        return Err(Refusal::TooManyPoints);
     }
     if room < flag + drops {
-        return Judged::Refused(9);
+        return Err(Refusal::OutputTooShort);
     }
-    Judged::Fine
+    Ok(())
 }
 
 // The entry: the upload's points, of those kept and the list.
@@ -524,15 +494,11 @@ pub fn put_back(
     ox: &mut [i16],
     oy: &mut [i16],
     of: &mut [u8],
-) -> Restored
+) -> Result<usize, Refusal>
     ensures { PutPromise (contour xs ys flags) list.now (lent_outputs ox oy of) result }
 {
     let room = rows::least(rows::least(ox.len(), oy.len()), of.len());
-    match judge_back(xs.len(), ys.len(), flags.len(), list.len(), room) {
-        Judged::Refused(k) => Restored::Refused(k),
-        Judged::Fine => {
-            put_fine(xs, ys, flags, list, ox, oy, of);
-            Restored::Points(flags.len() + list.len())
-        }
-    }
+    judge_back(xs.len(), ys.len(), flags.len(), list.len(), room)?;
+    put_fine(xs, ys, flags, list, ox, oy, of);
+    Ok(flags.len() + list.len())
 }

@@ -1,4 +1,5 @@
 -- The statements of specs/Kept, by the walk of proofs/Walk. Assumes nothing.
+use Rattle.std.specs.Prelude.{Ok}
 use Prim.Native.Nat.{ℕ, suc, ◌+◌, ◌-◌, ◌%◌, ◌<◌}
 use mathlib.Core.Bool.{Bool, true, false, not, cond, ◌&&◌, false≢true}
 use mathlib.Core.List.{List, [], ◌∷◌, ◌++◌, append-nil, append_assoc, map, reverse, reverse-cons, reverse-reverse}
@@ -9,7 +10,6 @@ use lib.IntN.{ℤ, pos}
 use lib.ListN.{length, get_or, take, drop, length-append, length-drop}
 use lib.Seq.{append_snoc, drop-drop, get_or-drop, get_or_at}
 use Rattle.refusals.specs.Refusals.{judged}
-use Rattle.refusals.specs.declared.Judged.TheVariants.{Fine}
 use Rattle.rows.specs.Sixteen.{SixteenBits}
 use Rattle.geometry.specs.declared.Quad.{Quad}
 use Rattle.geometry.specs.Geometry.{is_line}
@@ -130,7 +130,7 @@ crates_rows = record { start = λ xs ys. record { first = refl; last = refl }; s
 pub starts_on_curve : StartsOnCurve
 starts_on_curve = record { closed = closed_starts; crates = crates_starts; unchanged = unchanged }
   where
-    unchanged : (xs ys : List ℤ) (fs : List ℕ) → SixteenBits xs → SixteenBits ys → judged xs ys fs ≡ Fine → (b : Bool) → StartsOn (finished b (unchanged_in xs ys fs b))
+    unchanged : (xs ys : List ℤ) (fs : List ℕ) → SixteenBits xs → SixteenBits ys → judged xs ys fs ≡ Ok tt → (b : Bool) → StartsOn (finished b (unchanged_in xs ys fs b))
     unchanged xs ys fs sx sy h true =
         let first = first_of (as_uploaded xs ys fs) (uploaded_first xs ys fs (accepted xs ys fs h)) in
         closed_starts (unchanged_in xs ys fs true) (ap (λ (qs : Points). off_curve (get_or qs 0 [])) (in_closed_mode_lem xs ys fs h).row ∙ ap off_curve first)

@@ -1,8 +1,7 @@
 -- What stays of a row when implied points are dropped, for a reader: its start, its outline, whole units. Each statement is a type here, and a theorem of
 -- proofs/Kept is of that type: `start_stays`, `starts_on_curve`, `crates_rows`, `whole_outline_kept`, `no_half_point`, `all_whole`. Definitions and statements only.
-use Rattle.std.specs.Prelude.{ℕ, ◌+◌, ◌-◌, ◌%◌, ◌<◌, Bool, true, false, not, ◌&&◌, List, [], ◌∷◌, ◌++◌, map, ◌≡◌, ℤ, pos, ◌+ℤ◌, length, get_or, take}
+use Rattle.std.specs.Prelude.{ℕ, ◌+◌, ◌-◌, ◌%◌, ◌<◌, Bool, true, false, not, ◌&&◌, List, [], ◌∷◌, ◌++◌, map, ◌≡◌, ℤ, pos, ◌+ℤ◌, length, get_or, take, Ok}
 use Rattle.refusals.specs.Refusals.{judged}
-use Rattle.refusals.specs.declared.Judged.TheVariants.{Fine}
 use Rattle.rows.specs.Sixteen.{SixteenBits}
 use Rattle.geometry.specs.declared.Quad.{Quad}
 use Rattle.outline.specs.declared.Seg.{Seg}
@@ -16,7 +15,7 @@ use Rattle.contour.specs.Standard.{Midpoint}
 pub record StartStays : Type 0 where
   pub row : (ps : Points) → take 1 (finished true ps) ≡ take 1 ps
   pub corner : (s : List ℤ) (ps : Points) → take 1 (finished true (around s ps)) ≡ s ∷ []
-  pub unchanged : (xs ys : List ℤ) (fs : List ℕ) → judged xs ys fs ≡ Fine → take 1 (finished true (unchanged_in xs ys fs true)) ≡ start_point xs ys ∷ []
+  pub unchanged : (xs ys : List ℤ) (fs : List ℕ) → judged xs ys fs ≡ Ok tt → take 1 (finished true (unchanged_in xs ys fs true)) ≡ start_point xs ys ∷ []
 
 -- the first point is on-curve, so there is one; and the last is
 abbrev pub StartsOn : Points → Type 0
@@ -30,7 +29,7 @@ pub record OnBothEnds (ps : Points) : Type 0 where
 pub record StartsOnCurve : Type 0 where
   pub closed : (ps : Points) → StartsOn ps → StartsOn (finished true ps)
   pub crates : (ps : Points) → OnBothEnds ps → StartsOn (finished false ps)
-  pub unchanged : (xs ys : List ℤ) (fs : List ℕ) → SixteenBits xs → SixteenBits ys → judged xs ys fs ≡ Fine → (b : Bool) →
+  pub unchanged : (xs ys : List ℤ) (fs : List ℕ) → SixteenBits xs → SixteenBits ys → judged xs ys fs ≡ Ok tt → (b : Bool) →
       StartsOn (finished b (unchanged_in xs ys fs b))
 
 -- the rows of the crate's mode do: the start, and after it the points of segments and pieces, each of which ends on-curve

@@ -1,8 +1,7 @@
 -- A contour that stays unchanged is written as its own points, for a reader. Each statement is a type here, and a theorem of proofs/Came is of that
 -- type. Definitions and statements only.
-use Rattle.std.specs.Prelude.{ℕ, Bool, true, false, List, [], ◌∷◌, ◌++◌, map, reverse, ◌≡◌, ℤ, length}
+use Rattle.std.specs.Prelude.{ℕ, Bool, true, false, List, [], ◌∷◌, ◌++◌, map, reverse, ◌≡◌, ℤ, length, Ok}
 use Rattle.refusals.specs.Refusals.{is_on, judged}
-use Rattle.refusals.specs.declared.Judged.TheVariants.{Fine}
 use Rattle.rows.specs.Sixteen.{SixteenBits}
 use Rattle.contour.specs.Points.{Points, flag_if, start_point, unchanged_in}
 use Rattle.contour.specs.Implied.{drop_implied, finished}
@@ -31,10 +30,10 @@ pub record InClosedMode (xs ys : List ℤ) (fs : List ℕ) : Type 0 where
 
 -- of every contour of 16-bit points that refusals 1 to 5 let through
 abbrev pub UnchangedInCratesMode : Type 0
-UnchangedInCratesMode = (xs ys : List ℤ) (fs : List ℕ) → SixteenBits xs → SixteenBits ys → judged xs ys fs ≡ Fine → InCratesMode xs ys fs
+UnchangedInCratesMode = (xs ys : List ℤ) (fs : List ℕ) → SixteenBits xs → SixteenBits ys → judged xs ys fs ≡ Ok tt → InCratesMode xs ys fs
 
 abbrev pub UnchangedInClosedMode : Type 0
-UnchangedInClosedMode = (xs ys : List ℤ) (fs : List ℕ) → judged xs ys fs ≡ Fine → InClosedMode xs ys fs
+UnchangedInClosedMode = (xs ys : List ℤ) (fs : List ℕ) → judged xs ys fs ≡ Ok tt → InClosedMode xs ys fs
 
 -- ---- of points as they were uploaded the output rows are given the rows of the upload, and flags 1 or 0
 

@@ -2,7 +2,7 @@
 // dropped. Each contract equates what is left in the row with a definition of specs/.
 #![tactic(auto)]
 
-ghost use Rattle.std.specs.Prelude.{◌≡◌, false, [], ◌∷◌, ◌++◌, reverse, ◌-◌, ◌<◌, ◌≤◌, pos, ◌+ℤ◌, length, take, drop, get_or, set};
+ghost use Rattle.std.specs.Prelude.{◌≡◌, false, [], ◌∷◌, ◌++◌, reverse, ◌-◌, ◌<◌, ◌≤◌, pos, ◌+ℤ◌, length, take, drop, get_or};
 ghost use Rattle.outline.specs.Segments.{previous};
 ghost use Rattle.contour.specs.Points.{on_point, off_point, point_as, start_point, points_of, piece_points, unchanged_points, came_to, unchanged_in};
 ghost use Rattle.contour.specs.Writing.{written, Wrote, Appended, Closed, Holds};
@@ -13,7 +13,7 @@ use geometry::{Point, Quad};
 use outline::Seg;
 
 // So many points are written; over: there were more than the row takes. Once over, it stays over.
-#[derive(Clone, Copy)]
+#[derive(Clone, Copy, Debug, PartialEq, Eq)]
 pub struct Written {
     pub count: usize,
     pub over: bool,
@@ -118,11 +118,9 @@ pub fn unchanged(xs: &[i16], ys: &[i16], flags: &[u8], points: &mut [[i16; 3]]) 
     let m = outline::count(flags);
     let mut w = start(xs, ys, points);
     let mut a = 0;
-    let mut k = 0;
-    while k < m {
+    for _k in 0..m {
         w = push_seg(points, w, outline::read_from(xs, ys, flags, a));
         a = outline::end_of(flags, a);
-        k += 1;
     }
     w
 }
@@ -133,10 +131,8 @@ fn unchanged_closed(xs: &[i16], ys: &[i16], flags: &[u8], points: &mut [[i16; 3]
         (written (length points.old) (came_to xs.now ys.now flags.now (length flags.now))) }
 {
     let mut w = nothing();
-    let mut i = 0;
-    while i < flags.len() {
-        w = push(points, w, point_as(refusals::is_on(flags[i]), xs, ys, i));
-        i += 1;
+    for (i, flag) in flags.iter().enumerate() {
+        w = push(points, w, point_as(refusals::is_on(*flag), xs, ys, i));
     }
     w
 }
@@ -162,17 +158,11 @@ pub fn unchanged_in(
 
 // The point s before the first n, whose last goes.
 fn put_first(points: &mut [[i16; 3]], n: usize, s: [i16; 3])
-    requires { n ≤ length points.old }
+    requires { (0 < n) × (n ≤ length points.old) }
     ensures { points.new ≡ take n (s ∷ points.old) ++ drop n points.old }
 {
-    let mut carried = s;
-    let mut i = 0;
-    while i < n {
-        let p = points[i];
-        points[i] = carried;
-        carried = p;
-        i += 1;
-    }
+    points[..n].rotate_right(1);
+    points[0] = s;
 }
 
 // The start first, and the last piece's end, for which it stands, not again.
@@ -193,27 +183,12 @@ pub fn close(points: &mut [[i16; 3]], w: Written, s: [i16; 3]) -> Written
 
 // ---- reversal
 
-fn swap(points: &mut [[i16; 3]], i: usize, j: usize)
-    requires { (i < length points.old) × (j < length points.old) }
-    ensures { points.new ≡ set (set points.old i (get_or points.old j [])) j (get_or points.old i []) }
-{
-    let p = points[i];
-    points[i] = points[j];
-    points[j] = p;
-}
-
 // Reverses the first n points.
 pub fn reverse(points: &mut [[i16; 3]], n: usize)
     requires { n ≤ length points.old }
     ensures { points.new ≡ reverse (take n points.old) ++ drop n points.old }
 {
-    let mut i = 0;
-    let mut j = n;
-    while i + 1 < j {
-        j -= 1;
-        swap(points, i, j);
-        i += 1;
-    }
+    points[..n].reverse();
 }
 
 // ---- implied points
@@ -263,22 +238,15 @@ fn is_midway(prev: i16, this: i16, next: i16, closed: bool) -> bool
 }
 
 // Whether a point is implied: on-curve between two off-curve ones, and midway in each coordinate.
+#[tactic(auto, unfolding(crate::specs::Implied::is_implied))]
 pub fn is_implied(prev: [i16; 3], this: [i16; 3], next: [i16; 3], closed: bool) -> bool
     ensures { result ≡ is_implied closed prev this next }
 {
-    if is_off(this) {
-        return false;
-    }
-    if !is_off(prev) {
-        return false;
-    }
-    if !is_off(next) {
-        return false;
-    }
-    if !is_midway(prev[0], this[0], next[0], closed) {
-        return false;
-    }
-    is_midway(prev[1], this[1], next[1], closed)
+    !is_off(this)
+        && is_off(prev)
+        && is_off(next)
+        && is_midway(prev[0], this[0], next[0], closed)
+        && is_midway(prev[1], this[1], next[1], closed)
 }
 
 // The place before i, of n, going round.
@@ -304,11 +272,7 @@ fn remove(points: &mut [[i16; 3]], at: usize, n: usize)
     requires { (at < n) × (n ≤ length points.old) }
     ensures { Holds points.new (n - 1) (removed (take n points.old) at) }
 {
-    let mut i = at + 1;
-    while i < n {
-        points[i - 1] = points[i];
-        i += 1;
-    }
+    points[at..n].rotate_left(1);
 }
 
 // Where implied points are looked for first: in closed mode the point at place 0 stays.

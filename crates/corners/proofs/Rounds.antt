@@ -62,12 +62,6 @@ signs_more {xs} {ys} {fs} {m} {marks₀} {s₀} {marks} {s} {a} {k} {g} {c} {t} 
       place_is = rw (place_more, ea, r.place_is);
     }
 
-pub signs_all : {xs ys : List ℤ} {fs : List ℕ} {m : ℕ} {marks₀ : List Bool} {s₀ : Point} {marks : List Bool} {s : Point} {a k : ℕ} →
-    Signs xs ys fs m marks₀ s₀ marks s a k → m ≤ k → (marks ≡ marked (turn_at xs ys fs s₀) m marks₀) × (s ≡ state_at xs ys fs s₀ m)
-signs_all {xs} {ys} {fs} {m} {marks₀} {s₀} r h =
-    let end = le_antisymm r.within h in
-    (r.marks_are ∙ ap (λ (n : ℕ). marked (turn_at xs ys fs s₀) n marks₀) end, r.state_is ∙ ap (state_at xs ys fs s₀) end)
-
 -- ---- tangents: after k segments
 
 pub record Tangents (xs ys : List ℤ) (fs : List ℕ) (m : ℕ) (marks₀ marks : List Bool) (before : Point) (a k : ℕ) : Type 0 where

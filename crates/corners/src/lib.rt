@@ -24,7 +24,7 @@ pub fn turns_y(s: Point, c: Point) -> bool
 pub fn turns(s: Point, c: Point) -> bool
     ensures { result ≡ turns s c }
 {
-    if turns_x(s, c) { true } else { turns_y(s, c) }
+    turns_x(s, c) || turns_y(s, c)
 }
 
 fn kept(old: f64, new: f64) -> f64
@@ -49,11 +49,7 @@ pub fn after_turn(turned: bool, s: Point, c: Point) -> Point
 pub fn is_zero(d: Point) -> bool
     ensures { result ≡ zero_tangent d }
 {
-    if float::is_close(d.x, 0.0) {
-        float::is_close(d.y, 0.0)
-    } else {
-        false
-    }
+    float::is_close(d.x, 0.0) && float::is_close(d.y, 0.0)
 }
 
 // A corner by angle: a half turn is none. The square of 0.02 lies between 1 / 4096 and 1 / 2048, and only
@@ -63,14 +59,12 @@ pub fn is_angle(d0: Point, d1: Point) -> bool
 {
     let bend = d1.x * d0.y - d0.x * d1.y;
     let both = d0.square_norm() * d1.square_norm();
-    if 0.5 < both {
-        if both < 1e20 {
-            if 0.00048828125 * both < bend * bend {
-                return true;
-            }
-            if bend * bend < 0.000244140625 * both {
-                return false;
-            }
+    if 0.5 < both && both < 1e20 {
+        if 0.00048828125 * both < bend * bend {
+            return true;
+        }
+        if bend * bend < 0.000244140625 * both {
+            return false;
         }
     }
     float::abs(bend / (d0.norm() * d1.norm())) > 0.02
@@ -80,32 +74,14 @@ pub fn is_angle(d0: Point, d1: Point) -> bool
 fn bends(d0: Point, d1: Point) -> bool
     ensures { result ≡ tangent_corner d0 d1 }
 {
-    if is_zero(d0) {
-        return true;
-    }
-    if is_zero(d1) {
-        return true;
-    }
-    is_angle(d0, d1)
-}
-
-fn clear(marks: &mut [bool])
-    ensures { marks.new ≡ none (length marks.old) }
-{
-    let mut i = 0;
-    while i < marks.len() {
-        marks[i] = false;
-        i += 1;
-    }
+    is_zero(d0) || is_zero(d1) || is_angle(d0, d1)
 }
 
 fn mark_if(test: bool, marks: &mut [bool], k: usize)
     ensures { marks.new ≡ mark_if test marks.old k }
 {
-    if test {
-        if k < marks.len() {
-            marks[k] = true;
-        }
+    if test && k < marks.len() {
+        marks[k] = true;
     }
 }
 
@@ -123,14 +99,12 @@ fn sign_round(
 {
     let mut s = from;
     let mut a = 0;
-    let mut k = 0;
-    while k < m {
+    for k in 0..m {
         let c = outline::read_from(xs, ys, flags, a).chord();
         let turned = turns(s, c);
         mark_if(turned, marks, k);
         s = after_turn(turned, s, c);
         a = outline::end_of(flags, a);
-        k += 1;
     }
     s
 }
@@ -138,7 +112,7 @@ fn sign_round(
 fn last_of(m: usize) -> usize
     ensures { result ≡ m - 1 }
 {
-    if m == 0 { 0 } else { m - 1 }
+    m.saturating_sub(1)
 }
 
 // The tangent at the end of the last of m segments, which the first one follows.
@@ -154,13 +128,11 @@ fn tangent_round(xs: &[i16], ys: &[i16], flags: &[u8], m: usize, marks: &mut [bo
 {
     let mut before = last_arriving(xs, ys, flags, m);
     let mut a = 0;
-    let mut k = 0;
-    while k < m {
+    for k in 0..m {
         let s = outline::read_from(xs, ys, flags, a);
         mark_if(bends(before, s.leaving()), marks, k);
         before = s.arriving();
         a = outline::end_of(flags, a);
-        k += 1;
     }
 }
 
@@ -170,7 +142,7 @@ pub fn segment_sp(xs: &[i16], ys: &[i16], flags: &[u8], marks: &mut [bool]) -> u
     ensures marks { marks.new ≡ corners_of xs.now ys.now flags.now (length marks.old) }
     ensures count { result ≡ count_of flags.now }
 {
-    clear(marks);
+    marks.fill(false);
     let m = outline::count(flags);
     let s = sign_round(xs, ys, flags, m, Point { x: 0.0, y: 0.0 }, marks);
     sign_round(xs, ys, flags, m, s, marks);

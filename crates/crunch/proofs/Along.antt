@@ -1,5 +1,6 @@
 -- What holds of the points while a contour's runs are worked holds at the end, and of the row that comes out, before implied points are dropped. One law
 -- for whatever is carried along the runs. Assumes nothing.
+use Rattle.std.specs.Prelude.{Some, Result, Ok, Err}
 use Prim.Native.Nat.{ℕ}
 use native.Mathlib.Omega.{arith}
 use mathlib.Core.Bool.{Bool, true, false, not}
@@ -10,15 +11,16 @@ use lib.IntN.{ℤ}
 use lib.ListN.{length}
 use Rattle.geometry.specs.declared.Quad.{Quad}
 use Rattle.refusals.specs.Refusals.{refuse, judged}
-use Rattle.refusals.specs.declared.Judged.{Judged}
+use Rattle.refusals.specs.declared.refusal.Refusal.TheVariants.{NoSuchPenalty}
+use Rattle.refusals.specs.declared.refusal.Refusal.{Refusal}
 use Rattle.outline.specs.declared.Seg.{Seg}
 use Rattle.outline.specs.Segments.{seg_at, start_of}
-use Rattle.runs.specs.Runs.{Span, between, stops_of, is_copied}
-use Rattle.runs.specs.declared.Run.TheVariants.{Between}
+use Rattle.runs.specs.Runs.{between, stops_of, is_copied}
+use Rattle.runs.specs.declared.Run.{Run}
 use Rattle.settings.specs.Settings.{settings_fine, then_settings, judged_for}
 use Rattle.settings.specs.declared.Settings.{Settings}
 use Rattle.optimize.specs.declared.Tally.{Tally}
-use Rattle.edition.specs.Edition.{Result, Rooms}
+use Rattle.edition.specs.Edition.{RunOutcome, Rooms}
 use Rattle.edition.specs.Edition as Edition
 use Rattle.contour.specs.Points.{Points, points_of, pieces_points, point_as, start_point, unchanged_in, around}
 use Rattle.contour.specs.Implied.{finished}
@@ -30,7 +32,7 @@ use Rattle.crunch.specs.Crunch.{Outcome, crunched, over_if, outcome_of, after_ju
 
 -- of the points where the work goes on, and where it ended
 pub data Along (Going Ended : Points → Type 0) : State → Type 0 where
-  no : (k : ℕ) → Along Going Ended (State.refused k)
+  no : (k : Refusal) → Along Going Ended (State.refused k)
   ends : {ps : Points} {tally : Tally} → Ended ps → Along Going Ended (ended ps tally)
   goes : {ps : Points} {tally : Tally} → Going ps → Along Going Ended (going ps tally)
 
@@ -48,22 +50,22 @@ module _ (While Done Ended : Points → Type 0) (xs ys : List ℤ) (fs : List �
     pub unchanged : Ended (unchanged_in xs ys fs closed)
 
   module _ (rooms : Rooms) (settings : Settings) (carried : Carried settings.closed) where
-    added_along : (x : Result) {ps : Points} (tally : Tally) → While ps → Along While Ended (added (itself rooms settings xs ys fs) x ps tally)
+    added_along : (x : RunOutcome) {ps : Points} (tally : Tally) → While ps → Along While Ended (added (itself rooms settings xs ys fs) x ps tally)
     added_along (Edition.refused k) tally h = no k
     added_along (Edition.unchanged p) tally h = ends carried.unchanged
     added_along (Edition.solved a p) {ps} tally h = goes (carried.pieces ps (quads_of a) h)
 
-    run_along : (copied : Bool) (r : Span) {ps : Points} (tally : Tally) → While ps → Along While Ended (run_if rooms settings xs ys fs copied r ps tally)
+    run_along : (copied : Bool) (r : Run) {ps : Points} (tally : Tally) → While ps → Along While Ended (run_if rooms settings xs ys fs copied r ps tally)
     run_along true r {ps} tally h = goes (carried.segment ps (seg_at xs ys fs r.first) h)
     run_along false r tally h = added_along (result_of rooms settings xs ys fs r) tally h
 
-    onward_along : (r : Span) {s : State} → Along While Ended s → Along While Ended (onward rooms settings xs ys fs r s)
+    onward_along : (r : Run) {s : State} → Along While Ended s → Along While Ended (onward rooms settings xs ys fs r s)
     unfolding after_run
     onward_along r (no k) = no k
     onward_along r (ends h) = ends h
-    onward_along r (goes {tally = tally} h) = run_along (is_copied xs ys fs (Between r.first r.count)) r tally h
+    onward_along r (goes {tally = tally} h) = run_along (is_copied xs ys fs (Some r)) r tally h
 
-    all_along : (rs : List Span) {s : State} → Along While Ended s → Along While Ended (crunch_all rooms settings xs ys fs rs s)
+    all_along : (rs : List Run) {s : State} → Along While Ended s → Along While Ended (crunch_all rooms settings xs ys fs rs s)
     unfolding crunch_all
     all_along [] h = h
     all_along (r ∷ rs) h = all_along rs (onward_along r h)
@@ -102,7 +104,7 @@ abbrev is_crunched : Outcome → ℕ
 is_crunched (Outcome.refused k) = 0
 is_crunched (crunched ps tally) = 1
 
-not_refused : {k : ℕ} {ps : Points} {tally : Tally} → Outcome.refused k ≡ crunched ps tally → ⊥
+not_refused : {k : Refusal} {ps : Points} {tally : Tally} → Outcome.refused k ≡ crunched ps tally → ⊥
 not_refused e = let z : ◌≡◌ {A = ℕ} 0 1 = λ i. is_crunched (e i) in omega arith
 
 module _ (closed : Bool) {ps : Points} {tally : Tally} where
@@ -116,22 +118,22 @@ module _ (closed : Bool) {ps : Points} {tally : Tally} where
   outcome_from room (going row t) e = went (over_from (ltb room (length row)) row t e)
 
 -- what is not refused was let through by 1 to 5, and by 16
-by_penalty : (refused : Bool) (o : Outcome) {ps : Points} {tally : Tally} → after_judging (refuse 16 refused Judged.Fine) o ≡ crunched ps tally → o ≡ crunched ps tally
+by_penalty : (refused : Bool) (o : Outcome) {ps : Points} {tally : Tally} → after_judging (refuse NoSuchPenalty refused (Ok tt)) o ≡ crunched ps tally → o ≡ crunched ps tally
 by_penalty true o e = absurd (not_refused e)
 by_penalty false o e = e
 
-let_through : (settings : Settings) (j : Judged) (o : Outcome) {ps : Points} {tally : Tally} → after_judging (then_settings settings j) o ≡ crunched ps tally →
-    (j ≡ Judged.Fine) × (o ≡ crunched ps tally)
-let_through settings (Judged.Refused k) o e = absurd (not_refused e)
-let_through settings Judged.Fine o e = (refl, by_penalty (not (settings_fine settings)) o e)
+let_through : (settings : Settings) (j : Result Unit Refusal) (o : Outcome) {ps : Points} {tally : Tally} → after_judging (then_settings settings j) o ≡ crunched ps tally →
+    (j ≡ Ok tt) × (o ≡ crunched ps tally)
+let_through settings (Err k) o e = absurd (not_refused e)
+let_through settings (Ok _) o e = (refl, by_penalty (not (settings_fine settings)) o e)
 
 module _ (rooms : Rooms) (room : ℕ) (settings : Settings) (xs ys : List ℤ) (fs : List ℕ) {ps : Points} {tally : Tally}
     (came : crunch_of rooms room settings xs ys fs ≡ crunched ps tally) where
-  through : (judged xs ys fs ≡ Judged.Fine) × (outcome_of settings.closed room (crunch_runs rooms settings xs ys fs) ≡ crunched ps tally)
+  through : (judged xs ys fs ≡ Ok tt) × (outcome_of settings.closed room (crunch_runs rooms settings xs ys fs) ≡ crunched ps tally)
   unfolding crunch_of judged_for
   through = let_through settings (judged xs ys fs) (outcome_of settings.closed room (crunch_runs rooms settings xs ys fs)) came
 
-  pub came_fine : judged xs ys fs ≡ Judged.Fine
+  pub came_fine : judged xs ys fs ≡ Ok tt
   came_fine = through.0
 
   pub came_from : From settings.closed ps (crunch_runs rooms settings xs ys fs)
@@ -151,7 +153,7 @@ came_by Done closed ps (goes h) (went {row = row} e) = record { row = row; holds
 came_by Done closed ps (no k) x3 = elim x3 [ ]
 
 pub comes_out : (While Done : Points → Type 0) (rooms : Rooms) (room : ℕ) (settings : Settings) (xs ys : List ℤ) (fs : List ℕ) {ps : Points} {tally : Tally} →
-    (judged xs ys fs ≡ Judged.Fine → Carried While Done Done xs ys fs settings.closed) →
+    (judged xs ys fs ≡ Ok tt → Carried While Done Done xs ys fs settings.closed) →
     crunch_of rooms room settings xs ys fs ≡ crunched ps tally → Came Done settings.closed ps
 comes_out While Done rooms room settings xs ys fs {ps} carried e =
     came_by Done settings.closed ps

@@ -1,4 +1,6 @@
 -- Counting the lookups that fell changes nothing else of a contour. Assumes nothing.
+use Rattle.std.specs.Prelude.{Some, Result, Ok, Err}
+use Rattle.refusals.specs.declared.refusal.Refusal.{Refusal}
 use Prim.Native.Nat.{ℕ}
 use mathlib.Core.Bool.{Bool, true, false}
 use mathlib.Core.List.{List, [], ◌∷◌}
@@ -7,9 +9,8 @@ use lib.Dec.{ltb}
 use lib.IntN.{ℤ}
 use lib.ListN.{length}
 use Rattle.outline.specs.Segments.{start_of}
-use Rattle.refusals.specs.declared.Judged.{Judged}
-use Rattle.runs.specs.Runs.{Span, between, stops_of, is_copied}
-use Rattle.runs.specs.declared.Run.TheVariants.{Between}
+use Rattle.runs.specs.Runs.{between, stops_of, is_copied}
+use Rattle.runs.specs.declared.Run.{Run}
 use Rattle.settings.specs.Settings.{grid_of, penalty_of, judged_for}
 use Rattle.settings.specs.declared.Settings.{Settings}
 use Rattle.optimize.specs.Tally.{untried}
@@ -30,7 +31,7 @@ forget (Now.refused k) = Before.refused k
 forget (Now.ended ps t) = Before.ended ps t.pairs
 forget (Now.going ps t) = Before.going ps t.pairs
 
-added_same : (itself : Points) (x : Run.Result) (ps : Points) (t : Tally) → forget (Now.added itself x ps t) ≡ Before.added itself (RunBefore.without x) ps t.pairs
+added_same : (itself : Points) (x : Run.RunOutcome) (ps : Points) (t : Tally) → forget (Now.added itself x ps t) ≡ Before.added itself (RunBefore.without x) ps t.pairs
 added_same itself (Run.refused k) ps t = refl
 added_same itself (Run.unchanged u) ps t = refl
 added_same itself (Run.solved a u) ps t = refl
@@ -41,21 +42,21 @@ closed_same s (Now.ended ps t) = refl
 closed_same s (Now.going ps t) = refl
 
 module _ (rooms : Rooms) (settings : Settings) (xs ys : List ℤ) (fs : List ℕ) where
-  run_same : (copied : Bool) (r : Span) (ps : Points) (t : Tally) →
+  run_same : (copied : Bool) (r : Run) (ps : Points) (t : Tally) →
       forget (Now.run_if rooms settings xs ys fs copied r ps t) ≡ Before.run_if rooms settings xs ys fs copied r ps t.pairs
   run_same true r ps t = refl
   run_same false r ps t =
       added_same (Now.itself rooms settings xs ys fs) (Now.result_of rooms settings xs ys fs r) ps t
-      ∙ ap (λ (x : RunBefore.Result). Before.added (Now.itself rooms settings xs ys fs) x ps t.pairs)
+      ∙ ap (λ (x : RunBefore.RunOutcome). Before.added (Now.itself rooms settings xs ys fs) x ps t.pairs)
       (RunSame.counting_changes_nothing rooms (grid_of settings) (penalty_of settings) xs ys fs r.first r.count)
 
-  onward_same : (r : Span) (x : Now.State) → forget (Now.onward rooms settings xs ys fs r x) ≡ Before.onward rooms settings xs ys fs r (forget x)
+  onward_same : (r : Run) (x : Now.State) → forget (Now.onward rooms settings xs ys fs r x) ≡ Before.onward rooms settings xs ys fs r (forget x)
   unfolding Now.after_run
   onward_same r (Now.refused k) = refl
   onward_same r (Now.ended ps t) = refl
-  onward_same r (Now.going ps t) = run_same (is_copied xs ys fs (Between r.first r.count)) r ps t
+  onward_same r (Now.going ps t) = run_same (is_copied xs ys fs (Some r)) r ps t
 
-  all_same : (rs : List Span) (x : Now.State) → forget (Now.crunch_all rooms settings xs ys fs rs x) ≡ Before.crunch_all rooms settings xs ys fs rs (forget x)
+  all_same : (rs : List Run) (x : Now.State) → forget (Now.crunch_all rooms settings xs ys fs rs x) ≡ Before.crunch_all rooms settings xs ys fs rs (forget x)
   unfolding Now.crunch_all Before.crunch_all
   all_same [] x = refl
   all_same (r ∷ rs) x =
@@ -78,9 +79,9 @@ outcome_same closed room (Now.refused k) = refl
 outcome_same closed room (Now.ended ps t) = over_same closed (ltb room (length ps)) ps t
 outcome_same closed room (Now.going ps t) = over_same closed (ltb room (length ps)) ps t
 
-judged_same : (j : Judged) (o : Whole.Outcome) → Before.without (Whole.after_judging j o) ≡ Before.after_judging j (Before.without o)
-judged_same (Judged.Refused k) o = refl
-judged_same Judged.Fine o = refl
+judged_same : (j : Result Unit Refusal) (o : Whole.Outcome) → Before.without (Whole.after_judging j o) ≡ Before.after_judging j (Before.without o)
+judged_same (Err k) o = refl
+judged_same (Ok _) o = refl
 
 runs_same : (rooms : Rooms) (settings : Settings) (xs ys : List ℤ) (fs : List ℕ) →
     forget (Now.crunch_runs rooms settings xs ys fs) ≡ Before.crunch_in rooms settings xs ys fs settings.closed (stops_of settings.closed xs ys fs)

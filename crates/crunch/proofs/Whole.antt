@@ -1,4 +1,6 @@
 -- The whole of a contour, of its steps. Assumes nothing.
+use Rattle.std.specs.Prelude.{Result}
+use Rattle.refusals.specs.declared.refusal.Refusal.{Refusal}
 use Prim.Native.Nat.{ℕ, min, ◌≤◌}
 use native.Mathlib.Omega.{arith}
 use mathlib.Core.List.{List, ◌++◌}
@@ -6,7 +8,6 @@ use mathlib.Core.Path.{◌≡◌, refl, sym, ap, subst, ◌∙◌}
 use lib.IntN.{ℤ}
 use lib.ListN.{length, take, drop, replicate, length-append, length-take, length-drop}
 use lib.Seq.{length-take-le}
-use Rattle.refusals.specs.declared.Judged.{Judged}
 use Rattle.rows.specs.Rows.{point_zero}
 use Rattle.settings.specs.Settings.{judged_for}
 use Rattle.settings.specs.declared.Settings.{Settings}
@@ -19,10 +20,10 @@ use Rattle.crunch.specs.declared.Crunched as D
 
 -- ---- `crunch_into`
 
-module _ (rooms : Rooms) (room : ℕ) (settings : Settings) (xs ys : List ℤ) (fs : List ℕ) {j k : Judged} (e : j ≡ judged_for settings xs ys fs) (h : j ≡ k) {row : Points} {r : D.Crunched} where
+module _ (rooms : Rooms) (room : ℕ) (settings : Settings) (xs ys : List ℤ) (fs : List ℕ) {j k : Result Unit Refusal} (e : j ≡ judged_for settings xs ys fs) (h : j ≡ k) {row : Points} {r : Result D.Crunched Refusal} where
   pub judged_gives : Gives row (after_judging k (outcome_of settings.closed room (crunch_runs rooms settings xs ys fs))) r → Gives row (crunch_of rooms room settings xs ys fs) r
   unfolding crunch_of
-  judged_gives g = subst (λ (x : Judged). Gives row (after_judging x (outcome_of settings.closed room (crunch_runs rooms settings xs ys fs))) r) (sym h ∙ e) g
+  judged_gives g = subst (λ (x : Result Unit Refusal). Gives row (after_judging x (outcome_of settings.closed room (crunch_runs rooms settings xs ys fs))) r) (sym h ∙ e) g
 
 -- ---- `crunch`: the shortest row
 
@@ -46,6 +47,6 @@ pub cleared_points : (points : Points) {points' : Points} {k : ℕ} → points' 
 cleared_points points e long = e ∙ ap (λ (n : ℕ). replicate n point_zero) long
 
 -- the room is that of the shortest row
-pub at_room : (rooms : Rooms) (settings : Settings) (xs ys : List ℤ) (fs : List ℕ) {row : Points} {r : D.Crunched} {m n : ℕ} → m ≡ n →
+pub at_room : (rooms : Rooms) (settings : Settings) (xs ys : List ℤ) (fs : List ℕ) {row : Points} {r : Result D.Crunched Refusal} {m n : ℕ} → m ≡ n →
     Gives row (crunch_of rooms m settings xs ys fs) r → Gives row (crunch_of rooms n settings xs ys fs) r
 at_room rooms settings xs ys fs {row} {r} e g = subst (λ (k : ℕ). Gives row (crunch_of rooms k settings xs ys fs) r) e g

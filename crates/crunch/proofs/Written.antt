@@ -1,4 +1,5 @@
 -- The statements of specs/Written, along the runs by proofs/Along. Assumes nothing.
+use Rattle.std.specs.Prelude.{Ok, Err}
 use Prim.Native.Nat.{ℕ, zero, suc, ◌-◌}
 use native.Mathlib.Omega.{arith}
 use borrow.Author.Tests.{eq-eqb, ne_eqb}
@@ -11,7 +12,8 @@ use Rattle.geometry.specs.declared.Quad.{Quad}
 use Rattle.geometry.specs.Geometry.{is_line}
 use Rattle.refusals.specs.Refusals.{is_on, both_off, too_many, first_off, off_neighbours, refuse, judged}
 use Rattle.refusals.specs.Accepted.{Accepted, accepted}
-use Rattle.refusals.specs.declared.Judged.{Judged}
+use Rattle.refusals.specs.declared.refusal.Refusal.TheVariants.{UnevenRows, NoPoint, TooManyPoints, StartsOffCurve, OffCurveNeighbours}
+use Rattle.refusals.specs.declared.refusal.Refusal.{Refusal}
 use Rattle.outline.specs.declared.Seg.{Seg}
 use Rattle.outline.specs.Segments.{count_of, start_of, seg_at}
 use Rattle.runs.specs.Runs.{corner_list, going_round, stops_of}
@@ -35,7 +37,7 @@ use Rattle.crunch.proofs.Along.{Along, Carried, runs_along, From, stopped, went,
 
 -- the first stop is the first corner
 first_stop : (segments : ℕ) (corners : List ℕ) {a : ℕ} {stops : List ℕ} → going_round segments corners ≡ a ∷ stops → (rest : List ℕ) × (corners ≡ a ∷ rest)
-first_stop segments [] e = absurd (let z : ◌≡◌ {A = ℕ} 0 1 = cc in omega arith)
+first_stop segments [] e = absurd cc
 first_stop segments (b ∷ corners) e = (corners, ap (λ (c : ℕ). c ∷ corners) cc)
 
 module _ (xs ys : List ℤ) (fs : List ℕ) where
@@ -64,7 +66,7 @@ module _ (xs ys : List ℤ) (fs : List ℕ) where
     unchanged = refl;
   }
 
-  module _ (fine : judged xs ys fs ≡ Judged.Fine) (ps : Points) where
+  module _ (fine : judged xs ys fs ≡ Ok tt) (ps : Points) where
     starts_by : {s : State} → Along FromCorner Itself s → From true ps s → StartsAt xs ys fs ps s
     starts_by (Along.goes {ps = row} h) (went is) = the_corner h.a h.corners h.are (ap (take 1) (sym is) ∙ start_stays.row row ∙ h.first)
     starts_by (Along.ends {ps = row} {tally = t} h) (stopped is) =
@@ -159,7 +161,7 @@ module _ (ps : Points) (on : StartsOn ps) where
   long_f = length-map ps flag_of
 
   -- only 3 and 5 are left
-  left : judged_again ps ≡ refuse 3 (too_many (length (flags ps))) (refuse 5 (off_neighbours (flags ps)) Judged.Fine)
+  left : judged_again ps ≡ refuse TooManyPoints (too_many (length (flags ps))) (refuse OffCurveNeighbours (off_neighbours (flags ps)) (Ok tt))
   unfolding judged
   left =
       rw (
@@ -169,20 +171,20 @@ module _ (ps : Points) (on : StartsOn ps) where
         flags_on ps on,
       ) refl
 
-  none_of : (k : ℕ) → (k ≡ 3 → ⊥) → (k ≡ 5 → ⊥) → judged_again ps ≡ Judged.Refused k → ⊥
+  none_of : (k : Refusal) → (k ≡ TooManyPoints → ⊥) → (k ≡ OffCurveNeighbours → ⊥) → judged_again ps ≡ Err k → ⊥
   none_of k n3 n5 e = by (too_many (length (flags ps))) (off_neighbours (flags ps)) (sym left ∙ e)
     where
-      by : (b c : Bool) → refuse 3 b (refuse 5 c Judged.Fine) ≡ Judged.Refused k → ⊥
+      by : (b c : Bool) → refuse TooManyPoints b (refuse OffCurveNeighbours c (Ok tt)) ≡ Err k → ⊥
       by true c q = n3 cc
       by false true q = n5 cc
-      by false false q = let z : ◌≡◌ {A = ℕ} 0 1 = cc in omega arith
+      by false false q = cc
 
   can_come_back : CanComeBack ps
   can_come_back = record {
     starts = on;
-    not_one = none_of 1 (λ e. omega (arith, e)) (λ e. omega (arith, e));
-    not_two = none_of 2 (λ e. omega (arith, e)) (λ e. omega (arith, e));
-    not_four = none_of 4 (λ e. omega (arith, e)) (λ e. omega (arith, e));
+    not_one = none_of UnevenRows (λ e. cc) (λ e. cc);
+    not_two = none_of NoPoint (λ e. cc) (λ e. cc);
+    not_four = none_of StartsOffCurve (λ e. cc) (λ e. cc);
   }
 
 pub comes_back : ComesBack
@@ -288,7 +290,7 @@ neighbours_apart (x ∷ xs) (y ∷ ys) (f ∷ fs) ok =
     let on : off_curve (uploaded x y f) ≡ false = flag_off (is_on f) ∙ ap not ok.first in
     upload_apart (uploaded x y f) on x y f xs ys fs ok.apart
 
-module _ (xs ys : List ℤ) (fs : List ℕ) (fine : judged xs ys fs ≡ Judged.Fine) where
+module _ (xs ys : List ℤ) (fs : List ℕ) (fine : judged xs ys fs ≡ Ok tt) where
   carries_apart : Carried Pieced (Neighbours NotBothOff) (Neighbours NotBothOff) xs ys fs true
   carries_apart = record {
     begins = (none, λ a stops ps e h. around_apart (point_as true xs ys (start_of fs a)) refl ps h);

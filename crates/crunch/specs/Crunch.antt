@@ -1,6 +1,7 @@
 -- The whole: what becomes of a contour, given how many places the rows have and what the caller chooses. Definitions only.
-use Rattle.std.specs.Prelude.{ℕ, Bool, true, false, List, ltb, ℤ, length}
-use Rattle.refusals.specs.declared.Judged.{Judged}
+use Rattle.std.specs.Prelude.{ℕ, Bool, true, false, List, ltb, ℤ, length, Result, Ok, Err}
+use Rattle.refusals.specs.declared.refusal.Refusal.TheVariants.{OutputTooShort}
+use Rattle.refusals.specs.declared.refusal.Refusal.{Refusal}
 use Rattle.settings.specs.Settings.{judged_for}
 use Rattle.settings.specs.declared.Settings.{Settings}
 use Rattle.optimize.specs.declared.Tally.{Tally}
@@ -11,14 +12,14 @@ use Rattle.assembly.specs.Assembly.{State, crunch_runs}
 
 -- the number of a refusal; or the points out, the pairs tried and the lookups that fell in them
 pub data Outcome : Type 0 where
-  refused : ℕ → Outcome
+  refused : Refusal → Outcome
   crunched : Points → Tally → Outcome
 
 -- ---- the end: refusal 9 last, counted before implied points are dropped
 
 module _ (closed : Bool) where
   abbrev pub over_if : Bool → Points → Tally → Outcome
-  over_if true ps tally = refused 9
+  over_if true ps tally = refused OutputTooShort
   over_if false ps tally = crunched (finished closed ps) tally
 
   abbrev pub points_out : ℕ → Points → Tally → Outcome
@@ -31,9 +32,9 @@ module _ (closed : Bool) where
 
 -- ---- the whole: refusals 1 to 5, and then 16, first
 
-abbrev pub after_judging : Judged → Outcome → Outcome
-after_judging (Judged.Refused k) o = refused k
-after_judging Judged.Fine o = o
+abbrev pub after_judging : Result Unit Refusal → Outcome → Outcome
+after_judging (Err k) o = refused k
+after_judging (Ok _) o = o
 
 -- with a room for so many points
 unfoldable pub crunch_of : Rooms → ℕ → Settings → List ℤ → List ℤ → List ℕ → Outcome

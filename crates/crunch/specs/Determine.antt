@@ -1,9 +1,10 @@
 -- The promise of `crunch_contour` determines the answer and every lent row; and the answer and the points written are those of the contour, of the
 -- settings and of the lengths of the rows alone, whatever the rows held. Assumes nothing.
-use Rattle.std.specs.Prelude.{ℕ, min, List, [], ◌≡◌, refl, ℤ, length, take, drop, replicate}
+use Rattle.std.specs.Prelude.{ℕ, min, List, [], ◌≡◌, refl, ℤ, length, take, drop, replicate, Result}
 use Rattle.std.proofs.Common.{le_refl, sym, ap, ◌∙◌}
 use Rattle.std.proofs.lemmas.List.{length-map, take-append-le}
 use Rattle.std.proofs.Math.Seq.{take-length}
+use Rattle.refusals.specs.declared.refusal.Refusal.{Refusal}
 use Rattle.rows.specs.Rows.{point_zero}
 use Rattle.rows.specs.Lent.{Inputs, inputs}
 use Rattle.settings.specs.declared.Settings.{Settings}
@@ -18,14 +19,14 @@ use Rattle.crunch.specs.declared.Crunched as D
 
 -- ---- two outcomes of one order are one
 
-pub record Same (r r' : D.Crunched) (t t' : Rows) : Type 0 where
+pub record Same (r r' : Result D.Crunched Refusal) (t t' : Rows) : Type 0 where
   pub answer : r ≡ r'
   pub reported : report r ≡ report r'
   pub outs : t.outs ≡ t'.outs
   pub work : t.work ≡ t'.work
   pub points : t.points ≡ t'.points
 
-pub determined : {i : Inputs} {settings : Settings} {t t' : LentRows} {r r' : D.Crunched} → t.entry ≡ t'.entry →
+pub determined : {i : Inputs} {settings : Settings} {t t' : LentRows} {r r' : Result D.Crunched Refusal} → t.entry ≡ t'.entry →
     Promise i settings t r → Promise i settings t' r' → Same r r' t.exit t'.exit
 determined {i} {settings} {t} {t'} e p q =
     let answer = p.answer ∙ ap (λ (u : Rows). answer_of (whole_of i settings u)) e ∙ sym q.answer in
@@ -89,13 +90,13 @@ written_first (crunched ps p) (outputs ox oy of) =
     ) refl
 
 -- what is written, of the promise
-pub written_is : {i : Inputs} {settings : Settings} {t : LentRows} {r : D.Crunched} → Promise i settings t r →
+pub written_is : {i : Inputs} {settings : Settings} {t : LentRows} {r : Result D.Crunched Refusal} → Promise i settings t r →
     first_of (report r).points t.exit.outs ≡ written_of (whole_of i settings t.entry)
 written_is {i} {settings} {t} p = rw (p.answer, p.outs) (written_first (whole_of i settings t.entry) t.entry.outs)
 
 -- ---- equal orders
 
-pub record Equal (r r' : D.Crunched) (t t' : Rows) : Type 0 where
+pub record Equal (r r' : Result D.Crunched Refusal) (t t' : Rows) : Type 0 where
   pub answer : r ≡ r'
   pub reported : report r ≡ report r'
   pub written : first_of (report r).points t.outs ≡ first_of (report r').points t'.outs
@@ -103,7 +104,7 @@ pub record Equal (r r' : D.Crunched) (t t' : Rows) : Type 0 where
   pub points : t.points ≡ t'.points
 
 -- two orders of one contour, in rows of equal lengths: the answers, the points written and the scratch rows are equal
-pub equal_orders : {i : Inputs} {settings : Settings} {t t' : LentRows} {r r' : D.Crunched} → Alike t.entry t'.entry →
+pub equal_orders : {i : Inputs} {settings : Settings} {t t' : LentRows} {r r' : Result D.Crunched Refusal} → Alike t.entry t'.entry →
     Promise i settings t r → Promise i settings t' r' → Equal r r' t.exit t'.exit
 equal_orders {i} {settings} {t} {t'} a p q =
     let whole = same_whole i settings t.entry t'.entry a in

@@ -1,6 +1,8 @@
 -- What the crunch entry hands back and leaves in every lent row. Definitions only.
-use Rattle.std.specs.Prelude.{ℕ, min, List, ◌≡◌, ℤ, length, replicate}
+use Rattle.std.specs.Prelude.{ℕ, min, List, ◌≡◌, ℤ, length, replicate, Result, Ok, Err}
+use Rattle.refusals.specs.declared.refusal.Refusal.{Refusal}
 use denote.Triple.Both.{Both}
+use Rattle.refusals.specs.Number.{number_of}
 use Rattle.rows.specs.Rows.{Work, point_zero}
 use Rattle.rows.specs.Lent.{Lent, before, after, Inputs, inputs}
 use Rattle.settings.specs.declared.Settings.{Settings}
@@ -9,7 +11,6 @@ use Rattle.contour.specs.Output.{Outputs, outputs, with_points}
 use Rattle.edition.specs.Scratch.{Scratch, rooms_of, cleared}
 use Rattle.crunch.specs.Crunch.{Outcome, refused, crunched, crunch_of}
 use Rattle.crunch.specs.declared.Crunched as C
-use Rattle.crunch.specs.declared.Crunched.TheVariants as Crunched
 
 -- document 01's values for each answer: its number, which is 0 where nothing is refused, the points written and the pairs tried; and
 -- document 02's lookups that fell
@@ -19,13 +20,13 @@ pub record Report : Type 0 where
   pub pairs : ℕ
   pub fallen : ℕ
 
-abbrev pub report : C.Crunched → Report
-report (Crunched.Refused k) = record { number = k; points = 0; pairs = 0; fallen = 0 }
-report (Crunched.Points n t) = record { number = 0; points = n; pairs = t.pairs; fallen = t.fallen }
+abbrev pub report : Result C.Crunched Refusal → Report
+report (Err k) = record { number = number_of k; points = 0; pairs = 0; fallen = 0 }
+report (Ok c) = record { number = 0; points = c.points; pairs = c.tally.pairs; fallen = c.tally.fallen }
 
-abbrev pub answer_of : Outcome → C.Crunched
-answer_of (refused k) = Crunched.Refused k
-answer_of (crunched ps t) = Crunched.Points (length ps) t
+abbrev pub answer_of : Outcome → Result C.Crunched Refusal
+answer_of (refused k) = Err k
+answer_of (crunched ps t) = Ok (record { points = (length ps); tally = t })
 
 -- a refusal writes no point; success writes the first points and no others
 abbrev pub outputs_of : Outcome → Outputs → Outputs
@@ -61,7 +62,7 @@ abbrev pub whole_of : Inputs → Settings → Rows → Outcome
 whole_of (inputs xs ys fs) settings t = crunch_of (rooms_of t.work) (point_room t) settings xs ys fs
 
 -- the entry's contract: what it hands back, what it writes, and that the scratch rows are zero throughout, whatever they held
-pub record Promise (i : Inputs) (settings : Settings) (t : LentRows) (r : C.Crunched) : Type 0 where
+pub record Promise (i : Inputs) (settings : Settings) (t : LentRows) (r : Result C.Crunched Refusal) : Type 0 where
   pub answer : r ≡ answer_of (whole_of i settings t.entry)
   pub outs : t.exit.outs ≡ outputs_of (whole_of i settings t.entry) t.entry.outs
   pub work : t.exit.work ≡ cleared t.entry.work

@@ -1,21 +1,22 @@
 -- Laws for callers: the points written are no more than the room for them; a contour of more than 1,024 points is refused for that, whatever its points
 -- are; and longer rows change no outcome that is not refused for want of room. Assumes nothing.
-use Rattle.std.specs.Prelude.{ℕ, ◌≤◌, ◌<◌, Bool, true, ◌||◌, ◌≡◌, ltb, ℤ, length}
+use Rattle.std.specs.Prelude.{ℕ, ◌≤◌, ◌<◌, Bool, true, ◌||◌, ◌≡◌, ltb, ℤ, length, Some, Result, Ok, Err}
 use Rattle.std.proofs.Common.{le_trans, arith, ◌∙◌}
 use borrow.Author.Tests.{ltb-false, lt-ltb, le-ltb, eq-eqb, ne_eqb}
 use Rattle.std.proofs.Math.Bool.{false}
 use mathlib.Core.List.{List, [], ◌∷◌}
 use Rattle.std.proofs.Math.Path.{refl, ap}
 use Rattle.std.proofs.Math.Dec.{eqb}
-use Rattle.refusals.specs.declared.Judged.{Judged}
 use Rattle.rows.specs.Lent.{Inputs, inputs}
-use Rattle.runs.specs.Runs.{Span, between, stops_of, is_copied}
-use Rattle.runs.specs.declared.Run.TheVariants.{Between}
+use Rattle.runs.specs.Runs.{between, stops_of, is_copied}
+use Rattle.runs.specs.declared.Run.{Run}
 use Rattle.refusals.specs.Refusals.{judged}
+use Rattle.refusals.specs.declared.refusal.Refusal.TheVariants.{TooManyPoints, TooManySamples, TooManyBreaks, OutputTooShort}
+use Rattle.refusals.specs.declared.refusal.Refusal.{Refusal}
 use Rattle.settings.specs.Settings.{grid_of, penalty_of, then_settings, judged_for}
 use Rattle.settings.specs.declared.Settings.{Settings}
 use Rattle.optimize.specs.declared.Tally.{Tally}
-use Rattle.edition.specs.Edition.{Result, Rooms}
+use Rattle.edition.specs.Edition.{RunOutcome, Rooms}
 use Rattle.edition.specs.Edition as Edition
 use Rattle.edition.specs.Laws.{Within, work_same}
 use Rattle.edition.specs.Scratch.{rooms_of}
@@ -40,9 +41,9 @@ module _ (closed : Bool) where
   state_within room (ended ps tally) = over_within room ps tally (ltb room (length ps)) refl
   state_within room (going ps tally) = over_within room ps tally (ltb room (length ps)) refl
 
-judged_within : (room : ℕ) (j : Judged) (x : Outcome) → points_in x ≤ room → points_in (after_judging j x) ≤ room
-judged_within room (Judged.Refused k) x few = omega arith
-judged_within room Judged.Fine x few = few
+judged_within : (room : ℕ) (j : Result Unit Refusal) (x : Outcome) → points_in x ≤ room → points_in (after_judging j x) ≤ room
+judged_within room (Err k) x few = omega arith
+judged_within room (Ok _) x few = few
 
 pub points_within : (i : Inputs) (settings : Settings) (t : Rows) → points_in (whole_of i settings t) ≤ point_room t
 unfolding crunch_of
@@ -54,22 +55,25 @@ points_within (inputs xs ys fs) settings t =
 -- ---- refusal 3
 
 module _ (xs ys : List ℤ) (fs : List ℕ) {n : ℕ} (lx : length xs ≡ n) (ly : length ys ≡ n) (lf : length fs ≡ n) (many : 1024 < n) where
-  many_judged : judged xs ys fs ≡ Judged.Refused 3
+  many_judged : judged xs ys fs ≡ Err TooManyPoints
   unfolding judged
   many_judged =
       let some : eqb n 0 ≡ false = ne_eqb n 0 (λ z. omega arith) in
       rw (lx, ly, lf, eq-eqb n n refl, some, lt-ltb 1024 n many) refl
 
-  pub many_refused : (rooms : Rooms) (room : ℕ) (settings : Settings) → crunch_of rooms room settings xs ys fs ≡ Outcome.refused 3
+  pub many_refused : (rooms : Rooms) (room : ℕ) (settings : Settings) → crunch_of rooms room settings xs ys fs ≡ Outcome.refused TooManyPoints
   unfolding crunch_of judged_for
   many_refused rooms room settings =
-      ap (λ (j : Judged). after_judging (then_settings settings j) (outcome_of settings.closed room (crunch_runs rooms settings xs ys fs))) many_judged
+      ap (λ (j : Result Unit Refusal). after_judging (then_settings settings j) (outcome_of settings.closed room (crunch_runs rooms settings xs ys fs))) many_judged
 
 -- ---- longer rows
 
 -- refusals 6, 7 and 9: for want of room
-abbrev pub for_room : ℕ → Bool
-for_room k = eqb k 6 || eqb k 7 || eqb k 9
+abbrev pub for_room : Refusal → Bool
+for_room TooManySamples = true
+for_room TooManyBreaks = true
+for_room OutputTooShort = true
+for_room _ = false
 
 -- an outcome that is refused so
 abbrev pub short : Outcome → Bool
@@ -82,27 +86,27 @@ short_state (ended ps tally) = false
 short_state (going ps tally) = false
 
 module _ (rooms rooms' : Rooms) (within : Within rooms rooms') (settings : Settings) (xs ys : List ℤ) (fs : List ℕ) where
-  not_short : (ps : Points) (tally : Tally) (x : Result) → short_state (added (itself rooms settings xs ys fs) x ps tally) ≡ false →
-      (k : ℕ) → for_room k ≡ true → x ≡ Edition.refused k → ⊥
-  not_short ps tally x e k lacking h = let z : ◌≡◌ {A = ℕ} 0 1 = cc in omega arith
+  not_short : (ps : Points) (tally : Tally) (x : RunOutcome) → short_state (added (itself rooms settings xs ys fs) x ps tally) ≡ false →
+      (k : Refusal) → for_room k ≡ true → x ≡ Edition.refused k → ⊥
+  not_short ps tally x e k lacking h = cc
 
-  run_same : (copied : Bool) (r : Span) (ps : Points) (tally : Tally) → short_state (run_if rooms settings xs ys fs copied r ps tally) ≡ false →
+  run_same : (copied : Bool) (r : Run) (ps : Points) (tally : Tally) → short_state (run_if rooms settings xs ys fs copied r ps tally) ≡ false →
       run_if rooms' settings xs ys fs copied r ps tally ≡ run_if rooms settings xs ys fs copied r ps tally
   run_same true r ps tally e = refl
   run_same false r ps tally e =
       let fits = not_short ps tally (result_of rooms settings xs ys fs r) e in
-      ap (λ (x : Result). added (itself rooms settings xs ys fs) x ps tally)
-      (work_same rooms rooms' within (grid_of settings) (penalty_of settings) xs ys fs r.first r.count (fits 6 refl) (fits 7 refl))
+      ap (λ (x : RunOutcome). added (itself rooms settings xs ys fs) x ps tally)
+      (work_same rooms rooms' within (grid_of settings) (penalty_of settings) xs ys fs r.first r.count (fits TooManySamples refl) (fits TooManyBreaks refl))
 
-  onward_same : (r : Span) (s s' : State) → (short_state s ≡ false → s' ≡ s) → short_state (onward rooms settings xs ys fs r s) ≡ false →
+  onward_same : (r : Run) (s s' : State) → (short_state s ≡ false → s' ≡ s) → short_state (onward rooms settings xs ys fs r s) ≡ false →
       onward rooms' settings xs ys fs r s' ≡ onward rooms settings xs ys fs r s
   unfolding after_run
   onward_same r (State.refused k) s' same e = ap (onward rooms' settings xs ys fs r) (same e)
   onward_same r (ended ps tally) s' same e = ap (onward rooms' settings xs ys fs r) (same refl)
   onward_same r (going ps tally) s' same e =
-      ap (onward rooms' settings xs ys fs r) (same refl) ∙ run_same (is_copied xs ys fs (Between r.first r.count)) r ps tally e
+      ap (onward rooms' settings xs ys fs r) (same refl) ∙ run_same (is_copied xs ys fs (Some r)) r ps tally e
 
-  all_same : (rs : List Span) (s s' : State) → (short_state s ≡ false → s' ≡ s) → short_state (crunch_all rooms settings xs ys fs rs s) ≡ false →
+  all_same : (rs : List Run) (s s' : State) → (short_state s ≡ false → s' ≡ s) → short_state (crunch_all rooms settings xs ys fs rs s) ≡ false →
       crunch_all rooms' settings xs ys fs rs s' ≡ crunch_all rooms settings xs ys fs rs s
   unfolding crunch_all
   all_same [] s s' same e = same e
@@ -131,7 +135,7 @@ module _ (rooms rooms' : Rooms) (within : Within rooms rooms') (settings : Setti
 module _ (closed : Bool) (room room' : ℕ) (more : room ≤ room') where
   over_same : (ps : Points) (tally : Tally) (over : Bool) → ltb room (length ps) ≡ over → short (over_if closed over ps tally) ≡ false →
       over_if closed (ltb room' (length ps)) ps tally ≡ over_if closed over ps tally
-  over_same ps tally true t e = let z : ◌≡◌ {A = ℕ} 0 1 = cc in absurd (omega arith)
+  over_same ps tally true t e = absurd cc
   over_same ps tally false t e =
       let few : length ps ≤ room = ltb-false room (length ps) t in
       rw (le-ltb room' (length ps) (omega arith)) refl
@@ -142,9 +146,9 @@ module _ (closed : Bool) (room room' : ℕ) (more : room ≤ room') where
   outcome_same (ended ps tally) s' same e = ap (outcome_of closed room') (same refl) ∙ over_same ps tally _ refl e
   outcome_same (going ps tally) s' same e = ap (outcome_of closed room') (same refl) ∙ over_same ps tally _ refl e
 
-judged_same : (j : Judged) (x x' : Outcome) → (short x ≡ false → x' ≡ x) → short (after_judging j x) ≡ false → after_judging j x' ≡ after_judging j x
-judged_same (Judged.Refused k) x x' same e = refl
-judged_same Judged.Fine x x' same e = same e
+judged_same : (j : Result Unit Refusal) (x x' : Outcome) → (short x ≡ false → x' ≡ x) → short (after_judging j x) ≡ false → after_judging j x' ≡ after_judging j x
+judged_same (Err k) x x' same e = refl
+judged_same (Ok _) x x' same e = same e
 
 -- an outcome that is not refused for want of room is the outcome in rows at least as long
 pub more_room : (rooms rooms' : Rooms) (room room' : ℕ) (settings : Settings) (xs ys : List ℤ) (fs : List ℕ) → Within rooms rooms' → room ≤ room' →

@@ -1,14 +1,15 @@
 -- What becomes of a contour, without the lookups that fell: as it was defined before these were counted. The statement says that counting changes
 -- nothing else. Definitions and a statement.
-use Rattle.std.specs.Prelude.{ℕ, ◌+◌, Bool, true, false, List, [], ◌∷◌, ◌++◌, ◌≡◌, ltb, ℤ, length}
+use Rattle.std.specs.Prelude.{ℕ, ◌+◌, Bool, true, false, List, [], ◌∷◌, ◌++◌, ◌≡◌, ltb, ℤ, length, Some, Result, Ok, Err}
+use Rattle.refusals.specs.declared.refusal.Refusal.{Refusal}
+use Rattle.refusals.specs.declared.refusal.Refusal.TheVariants.{OutputTooShort}
 use Rattle.outline.specs.Segments.{start_of, seg_at}
-use Rattle.refusals.specs.declared.Judged.{Judged}
-use Rattle.runs.specs.Runs.{Span, between, stops_of, is_copied}
-use Rattle.runs.specs.declared.Run.TheVariants.{Between}
+use Rattle.runs.specs.Runs.{between, stops_of, is_copied}
+use Rattle.runs.specs.declared.Run.{Run}
 use Rattle.settings.specs.Settings.{grid_of, penalty_of, judged_for}
 use Rattle.settings.specs.declared.Settings.{Settings}
 use Rattle.edition.specs.Edition.{Rooms}
-use Rattle.edition.specs.Uncounted.{Result, work_of}
+use Rattle.edition.specs.Uncounted.{RunOutcome, work_of}
 use Rattle.edition.specs.Uncounted as Run
 use Rattle.contour.specs.Points.{Points, points_of, pieces_points, point_as, start_point, unchanged_in, around}
 use Rattle.contour.specs.Implied.{finished}
@@ -16,11 +17,11 @@ use Rattle.pieces.specs.Slots.{quads_of}
 use Rattle.crunch.specs.Crunch as Counted
 
 pub data State : Type 0 where
-  refused : ℕ → State
+  refused : Refusal → State
   ended : Points → ℕ → State
   going : Points → ℕ → State
 
-abbrev pub added : Points → Result → Points → ℕ → State
+abbrev pub added : Points → RunOutcome → Points → ℕ → State
 added itself (Run.refused k) ps pairs = refused k
 added itself (Run.unchanged p) ps pairs = ended itself (pairs + p)
 added itself (Run.solved a p) ps pairs = going (ps ++ pieces_points (quads_of a)) (pairs + p)
@@ -34,16 +35,16 @@ module _ (rooms : Rooms) (settings : Settings) (xs ys : List ℤ) (fs : List ℕ
   abbrev pub itself : Points
   itself = unchanged_in xs ys fs settings.closed
 
-  abbrev pub run_if : Bool → Span → Points → ℕ → State
+  abbrev pub run_if : Bool → Run → Points → ℕ → State
   run_if true r ps pairs = going (ps ++ points_of (seg_at xs ys fs r.first)) pairs
   run_if false r ps pairs = added itself (work_of rooms (grid_of settings) (penalty_of settings) xs ys fs r.first r.count) ps pairs
 
-  abbrev pub onward : Span → State → State
+  abbrev pub onward : Run → State → State
   onward r (refused k) = refused k
   onward r (ended ps pairs) = ended ps pairs
-  onward r (going ps pairs) = run_if (is_copied xs ys fs (Between r.first r.count)) r ps pairs
+  onward r (going ps pairs) = run_if (is_copied xs ys fs (Some r)) r ps pairs
 
-  unfoldable pub crunch_all : List Span → State → State
+  unfoldable pub crunch_all : List Run → State → State
   crunch_all [] s = s
   crunch_all (r ∷ rs) s = crunch_all rs (onward r s)
 
@@ -55,21 +56,21 @@ module _ (rooms : Rooms) (settings : Settings) (xs ys : List ℤ) (fs : List ℕ
 -- ---- the outcome
 
 pub data Outcome : Type 0 where
-  refused_by_lem : ℕ → Outcome
+  refused_by : Refusal → Outcome
   crunched : Points → ℕ → Outcome
 
 abbrev pub over_if : Bool → Bool → Points → ℕ → Outcome
-over_if closed true ps pairs = refused_by_lem 9
+over_if closed true ps pairs = refused_by OutputTooShort
 over_if closed false ps pairs = crunched (finished closed ps) pairs
 
 abbrev pub outcome_of : Bool → ℕ → State → Outcome
-outcome_of closed room (refused k) = refused_by_lem k
+outcome_of closed room (refused k) = refused_by k
 outcome_of closed room (ended ps pairs) = over_if closed (ltb room (length ps)) ps pairs
 outcome_of closed room (going ps pairs) = over_if closed (ltb room (length ps)) ps pairs
 
-abbrev pub after_judging : Judged → Outcome → Outcome
-after_judging (Judged.Refused k) o = refused_by_lem k
-after_judging Judged.Fine o = o
+abbrev pub after_judging : Result Unit Refusal → Outcome → Outcome
+after_judging (Err k) o = refused_by k
+after_judging (Ok _) o = o
 
 abbrev pub crunch_of : Rooms → ℕ → Settings → List ℤ → List ℤ → List ℕ → Outcome
 crunch_of rooms room settings xs ys fs =
@@ -79,7 +80,7 @@ crunch_of rooms room settings xs ys fs =
 -- ---- an outcome without the number
 
 abbrev pub without : Counted.Outcome → Outcome
-without (Counted.refused k) = refused_by_lem k
+without (Counted.refused k) = refused_by k
 without (Counted.crunched ps t) = crunched ps t.pairs
 
 abbrev pub CountingChangesNothing : Type 0

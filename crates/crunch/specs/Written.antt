@@ -1,8 +1,9 @@
 -- What is written of a contour, for a reader: where it starts, that it can come back, and that no implied half point is written. Each statement is a type
 -- here, and a theorem of proofs/Written is of that type: `first_point`, `comes_back`, `outline_written`, `no_half_point_written`. Statements only.
-use Rattle.std.specs.Prelude.{ℕ, true, List, [], ◌∷◌, ◌≡◌, ℤ, take}
+use Rattle.std.specs.Prelude.{ℕ, true, List, [], ◌∷◌, ◌≡◌, ℤ, take, Result, Err}
 use Rattle.refusals.specs.Refusals.{judged}
-use Rattle.refusals.specs.declared.Judged.{Judged}
+use Rattle.refusals.specs.declared.refusal.Refusal.TheVariants.{UnevenRows, NoPoint, StartsOffCurve}
+use Rattle.refusals.specs.declared.refusal.Refusal.{Refusal}
 use Rattle.outline.specs.Segments.{start_of}
 use Rattle.runs.specs.Runs.{corner_list}
 use Rattle.settings.specs.declared.Settings.{Settings}
@@ -34,14 +35,14 @@ FirstPoint = Always (λ settings xs ys fs s ps. settings.closed ≡ true → Sta
 
 -- ---- it can come back: in either mode it starts on-curve, and fed back it is refused by none of 1, 2 and 4
 
-abbrev pub judged_again : Points → Judged
+abbrev pub judged_again : Points → Result Unit Refusal
 judged_again ps = judged (column 0 ps) (column 1 ps) (flags ps)
 
 pub record CanComeBack (ps : Points) : Type 0 where
   pub starts : StartsOn ps
-  pub not_one : judged_again ps ≡ Judged.Refused 1 → ⊥
-  pub not_two : judged_again ps ≡ Judged.Refused 2 → ⊥
-  pub not_four : judged_again ps ≡ Judged.Refused 4 → ⊥
+  pub not_one : judged_again ps ≡ Err UnevenRows → ⊥
+  pub not_two : judged_again ps ≡ Err NoPoint → ⊥
+  pub not_four : judged_again ps ≡ Err StartsOffCurve → ⊥
 
 abbrev pub ComesBack : Type 0
 ComesBack = Always (λ settings xs ys fs s ps. CanComeBack ps)

@@ -14,38 +14,40 @@ ghost use Rattle.crunch.specs.Steps.{copied, Answered};
 
 use assembly::{Crunching, Progress};
 use optimize::Tally;
-use refusals::Judged;
+use refusals::Refusal;
 use settings::Settings;
 
+// Points written, and the pairs tried and the lookups that fell in them.
 #[derive(Clone, Copy)]
-pub enum Crunched {
-    // the number of a refusal
-    Refused(u8),
-    // points written, the pairs tried and the lookups that fell in them
-    Points(usize, Tally),
+pub struct Crunched {
+    pub points: usize,
+    pub tally: Tally,
 }
 
 // Reversed in the crate's mode, without implied points; or there were more points than the room.
-fn finish_points(p: Progress, closed: bool, points: &mut [[i16; 3]]) -> Crunched
+fn finish_points(p: Progress, closed: bool, points: &mut [[i16; 3]]) -> Result<Crunched, Refusal>
     requires { p.w.count ≤ length points.old }
     ensures { Gives (after points) (outcome_by closed (before points) p) result }
 {
     let w = p.w;
     let tally = p.tally;
     if w.over {
-        return Crunched::Refused(9);
+        return Err(Refusal::OutputTooShort);
     }
-    let n = contour::finish(points, w, closed);
-    Crunched::Points(n, tally)
+    let points = contour::finish(points, w, closed);
+    Ok(Crunched { points, tally })
 }
 
 // What the work comes to.
-pub fn finish(c: Crunching, closed: bool, points: &mut [[i16; 3]]) -> Crunched
+pub fn finish(
+    c: Result<Crunching, Refusal>,
+    closed: bool,
+    points: &mut [[i16; 3]],
+) -> Result<Crunched, Refusal>
     requires { Counted points.old c }
     ensures { Gives (after points) (outcome_in closed (before points) c) result }
 {
-    match c {
-        Crunching::Refused(k) => Crunched::Refused(k),
+    match c? {
         Crunching::Ended(p) => finish_points(p, closed, points),
         Crunching::Going(p) => finish_points(p, closed, points),
     }
@@ -63,31 +65,30 @@ pub fn crunch_into(
     answers: &mut [[f64; 3]],
     links: &mut [u32],
     points: &mut [[i16; 3]],
-) -> Crunched
+) -> Result<Crunched, Refusal>
     ensures { Gives (after points)
         (crunch_of (rooms_in samples breaks answers links) (room points) settings xs.now ys.now flags.now) result }
 {
-    match settings.judge(xs, ys, flags) {
-        Judged::Refused(k) => Crunched::Refused(k),
-        Judged::Fine => {
-            let c = assembly::crunch_points(
-                xs, ys, flags, settings, samples, breaks, answers, links, points,
-            );
-            finish(c, settings.closed, points)
-        }
-    }
+    settings.judge(xs, ys, flags)?;
+    let c = assembly::crunch_points(
+        xs, ys, flags, settings, samples, breaks, answers, links, points,
+    );
+    finish(c, settings.closed, points)
 }
 
 // The first points of the row, to the output rows.
-pub fn put_out(c: Crunched, points: &[[i16; 3]], ox: &mut [i16], oy: &mut [i16], of: &mut [u8])
+pub fn put_out(
+    c: Result<Crunched, Refusal>,
+    points: &[[i16; 3]],
+    ox: &mut [i16],
+    oy: &mut [i16],
+    of: &mut [u8],
+)
     requires { Fits points.now (outputs ox.old oy.old of.old) c }
     ensures { outputs (after ox) (after oy) (after of) ≡ copied c points.now (outputs (before ox) (before oy) (before of)) }
 {
-    match c {
-        Crunched::Refused(_) => {}
-        Crunched::Points(n, _) => {
-            contour::copy_out(points, n, ox, oy, of);
-        }
+    if let Ok(crunched) = c {
+        contour::copy_out(points, crunched.points, ox, oy, of);
     }
 }
 
@@ -105,7 +106,7 @@ fn crunch(
     answers: &mut [[f64; 3]],
     links: &mut [u32],
     points: &mut [[i16; 3]],
-) -> Crunched
+) -> Result<Crunched, Refusal>
     ensures { Answered (contour xs ys flags) settings (rows ox oy of (scratch samples breaks answers links) points) result }
 {
     let room = rows::least(
@@ -140,7 +141,7 @@ pub fn crunch_contour(
     answers: &mut [[f64; 3]],
     links: &mut [u32],
     points: &mut [[i16; 3]],
-) -> Crunched
+) -> Result<Crunched, Refusal>
     ensures { Promise (contour xs ys flags) settings (rows ox oy of (scratch samples breaks answers links) points) result }
 {
     let r = crunch(

@@ -1,5 +1,6 @@
 -- A contour let through enters the base: what is written is refused by none of 1 to 5. And each of its cubics has one depth, of at most
 -- five halvings. The statements are those of specs/Statements. Assumes nothing.
+use Rattle.std.specs.Prelude.{Result, Ok, Err}
 use Prim.Native.Nat.{ℕ, zero, suc, ◌+◌, ◌-◌, ◌<◌}
 use mathlib.Core.Bool.{Bool, true, false, not, and-false, true≢false, false≢true}
 use mathlib.Core.List.{List, [], ◌∷◌, ◌++◌, append_assoc}
@@ -10,7 +11,8 @@ use lib.IntN.{ℤ}
 use lib.ListN.{length, get_or, length-map}
 use Rattle.refusals.specs.Refusals.{is_on, first_off, off_neighbours, too_many, refuse, rows_differ, no_point}
 use Rattle.refusals.specs.Accepted.{judged_fine}
-use Rattle.refusals.specs.declared.Judged.{Judged}
+use Rattle.refusals.specs.declared.refusal.Refusal.TheVariants.{UnevenRows, NoPoint, TooManyPoints, StartsOffCurve}
+use Rattle.refusals.specs.declared.refusal.Refusal.{Refusal}
 use Rattle.rows.specs.Lent.{inputs}
 use Rattle.rows.specs.Sixteen.{SixteenBits}
 use Rattle.rows.proofs.Sixteen.{sixteen_at}
@@ -24,8 +26,6 @@ use Rattle.cubics.specs.Replacing.{on_at, after_pair, four_at, curve_at, itself_
 use Rattle.cubics.specs.Refusing.{judged_cubics}
 use Rattle.cubics.specs.Entry.{refuse_if, answer_in, after_judging}
 use Rattle.cubics.specs.Statements.{QuadsEnterTheBase, EachHasOneDepth}
-use Rattle.cubics.specs.declared.Replaced as D
-use Rattle.cubics.specs.declared.Replaced.TheVariants as Replaced
 
 -- ---- points in which an off-curve one comes only after an on-curve one: from, and to, on-curve is true
 
@@ -110,7 +110,7 @@ head_on xs ys fs (suc k) some h = let first = first_stays xs ys fs k h in rw fir
 
 -- ---- what is let through
 
-open_refusal : (k : ℕ) (t : Bool) (later : Judged) → refuse k t later ≡ Judged.Fine → (t ≡ false) × (later ≡ Judged.Fine)
+open_refusal : (k : Refusal) (t : Bool) (later : Result Unit Refusal) → refuse k t later ≡ Ok tt → (t ≡ false) × (later ≡ Ok tt)
 open_refusal k true later h = let z : ◌≡◌ {A = ℕ} 0 1 = cc in absurd (omega arith)
 open_refusal k false later h = (refl, h)
 
@@ -118,27 +118,27 @@ started : (fs : List ℕ) → no_point (length fs) ≡ false → first_off fs �
 started [] h k = absurd (true≢false h)
 started (f ∷ fs) h k = (omega arith, not-false (is_on f) k)
 
-judged_starts : (xs ys : List ℤ) (fs : List ℕ) → judged_cubics xs ys fs ≡ Judged.Fine → (0 < length fs) × (on_at fs 0 ≡ true)
+judged_starts : (xs ys : List ℤ) (fs : List ℕ) → judged_cubics xs ys fs ≡ Ok tt → (0 < length fs) × (on_at fs 0 ≡ true)
 unfolding judged_cubics
 judged_starts xs ys fs h =
-    let one = open_refusal 1 (rows_differ (length xs) (length ys) (length fs)) _ h in
-    let two = open_refusal 2 (no_point (length fs)) _ one.1 in
-    let four = open_refusal 4 (first_off fs) _ two.1 in
+    let one = open_refusal UnevenRows (rows_differ (length xs) (length ys) (length fs)) _ h in
+    let two = open_refusal NoPoint (no_point (length fs)) _ one.1 in
+    let four = open_refusal StartsOffCurve (first_off fs) _ two.1 in
     started fs two.0 four.0
 
-refused_or : (k : ℕ) (t : Bool) (later : D.Replaced) (n : ℕ) → refuse_if Replaced.Refused Replaced.Quads k t later ≡ Replaced.Quads n → (t ≡ false) × (later ≡ Replaced.Quads n)
+refused_or : (k : Refusal) (t : Bool) (later : Result ℕ Refusal) (n : ℕ) → refuse_if Err Ok k t later ≡ Ok n → (t ≡ false) × (later ≡ Ok n)
 refused_or k true later n h = let z : ◌≡◌ {A = ℕ} 0 1 = cc in absurd (omega arith)
 refused_or k false later n h = (refl, h)
 
-fine_or : (j : Judged) (later : D.Replaced) (n : ℕ) → after_judging j later ≡ Replaced.Quads n → (j ≡ Judged.Fine) × (later ≡ Replaced.Quads n)
-fine_or (Judged.Refused k) later n h = let z : ◌≡◌ {A = ℕ} 0 1 = cc in absurd (omega arith)
-fine_or Judged.Fine later n h = (refl, h)
+fine_or : (j : Result Unit Refusal) (later : Result ℕ Refusal) (n : ℕ) → after_judging j later ≡ Ok n → (j ≡ Ok tt) × (later ≡ Ok n)
+fine_or (Err k) later n h = let z : ◌≡◌ {A = ℕ} 0 1 = cc in absurd (omega arith)
+fine_or (Ok tt) later n h = (refl, h)
 
 pub none_refused : QuadsEnterTheBase
 none_refused (inputs xs ys fs) room n h =
     let ps = points_to xs ys fs (length fs) in
     let past = fine_or (judged_cubics xs ys fs) (answer_in room ps) n h in
-    let three = refused_or 3 (too_many (length ps)) _ n past.1 in
+    let three = refused_or TooManyPoints (too_many (length ps)) _ n past.1 in
     let start = judged_starts xs ys fs past.0 in
     let head = head_on xs ys fs (length fs) start.0 start.1 in
     let as_x : length (column 0 ps) ≡ length ps = length-map ps (λ (p : List ℤ). number p 0) in

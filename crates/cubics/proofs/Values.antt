@@ -1,4 +1,6 @@
 -- Worked values, by computing the definitions. Assumes nothing.
+use Rattle.std.specs.Prelude.{Ok, Err}
+use Rattle.refusals.specs.declared.refusal.Refusal.TheVariants.{OffCurveNeighbours, Outside16Bits}
 use Prim.Native.Nat.{ℕ}
 use mathlib.Core.List.{List, [], ◌∷◌}
 use mathlib.Core.Path.{◌≡◌, refl}
@@ -8,7 +10,6 @@ use Rattle.halving.specs.Cubic.{point, between}
 use Rattle.cubics.specs.Replacing.{points_to, outside_point, any_outside}
 use Rattle.cubics.specs.Refusing.{unpaired_from, judged_cubics}
 use Rattle.cubics.specs.Entry.{points_of, whole_of}
-use Rattle.cubics.specs.declared.Replaced.TheVariants.{Refused, Quads}
 
 row : ℤ → ℤ → ℤ → ℤ → List ℤ
 row a b c d = a ∷ b ∷ c ∷ d ∷ []
@@ -30,15 +31,15 @@ unfolding row still pair points_to between
 nine = refl
 
 -- a control outside 16 bits; 32767.25 passes, 32767.5 does not
-outside_by_far : whole_of (inputs (row (negsuc 32767) (pos 32767) (pos 32767) (negsuc 32767)) still pair) 1024 ≡ Refused 17
+outside_by_far : whole_of (inputs (row (negsuc 32767) (pos 32767) (pos 32767) (negsuc 32767)) still pair) 1024 ≡ Err Outside16Bits
 unfolding row still pair points_to between outside_point any_outside unpaired_from judged_cubics
 outside_by_far = refl
 
-a_quarter : whole_of (inputs (row (pos 32766) (pos 32767) (pos 32767) (pos 32767)) still pair) 1024 ≡ Quads 3
+a_quarter : whole_of (inputs (row (pos 32766) (pos 32767) (pos 32767) (pos 32767)) still pair) 1024 ≡ Ok 3
 unfolding row still pair points_to between outside_point any_outside unpaired_from judged_cubics
 a_quarter = refl
 
-a_half : whole_of (inputs (row (pos 32766) (pos 32767) (pos 32767) (pos 32766)) still pair) 1024 ≡ Refused 17
+a_half : whole_of (inputs (row (pos 32766) (pos 32767) (pos 32767) (pos 32766)) still pair) 1024 ≡ Err Outside16Bits
 unfolding row still pair points_to between outside_point any_outside unpaired_from judged_cubics
 a_half = refl
 
@@ -48,6 +49,6 @@ unfolding points_to between
 closing = refl
 
 -- 5 before 17: three in a stretch
-three : whole_of (inputs (row (pos 0) (pos 1) (pos 1) (pos 1)) still (1 ∷ 0 ∷ 0 ∷ 0 ∷ [])) 1024 ≡ Refused 5
+three : whole_of (inputs (row (pos 0) (pos 1) (pos 1) (pos 1)) still (1 ∷ 0 ∷ 0 ∷ 0 ∷ [])) 1024 ≡ Err OffCurveNeighbours
 unfolding row still points_to between outside_point any_outside unpaired_from judged_cubics
 three = refl

@@ -1,16 +1,16 @@
 -- `from_cubics` over a contour: what it answers, and what it leaves in the rows. Definitions only.
-use Rattle.std.specs.Prelude.{ℕ, min, Bool, true, false, ◌≡◌, ltb, ℤ, length}
+use Rattle.std.specs.Prelude.{ℕ, min, Bool, true, false, ◌≡◌, ltb, ℤ, length, Result, Ok, Err}
 use denote.Triple.Both.{Both}
 use Rattle.refusals.specs.Refusals.{too_many}
-use Rattle.refusals.specs.declared.Judged.{Judged}
+use Rattle.refusals.specs.declared.refusal.Refusal.TheVariants.{TooManyPoints, OutputTooShort, Outside16Bits}
+use Rattle.refusals.specs.declared.refusal.Refusal.{Refusal}
+use Rattle.refusals.specs.Number.{number_of}
 use Rattle.rows.specs.Lent.{Lent, before, after, Inputs, inputs}
 use Rattle.contour.specs.Points.{Points}
 use Rattle.contour.specs.Output.{Outputs, outputs, with_points}
 use Rattle.cubics.specs.Replacing as Replacing
 use Rattle.cubics.specs.Replacing.{any_outside}
 use Rattle.cubics.specs.Refusing.{judged_cubics}
-use Rattle.cubics.specs.declared.Replaced as D
-use Rattle.cubics.specs.declared.Replaced.TheVariants as Replaced
 
 abbrev pub lent : Lent ℤ → Lent ℤ → Lent ℕ → Both Outputs Outputs
 lent ox oy of = record { entry = outputs (before ox) (before oy) (before of); exit = outputs (after ox) (after oy) (after of) }
@@ -24,65 +24,65 @@ pub record Report : Type 0 where
   pub number : ℕ
   pub points : ℕ
 
-abbrev pub refusing : ℕ → Report
-refusing k = record { number = k; points = 0 }
+abbrev pub refusing : Refusal → Report
+refusing k = record { number = number_of k; points = 0 }
 
 abbrev pub making : ℕ → Report
 making n = record { number = 0; points = n }
 
-abbrev pub report : D.Replaced → Report
-report (Replaced.Refused k) = refusing k
-report (Replaced.Quads n) = making n
+abbrev pub report : Result ℕ Refusal → Report
+report (Err k) = refusing k
+report (Ok n) = making n
 
 -- ---- what becomes of a contour: said by an answer, or by the documents' values
 
-abbrev pub judged_of : Inputs → Judged
+abbrev pub judged_of : Inputs → Result Unit Refusal
 judged_of (inputs xs ys fs) = judged_cubics xs ys fs
 
 abbrev pub points_of : Inputs → Points
 points_of (inputs xs ys fs) = Replacing.points_of xs ys fs
 
-module _ {A : Type 0} (refused made : ℕ → A) where
-  abbrev pub refuse_if : ℕ → Bool → A → A
+module _ {A : Type 0} (refused : Refusal → A) (made : ℕ → A) where
+  abbrev pub refuse_if : Refusal → Bool → A → A
   refuse_if k true later = refused k
   refuse_if k false later = later
 
   -- 3: more than 1,024 points after replacement; 17: a rounded point outside 16 bits; last 9: an output row too short
   abbrev pub said_in : ℕ → Points → A
-  said_in room ps = refuse_if 3 (too_many (length ps)) (refuse_if 17 (any_outside ps) (refuse_if 9 (ltb room (length ps)) (made (length ps))))
+  said_in room ps = refuse_if TooManyPoints (too_many (length ps)) (refuse_if Outside16Bits (any_outside ps) (refuse_if OutputTooShort (ltb room (length ps)) (made (length ps))))
 
   -- 1, 2, 4 and 5 first
-  abbrev pub said_after : Judged → A → A
-  said_after (Judged.Refused k) later = refused k
-  said_after Judged.Fine later = later
+  abbrev pub said_after : Result Unit Refusal → A → A
+  said_after (Err k) later = refused k
+  said_after (Ok tt) later = later
 
   abbrev pub said_of : Inputs → ℕ → A
   said_of i room = said_after (judged_of i) (said_in room (points_of i))
 
-abbrev pub answer_in : ℕ → Points → D.Replaced
-answer_in = said_in Replaced.Refused Replaced.Quads
+abbrev pub answer_in : ℕ → Points → Result ℕ Refusal
+answer_in = said_in Err Ok
 
-abbrev pub after_judging : Judged → D.Replaced → D.Replaced
-after_judging = said_after Replaced.Refused Replaced.Quads
+abbrev pub after_judging : Result Unit Refusal → Result ℕ Refusal → Result ℕ Refusal
+after_judging = said_after Err Ok
 
-abbrev pub whole_of : Inputs → ℕ → D.Replaced
-whole_of = said_of Replaced.Refused Replaced.Quads
+abbrev pub whole_of : Inputs → ℕ → Result ℕ Refusal
+whole_of = said_of Err Ok
 
 abbrev pub values_of : Inputs → ℕ → Report
 values_of = said_of refusing making
 
 -- what is left in the output rows: a refusal writes nothing
-abbrev pub left_by : D.Replaced → Points → Outputs → Outputs
-left_by (Replaced.Refused k) ps o = o
-left_by (Replaced.Quads n) ps o = with_points ps o
+abbrev pub left_by : Result ℕ Refusal → Points → Outputs → Outputs
+left_by (Err k) ps o = o
+left_by (Ok n) ps o = with_points ps o
 
 -- what comes of points that are made, in the rows w
-pub record WrittenOut (ps : Points) (w : Both Outputs Outputs) (r : D.Replaced) : Type 0 where
+pub record WrittenOut (ps : Points) (w : Both Outputs Outputs) (r : Result ℕ Refusal) : Type 0 where
   pub answer : r ≡ answer_in (room_of w.entry) ps
   pub left : w.exit ≡ left_by r ps w.entry
 
 -- the entry's contract: what it hands back, by its case and by the documents' values, and what it leaves in the rows w
-pub record Promise (i : Inputs) (w : Both Outputs Outputs) (r : D.Replaced) : Type 0 where
+pub record Promise (i : Inputs) (w : Both Outputs Outputs) (r : Result ℕ Refusal) : Type 0 where
   pub answer : r ≡ whole_of i (room_of w.entry)
   pub values : report r ≡ values_of i (room_of w.entry)
   pub left : w.exit ≡ left_by r (points_of i) w.entry

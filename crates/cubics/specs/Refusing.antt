@@ -1,8 +1,8 @@
 -- What a contour of cubics is refused for before it is worked: 1, 2, 4 as for any contour, and 5 of pairs. Definitions only.
-use Rattle.std.specs.Prelude.{ℕ, ◌+◌, Bool, true, false, not, ◌&&◌, ◌||◌, List, [], ◌∷◌, eqb, ℤ, length}
+use Rattle.std.specs.Prelude.{ℕ, ◌+◌, Bool, true, false, not, ◌&&◌, ◌||◌, List, [], ◌∷◌, eqb, ℤ, length, Result, Ok}
 use Rattle.refusals.specs.Refusals.{is_on, rows_differ, no_point, first_off, refuse}
-use Rattle.refusals.specs.declared.Judged.{Judged}
-use Rattle.refusals.specs.declared.Judged.TheVariants.{Fine}
+use Rattle.refusals.specs.declared.refusal.Refusal.TheVariants.{UnevenRows, NoPoint, StartsOffCurve, OffCurveNeighbours}
+use Rattle.refusals.specs.declared.refusal.Refusal.{Refusal}
 
 -- a stretch of n off-curve points that is not two long; none is no stretch
 abbrev pub unpaired : ℕ → Bool
@@ -23,9 +23,9 @@ abbrev pub off_pairs : List ℕ → Bool
 off_pairs fs = unpaired_from fs 0
 
 -- 1, 2, 4 and 5 are tested in that order; 3 counts the points after replacement, and comes after them
-unfoldable pub judged_cubics : List ℤ → List ℤ → List ℕ → Judged
+unfoldable pub judged_cubics : List ℤ → List ℤ → List ℕ → Result Unit Refusal
 judged_cubics xs ys fs =
     let n = length fs in
-    refuse 1 (rows_differ (length xs) (length ys) n)
-    (refuse 2 (no_point n)
-    (refuse 4 (first_off fs) (refuse 5 (off_pairs fs) Fine)))
+    refuse UnevenRows (rows_differ (length xs) (length ys) n)
+    (refuse NoPoint (no_point n)
+    (refuse StartsOffCurve (first_off fs) (refuse OffCurveNeighbours (off_pairs fs) (Ok tt))))

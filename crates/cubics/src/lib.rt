@@ -18,19 +18,11 @@ ghost use Rattle.cubics.specs.Entry.{lent, WrittenOut, Promise};
 
 use contour::Written;
 use halving::{Axis, Cubic};
-use refusals::Judged;
+use refusals::Refusal;
 
-// What `from_cubics` answers.
-#[derive(Clone, Copy)]
-pub enum Replaced {
-    // the number of a refusal
-    Refused(u8),
-    // points written
-    Quads(usize),
-}
-
-// So many points are made; over: there were more than the row takes; far: one of them is outside 16 bits.
-#[derive(Clone, Copy)]
+// So many points are made; over: there were more than the row takes; far: one of them is outside 16 bits. What was
+// made goes on to count after either, since `over` is refused before `far`, and both before a short output row.
+#[derive(Clone, Copy, Debug, PartialEq, Eq)]
 pub struct Made {
     pub count: usize,
     pub over: bool,
@@ -38,15 +30,6 @@ pub struct Made {
 }
 
 // ---- points
-
-fn either(a: bool, b: bool) -> bool
-    ensures { result ≡ (a || b) }
-{
-    if a {
-        return true;
-    }
-    b
-}
 
 // One point more.
 fn put(points: &mut [[i16; 3]], m: Made, p: [i16; 3], far: bool) -> Made
@@ -60,7 +43,7 @@ fn put(points: &mut [[i16; 3]], m: Made, p: [i16; 3], far: bool) -> Made
     Made {
         count: v.count,
         over: v.over,
-        far: either(m.far, far),
+        far: m.far | far,
     }
 }
 
@@ -71,7 +54,7 @@ fn put_rounded(points: &mut [[i16; 3]], m: Made, x: f64, y: f64, on: i16) -> Mad
 {
     let a = halving::nearest(x);
     let b = halving::nearest(y);
-    put(points, m, [a.value, b.value, on], either(a.far, b.far))
+    put(points, m, [a.value, b.value, on], a.far | b.far)
 }
 
 fn put_start(points: &mut [[i16; 3]], m: Made, c: Cubic) -> Made
@@ -120,10 +103,7 @@ fn coordinate(row: &[i16], i: usize) -> i16
 fn on_at(flags: &[u8], i: usize) -> bool
     ensures { result ≡ on_at flags.now i }
 {
-    if i < flags.len() {
-        return refusals::is_on(flags[i]);
-    }
-    false
+    i < flags.len() && refusals::is_on(flags[i])
 }
 
 // The place after a pair whose first stands at i, of n, going round.
@@ -196,10 +176,8 @@ fn replace(xs: &[i16], ys: &[i16], flags: &[u8], points: &mut [[i16; 3]]) -> Mad
         over: false,
         far: false,
     };
-    let mut i = 0;
-    while i < flags.len() {
+    for i in 0..flags.len() {
         m = put_place(xs, ys, flags, points, m, i);
-        i += 1;
     }
     m
 }
@@ -210,20 +188,14 @@ fn replace(xs: &[i16], ys: &[i16], flags: &[u8], points: &mut [[i16; 3]]) -> Mad
 fn unpaired(n: usize) -> bool
     ensures { result ≡ unpaired n }
 {
-    if n == 0 {
-        return false;
-    }
-    n != 2
+    n != 0 && n != 2
 }
 
 // Whether a stretch of n off-curve points before this flag ends there, and is not two long.
 fn ends_unpaired(flag: u8, n: usize) -> bool
     ensures { result ≡ (is_on flag && unpaired n) }
 {
-    if refusals::is_on(flag) {
-        return unpaired(n);
-    }
-    false
+    refusals::is_on(flag) && unpaired(n)
 }
 
 // How many off-curve points stand next to each other up to this flag, where there were n before it.
@@ -242,34 +214,32 @@ fn off_pairs(flags: &[u8]) -> bool
     ensures { result ≡ off_pairs flags.now }
 {
     let mut n = 0;
-    let mut i = 0;
-    while i < flags.len() {
+    for i in 0..flags.len() {
         if ends_unpaired(flags[i], n) {
             return true;
         }
         n = off_after(flags[i], n);
-        i += 1;
     }
     unpaired(n)
 }
 
 // Refusals 1, 2, 4 and 5, in their order.
-fn judge(xs: &[i16], ys: &[i16], flags: &[u8]) -> Judged
+fn judge(xs: &[i16], ys: &[i16], flags: &[u8]) -> Result<(), Refusal>
     ensures { result ≡ judged_cubics xs.now ys.now flags.now }
 {
     if refusals::rows_differ(xs.len(), ys.len(), flags.len()) {
-        return Judged::Refused(1);
+        return Err(Refusal::UnevenRows);
     }
     if refusals::no_point(flags.len()) {
-        return Judged::Refused(2);
+        return Err(Refusal::NoPoint);
     }
     if refusals::first_off(flags) {
-        return Judged::Refused(4);
+        return Err(Refusal::StartsOffCurve);
     }
     if off_pairs(flags) {
-        return Judged::Refused(5);
+        return Err(Refusal::OffCurveNeighbours);
     }
-    Judged::Fine
+    Ok(())
 }
 
 // ---- the entry
@@ -281,22 +251,22 @@ fn write_made(
     ox: &mut [i16],
     oy: &mut [i16],
     of: &mut [u8],
-) -> Replaced
+) -> Result<usize, Refusal>
     requires { m.count ≤ length points.now }
     ensures { (ps : Points) → MadeOf 1024 points.now m ps → WrittenOut ps (lent ox oy of) result }
 {
     if m.over {
-        return Replaced::Refused(3);
+        return Err(Refusal::TooManyPoints);
     }
     if m.far {
-        return Replaced::Refused(17);
+        return Err(Refusal::Outside16Bits);
     }
     let n = m.count;
     if rows::least(rows::least(ox.len(), oy.len()), of.len()) < n {
-        return Replaced::Refused(9);
+        return Err(Refusal::OutputTooShort);
     }
     contour::copy_out(points, n, ox, oy, of);
-    Replaced::Quads(n)
+    Ok(n)
 }
 
 fn replace_fine(
@@ -306,7 +276,7 @@ fn replace_fine(
     ox: &mut [i16],
     oy: &mut [i16],
     of: &mut [u8],
-) -> Replaced
+) -> Result<usize, Refusal>
     ensures { WrittenOut (points_of xs.now ys.now flags.now) (lent ox oy of) result }
 {
     let mut points = [[0i16; 3]; 1024];
@@ -322,11 +292,9 @@ pub fn from_cubics(
     ox: &mut [i16],
     oy: &mut [i16],
     of: &mut [u8],
-) -> Replaced
+) -> Result<usize, Refusal>
     ensures { Promise (contour xs ys flags) (lent ox oy of) result }
 {
-    match judge(xs, ys, flags) {
-        Judged::Refused(k) => Replaced::Refused(k),
-        Judged::Fine => replace_fine(xs, ys, flags, ox, oy, of),
-    }
+    judge(xs, ys, flags)?;
+    replace_fine(xs, ys, flags, ox, oy, of)
 }

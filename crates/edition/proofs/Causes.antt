@@ -9,6 +9,7 @@ use borrow.Author.Tests.{lt-ltb, le-ltb}
 use lib.Ieee.{Float}
 use lib.IntN.{ℤ}
 use lib.ListN.{length}
+use Rattle.refusals.specs.declared.refusal.Refusal.TheVariants.{TooManyBreaks, PastLastSample}
 use Rattle.breaks.specs.Breaks.{Row, breaks_of}
 use Rattle.breaks.specs.Breaks as Breaks
 use Rattle.breaks.specs.Laws.{found_some}
@@ -23,14 +24,14 @@ use Rattle.optimize.proofs.Unchanged.{ends, unchanged_by}
 use Rattle.survey.specs.Survey.{Survey, sample_room, break_room, searched, after_sampling, survey_of}
 use Rattle.survey.specs.Never.{Sixteen, Finds}
 use Rattle.survey.proofs.Never.{finds_exactly}
-use Rattle.edition.specs.Edition.{Result, refused, unchanged, solved, answer_room, result_of, unless_short, edition_of, after_survey, Rooms, work_of}
+use Rattle.edition.specs.Edition.{RunOutcome, refused, unchanged, solved, answer_room, result_of, unless_short, edition_of, after_survey, Rooms, work_of}
 use Rattle.edition.specs.Causes.{SampledRun, least_room, optimised, fell, Left, Cause, long, many, measuring, unanswered, answered, HasCause, SevenExactly, EightExactly, UnchangedExactly}
 
 module _ (rooms : Rooms) (g : Grid) (penalty : Float) (xs ys : List ℤ) (fs : List ℕ) (first count : ℕ) (sx : Sixteen xs) (sy : Sixteen ys) where
-  abbrev work : Result
+  abbrev work : RunOutcome
   work = work_of rooms g penalty xs ys fs first count
 
-  abbrev after : Survey → Result
+  abbrev after : Survey → RunOutcome
   after = after_survey rooms.answers rooms.links penalty
 
   abbrev Runs : Type 0
@@ -60,17 +61,17 @@ module _ (rooms : Rooms) (g : Grid) (penalty : Float) (xs ys : List ℤ) (fs : L
         let fits = subst (λ (b : Row). length b ≤ break_room rooms.breaks → breaks_of (break_room rooms.breaks) r.samples g r.len ≡ Breaks.breaks b) same found.fits in
         sampled_work ∙ ap (λ (x : Breaks.RunBreaks). after (searched r.samples x)) (fits h)
 
-    short_work : break_room rooms.breaks < length r.row → work ≡ refused 7
+    short_work : break_room rooms.breaks < length r.row → work ≡ refused TooManyBreaks
     short_work h =
-        let more = subst (λ (b : Row). break_room rooms.breaks < length b → breaks_of (break_room rooms.breaks) r.samples g r.len ≡ Breaks.refused 7) same found.short in
+        let more = subst (λ (b : Row). break_room rooms.breaks < length b → breaks_of (break_room rooms.breaks) r.samples g r.len ≡ Breaks.refused TooManyBreaks) same found.short in
         sampled_work ∙ ap (λ (x : Breaks.RunBreaks). after (searched r.samples x)) (more h)
 
     -- more breaks than a room takes
-    many_work : least_room rooms < length r.row → work ≡ refused 7
+    many_work : least_room rooms < length r.row → work ≡ refused TooManyBreaks
     unfolding edition_of
     many_work h = by (dec_lt (break_room rooms.breaks) (length r.row))
       where
-        by : Dec (break_room rooms.breaks < length r.row) → work ≡ refused 7
+        by : Dec (break_room rooms.breaks < length r.row) → work ≡ refused TooManyBreaks
         by (yes more) = short_work more
         by (no fits) =
             searched_work (omega arith)
@@ -108,25 +109,15 @@ module _ (rooms : Rooms) (g : Grid) (penalty : Float) (xs ys : List ℤ) (fs : L
 
 -- ---- no two kinds of result are one
 
-abbrev number : Result → ℕ
-number (refused k) = k
-number (unchanged t) = 0
-number (solved a p) = 0
+not_seven : (c : ℕ) (o : Optimised) → result_of c o ≡ refused TooManyBreaks → ⊥
+not_seven c O.refused8 e = cc
+not_seven c (O.unchanged p) e = cc
+not_seven c (O.solved a p) e = cc
 
-abbrev left : Result → ℕ
-left (refused k) = 0
-left (unchanged t) = 1
-left (solved a p) = 0
-
-not_seven : (c : ℕ) (o : Optimised) → result_of c o ≡ refused 7 → ⊥
-not_seven c O.refused8 e = omega (arith, ap number e)
-not_seven c (O.unchanged p) e = omega (arith, ap number e)
-not_seven c (O.solved a p) e = omega (arith, ap number e)
-
-is_eight : (c : ℕ) (o : Optimised) → result_of c o ≡ refused 8 → o ≡ O.refused8
+is_eight : (c : ℕ) (o : Optimised) → result_of c o ≡ refused PastLastSample → o ≡ O.refused8
 is_eight c O.refused8 e = refl
-is_eight c (O.unchanged p) e = absurd (omega (arith, ap number e))
-is_eight c (O.solved a p) e = absurd (omega (arith, ap number e))
+is_eight c (O.unchanged p) e = absurd cc
+is_eight c (O.solved a p) e = absurd cc
 
 module _ (rooms : Rooms) (g : Grid) (penalty : Float) (xs ys : List ℤ) (fs : List ℕ) (first count : ℕ) where
   pub causes : HasCause rooms g penalty xs ys fs first count
@@ -135,7 +126,7 @@ module _ (rooms : Rooms) (g : Grid) (penalty : Float) (xs ys : List ℤ) (fs : L
   pub seven_exactly : SevenExactly rooms g penalty xs ys fs first count
   seven_exactly sx sy r = (λ e. by e (dec_lt (least_room rooms) (length r.row)), many_work rooms g penalty xs ys fs first count sx sy r)
     where
-      by : work_of rooms g penalty xs ys fs first count ≡ refused 7 → Dec (least_room rooms < length r.row) → least_room rooms < length r.row
+      by : work_of rooms g penalty xs ys fs first count ≡ refused TooManyBreaks → Dec (least_room rooms < length r.row) → least_room rooms < length r.row
       by e (yes more) = more
       by e (no fits) = absurd (not_seven _ (optimised rooms g penalty xs ys fs first count r) (sym (fits_work rooms g penalty xs ys fs first count sx sy r (omega arith)) ∙ e))
 
@@ -145,19 +136,21 @@ module _ (rooms : Rooms) (g : Grid) (penalty : Float) (xs ys : List ℤ) (fs : L
     λ h. fits_work rooms g penalty xs ys fs first count sx sy r h.0 ∙ ap (result_of (fell rooms g penalty xs ys fs first count r)) h.1,
   )
     where
-      by : work_of rooms g penalty xs ys fs first count ≡ refused 8 → Dec (least_room rooms < length r.row) →
+      by : work_of rooms g penalty xs ys fs first count ≡ refused PastLastSample → Dec (least_room rooms < length r.row) →
           (length r.row ≤ least_room rooms) × (optimised rooms g penalty xs ys fs first count r ≡ O.refused8)
-      by e (yes more) = absurd (omega (arith, ap number (sym (many_work rooms g penalty xs ys fs first count sx sy r more) ∙ e)))
+      by e (yes more) =
+          let both : refused TooManyBreaks ≡ refused PastLastSample = sym (many_work rooms g penalty xs ys fs first count sx sy r more) ∙ e in
+          absurd cc
       by e (no fits) =
           let h : length r.row ≤ least_room rooms = omega arith in
           (h, is_eight _ (optimised rooms g penalty xs ys fs first count r) (sym (fits_work rooms g penalty xs ys fs first count sx sy r h) ∙ e))
 
-  left_cause : {x : Result} → Cause rooms g penalty xs ys fs first count x → (t : Tally) → x ≡ unchanged t → Left rooms g penalty xs ys fs first count t
-  left_cause (long h) t e = absurd (omega (arith, ap left e))
-  left_cause (many r h) t e = absurd (omega (arith, ap left e))
-  left_cause (measuring r h o) t e = absurd (omega (arith, ap left e))
+  left_cause : {x : RunOutcome} → Cause rooms g penalty xs ys fs first count x → (t : Tally) → x ≡ unchanged t → Left rooms g penalty xs ys fs first count t
+  left_cause (long h) t e = absurd cc
+  left_cause (many r h) t e = absurd cc
+  left_cause (measuring r h o) t e = absurd cc
   left_cause (unanswered u) t e = record { cause = u; is = cc }
-  left_cause (answered r h a p o) t e = absurd (omega (arith, ap left e))
+  left_cause (answered r h a p o) t e = absurd cc
 
   pub unchanged_exactly : UnchangedExactly rooms g penalty xs ys fs first count
   unchanged_exactly sx sy t = (

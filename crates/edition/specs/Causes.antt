@@ -1,6 +1,7 @@
 -- Each result of the work on a run of a contour in 16 bits has one cause. The theorems, `causes`, `seven_exactly`, `eight_exactly` and
 -- `unchanged_exactly`, stand in proofs/Causes.antt. Definitions only.
 use Rattle.std.specs.Prelude.{ℕ, min, ◌≤◌, ◌<◌, List, ◌↔◌, ◌≡◌, Float, ℤ, length}
+use Rattle.refusals.specs.declared.refusal.Refusal.TheVariants.{TooManySamples, TooManyBreaks, PastLastSample}
 use Rattle.breaks.specs.Breaks.{Row}
 use Rattle.breaks.specs.Breaks as Breaks
 use Rattle.breaks.specs.declared.Grid.{Grid}
@@ -14,7 +15,7 @@ use Rattle.survey.specs.Survey.{sample_room, break_room}
 use Rattle.survey.specs.Never.{Sixteen, all_breaks}
 use Rattle.optimize.specs.Tally.{tally}
 use Rattle.optimize.specs.declared.Tally.{Tally}
-use Rattle.edition.specs.Edition.{Result, refused, unchanged, solved, answer_room, fell_in, Rooms, work_of}
+use Rattle.edition.specs.Edition.{RunOutcome, refused, unchanged, solved, answer_room, fell_in, Rooms, work_of}
 
 module _ (rooms : Rooms) (g : Grid) (xs ys : List ℤ) (fs : List ℕ) (first count : ℕ) where
   -- a run that is sampled, not given 6, and all its breaks
@@ -42,10 +43,10 @@ module _ (rooms : Rooms) (g : Grid) (penalty : Float) (xs ys : List ℤ) (fs : L
     pub fits : length run.row ≤ least_room rooms
     pub nothing : NoAnswer (measure_by run.samples run.row) run.row penalty
 
-  pub data Cause : Result → Type 0 where
-    long : thetas_of (sample_room rooms.samples) (quads_of xs ys fs first count) ≡ Samples.refused → Cause (refused 6)
-    many : (r : SampledRun rooms g xs ys fs first count) → least_room rooms < length r.row → Cause (refused 7)
-    measuring : (r : SampledRun rooms g xs ys fs first count) → length r.row ≤ least_room rooms → optimised r ≡ O.refused8 → Cause (refused 8)
+  pub data Cause : RunOutcome → Type 0 where
+    long : thetas_of (sample_room rooms.samples) (quads_of xs ys fs first count) ≡ Samples.refused → Cause (refused TooManySamples)
+    many : (r : SampledRun rooms g xs ys fs first count) → least_room rooms < length r.row → Cause (refused TooManyBreaks)
+    measuring : (r : SampledRun rooms g xs ys fs first count) → length r.row ≤ least_room rooms → optimised r ≡ O.refused8 → Cause (refused PastLastSample)
     unanswered : (u : Unanswered) → Cause (unchanged (tally 1 (fell u.run)))
     answered : (r : SampledRun rooms g xs ys fs first count) → length r.row ≤ least_room rooms → (a : Statelet) (pairs : ℕ) → optimised r ≡ O.solved a pairs →
         Cause (solved a (tally pairs (fell r)))
@@ -66,13 +67,13 @@ module _ (rooms : Rooms) (g : Grid) (penalty : Float) (xs ys : List ℤ) (fs : L
   abbrev pub SevenExactly : Type 0
   SevenExactly =
       In16 ((r : SampledRun rooms g xs ys fs first count) →
-      (work_of rooms g penalty xs ys fs first count ≡ refused 7) ↔ (least_room rooms < length r.row))
+      (work_of rooms g penalty xs ys fs first count ≡ refused TooManyBreaks) ↔ (least_room rooms < length r.row))
 
   -- 8 only in measuring
   abbrev pub EightExactly : Type 0
   EightExactly =
       In16 ((r : SampledRun rooms g xs ys fs first count) →
-      (work_of rooms g penalty xs ys fs first count ≡ refused 8) ↔ ((length r.row ≤ least_room rooms) × (optimised r ≡ O.refused8)))
+      (work_of rooms g penalty xs ys fs first count ≡ refused PastLastSample) ↔ ((length r.row ≤ least_room rooms) × (optimised r ≡ O.refused8)))
 
   -- no change: no answer at the last break after the first pair
   abbrev pub UnchangedExactly : Type 0

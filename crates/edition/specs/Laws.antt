@@ -1,11 +1,13 @@
 -- Laws for callers: the work on a run that is solved is the optimiser's for the run's survey, and how many pairs it tries; longer rows change no result
 -- but one refused 6 or 7. Assumes nothing.
-use Rattle.std.specs.Prelude.{ℕ, ◌≤◌, Bool, List, ◌≡◌, ltb, Float, ℤ}
+use Rattle.std.specs.Prelude.{ℕ, ◌≤◌, Bool, List, ◌≡◌, ltb, Float, ℤ, Result, Ok, Err}
 use Rattle.std.proofs.Common.{arith, sym, ◌∙◌}
 use Rattle.std.proofs.Math.Bool.{true, false}
 use Rattle.std.proofs.Math.Path.{refl, ap}
 use borrow.Author.Tests.{ltb-false, le-ltb}
 use Rattle.std.proofs.Math.ListN.{length}
+use Rattle.refusals.specs.declared.refusal.Refusal.TheVariants.{TooManySamples, TooManyBreaks}
+use Rattle.refusals.specs.declared.refusal.Refusal.{Refusal}
 use Rattle.breaks.specs.Breaks.{Row}
 use Rattle.breaks.specs.declared.Grid.{Grid}
 pub use Rattle.rows.specs.Scratch.{same_cleared, cleared_work}
@@ -21,7 +23,7 @@ pub use Rattle.survey.specs.Laws.{surveyed_found, found_rows, in_row}
 use Rattle.survey.specs.Survey.{Survey, survey_of}
 use Rattle.optimize.specs.Tally.{untried}
 use Rattle.optimize.specs.declared.Tally.{Tally}
-use Rattle.edition.specs.Edition.{Result, refused, unchanged, solved, answer_room, result_of, fell_in, unless_short, edition_of}
+use Rattle.edition.specs.Edition.{RunOutcome, refused, unchanged, solved, answer_room, result_of, fell_in, unless_short, edition_of}
 use Rattle.edition.specs.Edition.{after_survey, Rooms, work_of, FoundBreaks, Works, no, stays, holds}
 use Rattle.edition.specs.declared.Worked as W
 use Rattle.edition.specs.declared.Worked.TheVariants as Worked
@@ -39,12 +41,12 @@ pub record Optimal (rooms : Rooms) (g : Grid) (penalty : Float) (xs ys : List �
   pub fine : FoundBreaks breaks
 
 -- no two kinds of result are one
-abbrev is_solved : Result → ℕ
+abbrev is_solved : RunOutcome → ℕ
 is_solved (refused k) = 0
 is_solved (unchanged t) = 0
 is_solved (solved a t) = 1
 
-abbrev pub tally_of : Result → Tally
+abbrev pub tally_of : RunOutcome → Tally
 tally_of (refused k) = untried
 tally_of (unchanged t) = t
 tally_of (solved a t) = t
@@ -89,10 +91,10 @@ module _ (rooms : Rooms) (g : Grid) (penalty : Float) (xs ys : List ℤ) (fs : L
 -- ---- what a run counts
 
 -- none of a refused run
-abbrev pub tally_in : W.Worked → Tally
-tally_in (Worked.Refused k) = untried
-tally_in (Worked.Unchanged t) = t
-tally_in (Worked.Done n k t) = t
+abbrev pub tally_in : Result W.Worked Refusal → Tally
+tally_in (Err k) = untried
+tally_in (Ok (Worked.Unchanged t)) = t
+tally_in (Ok (Worked.Done n k t)) = t
 
 module _ (samples : List Sample) (breaks : Row) (penalty : Float) (fine : FoundBreaks breaks) where
   abbrev fell : ℕ
@@ -116,7 +118,7 @@ module _ (samples : List Sample) (breaks : Row) (penalty : Float) (fine : FoundB
   unfolding edition_of
   edition_few answers links = tested_few (ltb (answer_room answers links) (length breaks))
 
-pub works_tally : {penalty : Float} {breaks : Row} {answers : List (List Float)} {links : List ℕ} {x : Result} {r : W.Worked} →
+pub works_tally : {penalty : Float} {breaks : Row} {answers : List (List Float)} {links : List ℕ} {x : RunOutcome} {r : Result W.Worked Refusal} →
     Works penalty breaks answers links x r → tally_of x ≡ tally_in r
 works_tally (no e) = sym (ap tally_in e)
 works_tally (stays e) = sym (ap tally_in e)
@@ -124,15 +126,15 @@ works_tally (holds samples e few fine is held) = sym (ap tally_in e)
 
 -- what the answer of the work says of its result
 module _ {penalty : Float} {breaks : Row} {answers : List (List Float)} {links : List ℕ} where
-  pub works_refused : {x : Result} {r : W.Worked} {k : ℕ} → Works penalty breaks answers links x r → r ≡ Worked.Refused k → x ≡ refused k
+  pub works_refused : {x : RunOutcome} {r : Result W.Worked Refusal} {k : Refusal} → Works penalty breaks answers links x r → r ≡ Err k → x ≡ refused k
   works_refused (no e) h = cc
-  works_refused (stays e) h = let z : ◌≡◌ {A = ℕ} 0 1 = cc in absurd (omega arith)
-  works_refused (holds samples e few fine is held) h = let z : ◌≡◌ {A = ℕ} 0 1 = cc in absurd (omega arith)
+  works_refused (stays e) h = absurd cc
+  works_refused (holds samples e few fine is held) h = absurd cc
 
-  pub works_unchanged : {x : Result} {r : W.Worked} {t : Tally} → Works penalty breaks answers links x r → r ≡ Worked.Unchanged t → x ≡ unchanged t
-  works_unchanged (no e) h = let z : ◌≡◌ {A = ℕ} 0 1 = cc in absurd (omega arith)
+  pub works_unchanged : {x : RunOutcome} {r : Result W.Worked Refusal} {t : Tally} → Works penalty breaks answers links x r → r ≡ Ok (Worked.Unchanged t) → x ≡ unchanged t
+  works_unchanged (no e) h = absurd cc
   works_unchanged (stays e) h = cc
-  works_unchanged (holds samples e few fine is held) h = let z : ◌≡◌ {A = ℕ} 0 1 = cc in absurd (omega arith)
+  works_unchanged (holds samples e few fine is held) h = absurd cc
 
 -- ---- longer rows
 
@@ -146,14 +148,14 @@ pub record Within (rooms rooms' : Rooms) : Type 0 where
 module _ (rooms rooms' : Rooms) (h : Within rooms rooms') (g : Grid) (penalty : Float) where
   edition_same : (samples : List Sample) (breaks : Row) (short : Bool) → ltb (answer_room rooms.answers rooms.links) (length breaks) ≡ short →
       let r = result_of (fell_in samples breaks penalty) (optimize_of (measure_by samples breaks) breaks penalty) in
-      (unless_short short r ≡ refused 7 → ⊥) → edition_of rooms'.answers rooms'.links samples breaks penalty ≡ unless_short short r
+      (unless_short short r ≡ refused TooManyBreaks → ⊥) → edition_of rooms'.answers rooms'.links samples breaks penalty ≡ unless_short short r
   unfolding edition_of
   edition_same samples breaks true e seven = absurd (seven refl)
   edition_same samples breaks false e seven =
       let few : length breaks ≤ answer_room rooms.answers rooms.links = ltb-false (answer_room rooms.answers rooms.links) (length breaks) e in
       rw (le-ltb (answer_room rooms'.answers rooms'.links) (length breaks) (omega arith)) refl
 
-  after_same : (s : Survey) → (after_survey rooms.answers rooms.links penalty s ≡ refused 7 → ⊥) →
+  after_same : (s : Survey) → (after_survey rooms.answers rooms.links penalty s ≡ refused TooManyBreaks → ⊥) →
       after_survey rooms'.answers rooms'.links penalty s ≡ after_survey rooms.answers rooms.links penalty s
   unfolding edition_of
   after_same (Survey.refused k) seven = refl
@@ -162,7 +164,7 @@ module _ (rooms rooms' : Rooms) (h : Within rooms rooms') (g : Grid) (penalty : 
 
   -- the work on a run
   pub work_same : (xs ys : List ℤ) (fs : List ℕ) (first count : ℕ) →
-      (work_of rooms g penalty xs ys fs first count ≡ refused 6 → ⊥) → (work_of rooms g penalty xs ys fs first count ≡ refused 7 → ⊥) →
+      (work_of rooms g penalty xs ys fs first count ≡ refused TooManySamples → ⊥) → (work_of rooms g penalty xs ys fs first count ≡ refused TooManyBreaks → ⊥) →
       work_of rooms' g penalty xs ys fs first count ≡ work_of rooms g penalty xs ys fs first count
   unfolding work_of
   work_same xs ys fs first count six seven =

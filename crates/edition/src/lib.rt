@@ -6,11 +6,10 @@ ghost use Rattle.std.specs.Prelude.{length};
 ghost use Rattle.edition.specs.Edition.{edition_of, FoundBreaks, Works};
 
 use optimize::{Solved, Tally};
+use refusals::Refusal;
 
 #[derive(Clone, Copy)]
 pub enum Worked {
-    // 6, 7 or 8
-    Refused(u8),
     // the contour is unchanged, with the pairs tried and the lookups that fell
     Unchanged(Tally),
     // so many breaks, the stored answer at the last one, and the pairs tried and lookups that fell
@@ -24,18 +23,18 @@ pub fn edition(
     answers: &mut [[f64; 3]],
     links: &mut [u32],
     penalty: f64,
-) -> Worked
+) -> Result<Worked, Refusal>
     requires { FoundBreaks breaks.now }
     ensures { Works penalty breaks.now answers.new links.new
         (edition_of (length answers.old) (length links.old) samples.now breaks.now penalty) result }
 {
     let n = breaks.len();
     if rows::least(answers.len(), links.len()) / 2 < n {
-        return Worked::Refused(7);
+        return Err(Refusal::TooManyBreaks);
     }
     match optimize::optimize(samples, breaks, answers, links, penalty) {
-        Solved::Missing => Worked::Refused(8),
-        Solved::Unchanged(t) => Worked::Unchanged(t),
-        Solved::Done(k, t) => Worked::Done(n, k, t),
+        None => Err(Refusal::PastLastSample),
+        Some(Solved::Unchanged(t)) => Ok(Worked::Unchanged(t)),
+        Some(Solved::Done(k, t)) => Ok(Worked::Done(n, k, t)),
     }
 }

@@ -1,4 +1,6 @@
 -- The runs in order, of one edition: what the loop keeps, one turn of it, and its ends. The other edition's is the same law. Assumes nothing.
+use Rattle.std.specs.Prelude.{Option, Some, None, Result}
+use Rattle.refusals.specs.declared.refusal.Refusal.{Refusal}
 use Prim.Native.Nat.{ℕ, ◌+◌, ◌≤◌, ◌<◌}
 use native.Mathlib.Numerals.{add-one}
 use native.Mathlib.Omega.{arith}
@@ -7,10 +9,9 @@ use mathlib.Core.Path.{◌≡◌, refl, sym, subst, ◌∙◌}
 use lib.Ieee.{Float}
 use lib.IntN.{ℤ}
 use lib.ListN.{length, drop}
-use Rattle.runs.specs.Runs.{Span, between, run_at}
+use Rattle.runs.specs.Runs.{between, run_at}
 use Rattle.runs.specs.Laws.{run_here, run_none, runs_end}
 use Rattle.runs.specs.declared.Run.{Run}
-use Rattle.runs.specs.declared.Run.TheVariants.{Between, Nothing}
 use Rattle.rows.specs.Rows.{work}
 use Rattle.settings.specs.declared.Settings.{Settings}
 use Rattle.optimize.specs.Fallen.{Upto, nothing_upto, upto_more}
@@ -24,32 +25,32 @@ use Rattle.assembly.specs.declared.Crunching as C
 use Rattle.editions.specs.Stands.{Carries, Moves}
 
 -- from the rows' contents at its start to those of now
-module _ (xs ys : List ℤ) (fs corners : List ℕ) (settings : Settings) (s₀ b₀ a₀ : List (List Float)) (l₀ : List ℕ) (points₀ : Points) (c₀ : C.Crunching) where
+module _ (xs ys : List ℤ) (fs corners : List ℕ) (settings : Settings) (s₀ b₀ a₀ : List (List Float)) (l₀ : List ℕ) (points₀ : Points) (c₀ : Result C.Crunching Refusal) where
   abbrev rooms : Rooms
   rooms = rooms_of (work s₀ b₀ a₀ l₀)
 
-  abbrev along : List Span → State → State
+  abbrev along : List Run → State → State
   along rs x = crunch_all rooms settings xs ys fs rs x
 
-  none_left : {rs : List Span} (x : State) → rs ≡ [] → along rs x ≡ x
+  none_left : {rs : List Run} (x : State) → rs ≡ [] → along rs x ≡ x
   unfolding crunch_all
   none_left x e = rw e refl
 
-  one_more : {rs rest : List Span} (r : Span) (x : State) → rs ≡ r ∷ rest → along rs x ≡ along rest (onward rooms settings xs ys fs r x)
+  one_more : {rs rest : List Run} (r : Run) (x : State) → rs ≡ r ∷ rest → along rs x ≡ along rest (onward rooms settings xs ys fs r x)
   unfolding crunch_all
   one_more r x e = rw e refl
 
   -- all that there is to do
-  abbrev Whole : Points → C.Crunching → Type 0
+  abbrev Whole : Points → Result C.Crunching Refusal → Type 0
   Whole points c = Carries (along (between corners)) points₀ points c₀ c
 
   -- what is left from run k on
-  pub record Reached (points : Points) (c : C.Crunching) (k : ℕ) (end : State) : Type 0 where
+  pub record Reached (points : Points) (c : Result C.Crunching Refusal) (k : ℕ) (end : State) : Type 0 where
     pub sofar : State
     pub stands : Stands (length points₀) points sofar c
     pub left : end ≡ along (drop k (between corners)) sofar
 
-  pub record Running (s b a : List (List Float)) (l : List ℕ) (points : Points) (c : C.Crunching) (k : ℕ) : Type 0 where
+  pub record Running (s b a : List (List Float)) (l : List ℕ) (points : Points) (c : Result C.Crunching Refusal) (k : ℕ) : Type 0 where
     pub samples : length s ≡ length s₀
     pub breaks : length b ≡ length b₀
     pub answers : length a ≡ length a₀
@@ -72,7 +73,7 @@ module _ (xs ys : List ℤ) (fs corners : List ℕ) (settings : Settings) (s₀ 
         reach = λ x stands. record { sofar = x; stands = stands; left = refl };
       }
 
-  module _ {s b a : List (List Float)} {l : List ℕ} {points : Points} {c : C.Crunching} {k : ℕ} (now : Running s b a l points c k) where
+  module _ {s b a : List (List Float)} {l : List ℕ} {points : Points} {c : Result C.Crunching Refusal} {k : ℕ} (now : Running s b a l points c k) where
     -- no sum is too large
     pub running_few : k < length corners → length corners ≤ 1025 → Upto 1024 (tally_in c)
     running_few h few = upto_more (omega arith) now.few
@@ -82,16 +83,16 @@ module _ (xs ys : List ℤ) (fs corners : List ℕ) (settings : Settings) (s₀ 
         let there = now.reach x stands in
         rw (there.left, none_left there.sofar e) there.stands
 
-    pub no_more : {r : Run} → r ≡ run_at (between corners) k → r ≡ Nothing → Whole points c
+    pub no_more : {r : Option Run} → r ≡ run_at (between corners) k → r ≡ None → Whole points c
     no_more is e = finished (run_none (between corners) k (sym is ∙ e))
 
     pub all_seen : length corners ≤ k → Whole points c
     all_seen h = finished (runs_end corners k h)
 
     -- one run more
-    module _ {r : Run} (at : r ≡ run_at (between corners) k) {first count : ℕ} (is : r ≡ Between first count) {points' : Points} {c' : C.Crunching}
+    module _ {r : Option Run} (at : r ≡ run_at (between corners) k) {first count : ℕ} (is : r ≡ Some (record { first = first; count = count })) {points' : Points} {c' : Result C.Crunching Refusal}
         (then : Moves (onward (rooms_of (work s b a l)) settings xs ys fs (record { first = first; count = count })) points points' c c') where
-      abbrev run : Span
+      abbrev run : Run
       run = record { first = first; count = count }
 
       rooms_same : rooms_of (work s b a l) ≡ rooms

@@ -1,4 +1,6 @@
 -- What an edition is promised, of its rows as they are lent and handed back. Assumes nothing.
+use Rattle.std.specs.Prelude.{Result}
+use Rattle.refusals.specs.declared.refusal.Refusal.{Refusal}
 use Prim.Native.Nat.{ℕ, min, ◌≤◌}
 use native.Mathlib.Omega.{arith}
 use mathlib.Core.List.{List, ◌++◌}
@@ -31,7 +33,7 @@ module _ (ox oy : List ℤ) (of : List ℕ) (points : Points) {room : ℕ} (is :
   pub lent_so : room ≡ length (take room points)
   lent_so = sym (length-take-le room points within)
 
-  module _ (w : Work) (settings : Settings) (xs ys : List ℤ) (fs : List ℕ) {sub : Points} {r : D.Crunched}
+  module _ (w : Work) (settings : Settings) (xs ys : List ℤ) (fs : List ℕ) {sub : Points} {r : Result D.Crunched Refusal}
       (gives : Gives sub (crunch_of (rooms_of w) (length (take room points)) settings xs ys fs) r) (kept : length sub ≡ length (take room points)) where
     pub fits : Fits (sub ++ drop room points) (outputs ox oy of) r
     fits =

@@ -1,7 +1,8 @@
 -- The promise of two editions determines both answers and every lent row; both answers and the points written are those of the contour, of the order
 -- and of the lengths of the rows alone; and a refused edition writes no point. Each is the crunch entry's own theorem, for each edition. Assumes nothing.
-use Rattle.std.specs.Prelude.{ℕ, ◌≡◌, refl}
+use Rattle.std.specs.Prelude.{ℕ, ◌≡◌, refl, Result, Err}
 use Rattle.std.proofs.Common.{arith, sym, ap, ◌∙◌}
+use Rattle.refusals.specs.declared.refusal.Refusal.{Refusal}
 use Rattle.rows.specs.Lent.{Inputs}
 use Rattle.contour.specs.Output.{Outputs}
 use Rattle.settings.specs.declared.Settings.{Settings}
@@ -41,17 +42,17 @@ equal_orders l p p' = record { of_a_lem = Alone.equal_orders l.of_a_lem p.to_a p
 
 -- ---- a refused edition writes no point, whatever becomes of the other
 
-unless_crunched : (x : Outcome) (o : Outputs) (k : ℕ) → Crunched.Refused k ≡ answer_of x → outputs_of x o ≡ o
+unless_crunched : (x : Outcome) (o : Outputs) (k : Refusal) → (Err k) ≡ answer_of x → outputs_of x o ≡ o
 unless_crunched (Outcome.refused j) o k e = refl
-unless_crunched (Outcome.crunched ps tally) o k e = absurd (let z : ◌≡◌ {A = ℕ} 0 1 = cc in omega arith)
+unless_crunched (Outcome.crunched ps tally) o k e = absurd cc
 
-left_so : {i : Inputs} {settings : Settings} {t : Crunch.LentRows} {r : Crunched} {k : ℕ} → Crunch.Promise i settings t r → r ≡ Crunched.Refused k →
+left_so : {i : Inputs} {settings : Settings} {t : Crunch.LentRows} {r : Result Crunched Refusal} {k : Refusal} → Crunch.Promise i settings t r → r ≡ Err k →
     t.exit.outs ≡ t.entry.outs
 left_so {i} {settings} {t} {k = k} p e = p.outs ∙ unless_crunched (whole_of i settings t.entry) t.entry.outs k (sym e ∙ p.answer)
 
 pub record Left (t : LentRows) (r : Editions) : Type 0 where
-  pub of_a_lem : {k : ℕ} → r.a ≡ Crunched.Refused k → t.exit.own_a.outs ≡ t.entry.own_a.outs
-  pub of_b_lem : {k : ℕ} → r.b ≡ Crunched.Refused k → t.exit.own_b.outs ≡ t.entry.own_b.outs
+  pub of_a_lem : {k : Refusal} → r.a ≡ Err k → t.exit.own_a.outs ≡ t.entry.own_a.outs
+  pub of_b_lem : {k : Refusal} → r.b ≡ Err k → t.exit.own_b.outs ≡ t.entry.own_b.outs
 
 pub refused_leaves : {i : Inputs} {o : Order} {t : LentRows} {r : Editions} → Promise i o t r → Left t r
 refused_leaves p = record { of_a_lem = λ e. left_so p.to_a e; of_b_lem = λ e. left_so p.to_b e }

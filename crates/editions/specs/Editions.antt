@@ -1,6 +1,7 @@
 -- Two editions of a contour: what each chooses, and its own part of the work. What becomes of an edition has no definition here: it is the crunch
 -- entry's, with the edition's own settings and rows. Definitions only.
 use Rattle.std.specs.Prelude.{ℕ, Bool, true, false, List, [], ◌∷◌, ℤ}
+use Rattle.refusals.specs.declared.refusal.Refusal.TheVariants.{NoSuchPenalty}
 use Rattle.outline.specs.Segments.{start_of}
 use Rattle.runs.specs.Runs.{between, stops_of}
 use Rattle.settings.specs.Settings.{yes_of, settings_fine}
@@ -42,7 +43,7 @@ module _ (settings : Settings) (xs ys : List ℤ) (fs : List ℕ) where
 
   -- 16, or its beginning
   abbrev pub begins : Bool → List ℕ → State
-  begins false stops = refused 16
+  begins false stops = refused NoSuchPenalty
   begins true stops = begins_in settings.closed stops
 
 -- how it ends, by the mode: closed, from the first corner round to it

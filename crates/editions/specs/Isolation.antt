@@ -1,6 +1,7 @@
 -- Isolation, in the words of document 02: an edition's points, scores and counts are those it gets when built alone, whichever goes first and also if
 -- the other is refused or unchanged. The theorems stand in proofs/Isolation.antt. Definitions only.
-use Rattle.std.specs.Prelude.{◌≡◌}
+use Rattle.std.specs.Prelude.{◌≡◌, Result}
+use Rattle.refusals.specs.declared.refusal.Refusal.{Refusal}
 use Rattle.rows.specs.Lent.{Inputs}
 use Rattle.crunch.specs.Entry as Crunch
 use Rattle.crunch.specs.Determine.{Same}
@@ -25,12 +26,12 @@ module _ (i : Inputs) (o : Order) (t : LentRows) (r : Editions) where
   -- built alone: by the crunch entry, of the same contour, with the same shared rows and the edition's own
   abbrev pub AAlone : Type 0
   AAlone =
-      Promise i o t r → (u : Crunch.LentRows) (alone : Crunched) → Crunch.Promise i (settings_a o) u alone → rows_a t.entry ≡ u.entry →
+      Promise i o t r → (u : Crunch.LentRows) (alone : Result Crunched Refusal) → Crunch.Promise i (settings_a o) u alone → rows_a t.entry ≡ u.entry →
       Same r.a alone (rows_a t.exit) u.exit
 
   abbrev pub BAlone : Type 0
   BAlone =
-      Promise i o t r → (u : Crunch.LentRows) (alone : Crunched) → Crunch.Promise i (settings_b o) u alone → rows_b t.entry ≡ u.entry →
+      Promise i o t r → (u : Crunch.LentRows) (alone : Result Crunched Refusal) → Crunch.Promise i (settings_b o) u alone → rows_b t.entry ≡ u.entry →
       Same r.b alone (rows_b t.exit) u.exit
 
   module _ (o' : Order) (t' : LentRows) (r' : Editions) where

@@ -1,9 +1,10 @@
 -- Which edition a refusal goes to, in the words of document 02. The theorems stand in proofs/Refused.antt. Definitions only.
-use Rattle.std.specs.Prelude.{ℕ, ◌≤◌, ◌<◌, Bool, true, false, List, [], ◌∷◌, ◌++◌, ◌≡◌, Float, ℤ, length}
+use Rattle.std.specs.Prelude.{ℕ, ◌≤◌, ◌<◌, Bool, true, false, List, [], ◌∷◌, ◌++◌, ◌≡◌, Float, ℤ, length, Some, Result, Ok, Err}
 use Rattle.refusals.specs.Refusals.{judged}
-use Rattle.refusals.specs.declared.Judged.TheVariants as Judged
-use Rattle.runs.specs.Runs.{Span, between, stops_of, is_copied}
-use Rattle.runs.specs.declared.Run.TheVariants.{Between}
+use Rattle.refusals.specs.declared.refusal.Refusal.TheVariants.{TooManySamples, TooManyBreaks, PastLastSample, OutputTooShort, NoSuchPenalty}
+use Rattle.refusals.specs.declared.refusal.Refusal.{Refusal}
+use Rattle.runs.specs.Runs.{between, stops_of, is_copied}
+use Rattle.runs.specs.declared.Run.{Run}
 use Rattle.rows.specs.Lent.{inputs}
 use Rattle.breaks.specs.Breaks.{Row, breaks_of}
 use Rattle.breaks.specs.Breaks as Breaks
@@ -33,7 +34,7 @@ use Rattle.editions.specs.declared.work.Order.{Order}
 pub record Edition : Type 0 where
   pub rows : Crunch.Rows
   pub settings : Settings
-  pub answer : Crunched
+  pub answer : Result Crunched Refusal
 
 -- work that went through all runs, or was ended by one
 abbrev pub at_end : Bool → Points → Tally → State
@@ -51,7 +52,7 @@ module _ (xs ys : List ℤ) (fs : List ℕ) (o : Order) (t : LentRows) (r : Edit
   stops = stops_of o.closed xs ys fs
 
   -- where an edition's work stands after some of the runs
-  abbrev pub after : List Span → Edition → State
+  abbrev pub after : List Run → Edition → State
   after rs e =
       crunch_all (rooms_of e.rows.work) e.settings xs ys fs rs (begins e.settings xs ys fs (settings_fine e.settings) stops)
 
@@ -62,23 +63,23 @@ module _ (xs ys : List ℤ) (fs : List ℕ) (o : Order) (t : LentRows) (r : Edit
   -- ---- before any run
 
   abbrev pub OneToFiveToBoth : Type 0
-  OneToFiveToBoth = Promise (inputs xs ys fs) o t r → (k : ℕ) → judged xs ys fs ≡ Judged.Refused k → Each (λ e. e.answer ≡ Crunched.Refused k)
+  OneToFiveToBoth = Promise (inputs xs ys fs) o t r → (k : Refusal) → judged xs ys fs ≡ Err k → Each (λ e. e.answer ≡ Err k)
 
   -- a 16 by an edition's own penalty; with a good one it is worked, whatever the other's is
   abbrev pub SixteenToItsOwn : Type 0
   SixteenToItsOwn =
-      Promise (inputs xs ys fs) o t r → judged xs ys fs ≡ Judged.Fine →
-      Each (λ e. (settings_fine e.settings ≡ false → e.answer ≡ Crunched.Refused 16)
+      Promise (inputs xs ys fs) o t r → judged xs ys fs ≡ Ok tt →
+      Each (λ e. (settings_fine e.settings ≡ false → e.answer ≡ Err NoSuchPenalty)
       × (settings_fine e.settings ≡ true → EndsWith (after (between stops) e) e))
 
   -- ---- in a run that is worked: what the survey finds is the same for both
 
   pub record AtRun : Type 0 where
-    pub earlier : List Span
-    pub run : Span
-    pub later : List Span
+    pub earlier : List Run
+    pub run : Run
+    pub later : List Run
     pub split : between stops ≡ earlier ++ run ∷ later
-    pub worked : is_copied xs ys fs (Between run.first run.count) ≡ false
+    pub worked : is_copied xs ys fs (Some run) ≡ false
 
   abbrev pub survey_at : AtRun → Survey
   survey_at w = survey_of (length t.entry.samples) (length t.entry.breaks) xs ys fs w.run.first w.run.count (grid_by o.whole_units)
@@ -90,24 +91,24 @@ module _ (xs ys : List ℤ) (fs : List ℕ) (o : Order) (t : LentRows) (r : Edit
   -- one whose work has ended by then, or was refused, keeps what it has
   abbrev pub KeepsAt : AtRun → Edition → Type 0
   KeepsAt w e =
-      ((k : ℕ) → after w.earlier e ≡ refused k → e.answer ≡ Crunched.Refused k)
+      ((k : Refusal) → after w.earlier e ≡ refused k → e.answer ≡ Err k)
       × ((ps : Points) (tally : Tally) → after w.earlier e ≡ ended ps tally → EndsWith (ended ps tally) e)
 
-  abbrev pub ToEachGoing : AtRun → ℕ → Type 0
-  ToEachGoing w k = Each (λ e. ((ps : Points) (tally : Tally) → GoesAt w ps tally e → e.answer ≡ Crunched.Refused k) × KeepsAt w e)
+  abbrev pub ToEachGoing : AtRun → Refusal → Type 0
+  ToEachGoing w k = Each (λ e. ((ps : Points) (tally : Tally) → GoesAt w ps tally e → e.answer ≡ Err k) × KeepsAt w e)
 
   -- 6: the run needs more samples than there is room for
   abbrev pub SixToEachGoing : Type 0
   SixToEachGoing =
-      Promise (inputs xs ys fs) o t r → judged xs ys fs ≡ Judged.Fine → (w : AtRun) →
-      thetas_of (sample_room (length t.entry.samples)) (quads_of xs ys fs w.run.first w.run.count) ≡ Samples.refused → ToEachGoing w 6
+      Promise (inputs xs ys fs) o t r → judged xs ys fs ≡ Ok tt → (w : AtRun) →
+      thetas_of (sample_room (length t.entry.samples)) (quads_of xs ys fs w.run.first w.run.count) ≡ Samples.refused → ToEachGoing w TooManySamples
 
   -- 7: it has more breaks than 2,048, or than the break row has places
   abbrev pub SevenOfBreaksToEachGoing : Type 0
   SevenOfBreaksToEachGoing =
-      Promise (inputs xs ys fs) o t r → judged xs ys fs ≡ Judged.Fine → (w : AtRun) → (samples : List Sample) (len : Float) →
+      Promise (inputs xs ys fs) o t r → judged xs ys fs ≡ Ok tt → (w : AtRun) → (samples : List Sample) (len : Float) →
       thetas_of (sample_room (length t.entry.samples)) (quads_of xs ys fs w.run.first w.run.count) ≡ Samples.sampled samples len →
-      breaks_of (break_room (length t.entry.breaks)) samples (grid_by o.whole_units) len ≡ Breaks.refused 7 → ToEachGoing w 7
+      breaks_of (break_room (length t.entry.breaks)) samples (grid_by o.whole_units) len ≡ Breaks.refused TooManyBreaks → ToEachGoing w TooManyBreaks
 
   -- ---- of a surveyed run each edition meets its own
 
@@ -131,25 +132,25 @@ module _ (xs ys : List ℤ) (fs : List ℕ) (o : Order) (t : LentRows) (r : Edit
   -- 7 of short answer rows; an edition whose rows suffice is not given it
   abbrev pub SevenOfAnswersToItsOwn : Type 0
   SevenOfAnswersToItsOwn =
-      Promise (inputs xs ys fs) o t r → judged xs ys fs ≡ Judged.Fine → (w : AtRun) (samples : List Sample) (breaks : Row) →
+      Promise (inputs xs ys fs) o t r → judged xs ys fs ≡ Ok tt → (w : AtRun) (samples : List Sample) (breaks : Row) →
       survey_at w ≡ Survey.surveyed samples breaks →
       Each (λ e. (ps : Points) (tally : Tally) → GoesAt w ps tally e →
-      (answers_of e < length breaks → e.answer ≡ Crunched.Refused 7)
+      (answers_of e < length breaks → e.answer ≡ Err TooManyBreaks)
       × (length breaks ≤ answers_of e → GoesOnBy w samples breaks ps tally e))
 
   -- 8 in measuring, by the edition's own penalty; one that solves the run, or is left unchanged by it, is not given it
   abbrev pub EightToItsOwn : Type 0
   EightToItsOwn =
-      Promise (inputs xs ys fs) o t r → judged xs ys fs ≡ Judged.Fine → (w : AtRun) (samples : List Sample) (breaks : Row) →
+      Promise (inputs xs ys fs) o t r → judged xs ys fs ≡ Ok tt → (w : AtRun) (samples : List Sample) (breaks : Row) →
       survey_at w ≡ Survey.surveyed samples breaks →
       Each (λ e. (ps : Points) (tally : Tally) → GoesAt w ps tally e → length breaks ≤ answers_of e →
-      (optimised_by samples breaks e ≡ O.refused8 → e.answer ≡ Crunched.Refused 8) × GoesOnBy w samples breaks ps tally e)
+      (optimised_by samples breaks e ≡ O.refused8 → e.answer ≡ Err PastLastSample) × GoesOnBy w samples breaks ps tally e)
 
   -- ---- at the end: 9 by the edition's own rows
 
   abbrev pub NineToItsOwn : Type 0
   NineToItsOwn =
-      Promise (inputs xs ys fs) o t r → judged xs ys fs ≡ Judged.Fine →
+      Promise (inputs xs ys fs) o t r → judged xs ys fs ≡ Ok tt →
       Each (λ e. (through : Bool) (ps : Points) (tally : Tally) → worked_on (rooms_of e.rows.work) e.settings xs ys fs stops ≡ at_end through ps tally →
-      (point_room e.rows < length ps → e.answer ≡ Crunched.Refused 9)
-      × (length ps ≤ point_room e.rows → e.answer ≡ Crunched.Points (length (finished o.closed ps)) tally))
+      (point_room e.rows < length ps → e.answer ≡ Err OutputTooShort)
+      × (length ps ≤ point_room e.rows → e.answer ≡ Ok (record { points = (length (finished o.closed ps)); tally = tally })))

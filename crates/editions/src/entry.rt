@@ -10,12 +10,12 @@ ghost use Rattle.editions.specs.Entry.{own, rows, Promise};
 use crate::own::{begin, end, hand_over};
 use crate::work::{Both, Order, crunch_runs};
 use crunch::Crunched;
-use refusals::Judged;
+use refusals::Refusal;
 
 #[derive(Clone, Copy)]
 pub struct Editions {
-    pub a: Crunched,
-    pub b: Crunched,
+    pub a: Result<Crunched, Refusal>,
+    pub b: Result<Crunched, Refusal>,
 }
 
 // Of a contour that none of 1 to 5 is given for.
@@ -39,7 +39,7 @@ fn work_both(
         xs.now ys.now flags.now (room points_b)) result.b }
 {
     let mut list = [0usize; 1025];
-    let n = runs::list_stops(xs, ys, flags, order.closed, &mut list);
+    let n = runs::list_stops::<1024>(xs, ys, flags, order.closed, &mut list);
     let begun_a = begin(xs, ys, flags, &list[..n], order.a(), points_a);
     let begun_b = begin(xs, ys, flags, &list[..n], order.b(), points_b);
     let c = crunch_runs(
@@ -90,11 +90,11 @@ fn both_into(
         xs.now ys.now flags.now) result.b }
 {
     match refusals::judge(xs, ys, flags) {
-        Judged::Refused(k) => Editions {
-            a: Crunched::Refused(k),
-            b: Crunched::Refused(k),
+        Err(k) => Editions {
+            a: Err(k),
+            b: Err(k),
         },
-        Judged::Fine => work_both(
+        Ok(()) => work_both(
             xs, ys, flags, order, samples, breaks, answers_a, links_a, points_a, answers_b,
             links_b, points_b,
         ),

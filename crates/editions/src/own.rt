@@ -12,6 +12,7 @@ ghost use Rattle.editions.specs.Stands.{Begins, Stood, Comes, HandedOver};
 use assembly::{Crunching, Progress};
 use crunch::Crunched;
 use optimize::Tally;
+use refusals::Refusal;
 use settings::Settings;
 
 // The work's beginning, with refusal 16. In closed mode no corner leaves the contour unchanged.
@@ -22,39 +23,39 @@ pub fn begin(
     stops: &[usize],
     settings: Settings,
     points: &mut [[i16; 3]],
-) -> Crunching
+) -> Result<Crunching, Refusal>
     ensures { Begins (room points) (after points) (begins settings xs.now ys.now flags.now (settings_fine settings) stops.now) result }
 {
     if settings.is_fine() {
         if settings.closed {
             if stops.len() == 0 {
                 let w = contour::unchanged_in(xs, ys, flags, settings.closed, points);
-                return Crunching::Ended(Progress {
+                return Ok(Crunching::Ended(Progress {
                     w,
                     tally: Tally {
                         pairs: 0,
                         fallen: 0,
                     },
-                });
+                }));
             }
-            return Crunching::Going(Progress {
+            return Ok(Crunching::Going(Progress {
                 w: contour::nothing(),
                 tally: Tally {
                     pairs: 0,
                     fallen: 0,
                 },
-            });
+            }));
         }
         let w = contour::start(xs, ys, points);
-        return Crunching::Going(Progress {
+        return Ok(Crunching::Going(Progress {
             w,
             tally: Tally {
                 pairs: 0,
                 fallen: 0,
             },
-        });
+        }));
     }
-    Crunching::Refused(16)
+    Err(Refusal::NoSuchPenalty)
 }
 
 // The end of it: closed up in closed mode, and what it comes to.
@@ -64,9 +65,9 @@ pub fn end(
     flags: &[u8],
     stops: &[usize],
     closed: bool,
-    c: Crunching,
+    c: Result<Crunching, Refusal>,
     points: &mut [[i16; 3]],
-) -> Crunched
+) -> Result<Crunched, Refusal>
     requires { Stood points.old c }
     ensures { Comes (λ x. outcome_of closed (room points) (ends xs.now ys.now flags.now closed stops.now x))
         (before points) (after points) c result }
@@ -84,7 +85,7 @@ pub fn end(
 
 // The points to the output rows; then the rows that the edition was worked in are made zero.
 pub fn hand_over(
-    c: Crunched,
+    c: Result<Crunched, Refusal>,
     samples: &mut [[f64; 4]],
     breaks: &mut [[f64; 6]],
     answers: &mut [[f64; 3]],

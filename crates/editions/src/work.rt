@@ -16,6 +16,7 @@ ghost use Rattle.editions.specs.Stands.{over_in, Carries, Moves};
 
 use assembly::{Crunching, Progress};
 use outline::Seg;
+use refusals::Refusal;
 use runs::Run;
 use settings::Settings;
 use survey::Surveyed;
@@ -55,34 +56,33 @@ impl Order {
 // How far each edition is.
 #[derive(Clone, Copy)]
 pub struct Both {
-    pub a: Crunching,
-    pub b: Crunching,
+    pub a: Result<Crunching, Refusal>,
+    pub b: Result<Crunching, Refusal>,
 }
 
 // Whether an edition's work has ended, or was refused.
-fn is_over(c: Crunching) -> bool
+fn is_over(c: Result<Crunching, Refusal>) -> bool
     ensures { result ≡ over_in c }
 {
-    match c {
-        Crunching::Refused(_) => true,
-        Crunching::Ended(_) => true,
-        Crunching::Going(_) => false,
-    }
+    !matches!(c, Ok(Crunching::Going(_)))
 }
 
 // ---- one edition
 
 // A run that is one line is copied.
-fn copy_line(c: Crunching, g: Seg, points: &mut [[i16; 3]]) -> Crunching
+fn copy_line(
+    c: Result<Crunching, Refusal>,
+    g: Seg,
+    points: &mut [[i16; 3]],
+) -> Result<Crunching, Refusal>
     ensures { Moves (while_going (λ ps tally. going (ps ++ points_of g) tally)) (before points) (after points) c result }
 {
-    match c {
-        Crunching::Refused(k) => Crunching::Refused(k),
-        Crunching::Ended(p) => Crunching::Ended(p),
+    match c? {
+        Crunching::Ended(p) => Ok(Crunching::Ended(p)),
         Crunching::Going(p) => {
             let tally = p.tally;
             let w = contour::push_seg(points, p.w, g);
-            Crunching::Going(Progress { w, tally })
+            Ok(Crunching::Going(Progress { w, tally }))
         }
     }
 }
@@ -93,21 +93,20 @@ fn take_step(
     ys: &[i16],
     flags: &[u8],
     settings: Settings,
-    c: Crunching,
-    s: Surveyed,
+    c: Result<Crunching, Refusal>,
+    s: Result<Option<Surveyed>, Refusal>,
     samples: &[[f64; 4]],
     breaks: &[[f64; 6]],
     answers: &mut [[f64; 3]],
     links: &mut [u32],
     points: &mut [[i16; 3]],
-) -> Crunching
+) -> Result<Crunching, Refusal>
     requires { Sighted samples.now breaks.now s × Upto 1024 (tally_in c) }
     ensures { Moves (while_going (added (unchanged_in xs.now ys.now flags.now settings.closed)
         (after_survey (room answers) (room links) (penalty_of settings) (survey_in samples.now breaks.now s)))) (before points) (after points) c result }
 {
-    match c {
-        Crunching::Refused(k) => Crunching::Refused(k),
-        Crunching::Ended(p) => Crunching::Ended(p),
+    match c? {
+        Crunching::Ended(p) => Ok(Crunching::Ended(p)),
         Crunching::Going(p) => assembly::after_survey(
             xs, ys, flags, settings, p, s, samples, breaks, answers, links, points,
         ),
@@ -249,16 +248,14 @@ pub fn crunch_runs(
         xs.now ys.now flags.now (between stops.now)) (before points_b) (after points_b) from.b result.b }
 {
     let mut c = from;
-    let mut k = 0;
-    while k < stops.len() {
-        let Run::Between(first, count) = runs::run_at(stops, k) else {
+    for k in 0..stops.len() {
+        let Some(Run { first, count }) = runs::run_at(stops, k) else {
             return c;
         };
         c = run_both(
             xs, ys, flags, first, count, order, c, samples, breaks, answers_a, links_a, points_a,
             answers_b, links_b, points_b,
         );
-        k += 1;
     }
     c
 }

@@ -1,5 +1,6 @@
 -- What is written is refused by none of 1 to 5; a contour that they let through is written as itself; and where each middle is whole, the outline
 -- is the same. Assumes nothing.
+use Rattle.std.specs.Prelude.{Result, Ok, Err}
 use Prim.Native.Nat.{ℕ, suc, ◌+◌, ◌*◌, ◌/◌, ◌≤◌, ◌<◌}
 use mathlib.Core.Bool.{Bool, true, false, not, cond, ◌&&◌, true≢false}
 use mathlib.Core.List.{List, [], ◌∷◌, ◌++◌, map, map-id, append-nil}
@@ -13,7 +14,8 @@ use lib.Seq.{drop-cons}
 use denote.Triple.Both.{Both}
 use Rattle.refusals.specs.Refusals.{is_on, rows_differ, no_point, too_many, refuse, off_neighbours}
 use Rattle.refusals.specs.Accepted.{Accepted, accepted, judged_fine}
-use Rattle.refusals.specs.declared.Judged.{Judged}
+use Rattle.refusals.specs.declared.refusal.Refusal.TheVariants.{UnevenRows, NoPoint, TooManyPoints, NoOnCurve}
+use Rattle.refusals.specs.declared.refusal.Refusal.{Refusal}
 use Rattle.outline.specs.Segments.{on_at}
 use Rattle.rows.specs.Lent.{Inputs, inputs}
 use Rattle.contour.specs.Points.{Points, point_as, came_to}
@@ -25,32 +27,30 @@ use Rattle.explicit.specs.Explicit.{doubled, exact_middle, outline_of}
 use Rattle.explicit.specs.Entry.{room_of, none_on, judged_rows, refuse_if, answer_in, after_judging, Promise}
 use Rattle.explicit.specs.Determine.{rows_of, promise_shows}
 use Rattle.explicit.specs.Statements.{read_again, NoneRefused, NeverFewer, HalvesAway, ItselfWhenExplicit, Even, WholeMiddle, WholeMiddles, OutlineKept}
-use Rattle.explicit.specs.declared.Explicit as D
-use Rattle.explicit.specs.declared.Explicit.TheVariants as Explicit
 use Rattle.explicit.proofs.Turning.{first_most, length_came, came_at, length_turned}
 use Rattle.explicit.proofs.Apart.{Apart, as_they_are, put_apart, apart_flags, flags_apart}
 use Rattle.explicit.proofs.Again.{column_x, column_y, flag_column, bits_apart, Formed, formed_came, formed_written, read_again_lem}
 
 -- ---- what a contour that is written out tells
 
-open_refusal : (k : ℕ) (t : Bool) (later : Judged) → refuse k t later ≡ Judged.Fine → (t ≡ false) × (later ≡ Judged.Fine)
+open_refusal : (k : Refusal) (t : Bool) (later : Result Unit Refusal) → refuse k t later ≡ Ok tt → (t ≡ false) × (later ≡ Ok tt)
 open_refusal k true later h = let z : ◌≡◌ {A = ℕ} 0 1 = cc in absurd (omega arith)
 open_refusal k false later h = (refl, h)
 
-refused_or : (k : ℕ) (t : Bool) (later : D.Explicit) (n : ℕ) → refuse_if Explicit.Refused Explicit.Points k t later ≡ Explicit.Points n → (t ≡ false) × (later ≡ Explicit.Points n)
+refused_or : (k : Refusal) (t : Bool) (later : Result ℕ Refusal) (n : ℕ) → refuse_if Err Ok k t later ≡ Ok n → (t ≡ false) × (later ≡ Ok n)
 refused_or k true later n h = let z : ◌≡◌ {A = ℕ} 0 1 = cc in absurd (omega arith)
 refused_or k false later n h = (refl, h)
 
-fine_or : (j : Judged) (later : D.Explicit) (n : ℕ) → after_judging j later ≡ Explicit.Points n → (j ≡ Judged.Fine) × (later ≡ Explicit.Points n)
-fine_or (Judged.Refused k) later n h = let z : ◌≡◌ {A = ℕ} 0 1 = cc in absurd (omega arith)
-fine_or Judged.Fine later n h = (refl, h)
+fine_or : (j : Result Unit Refusal) (later : Result ℕ Refusal) (n : ℕ) → after_judging j later ≡ Ok n → (j ≡ Ok tt) × (later ≡ Ok n)
+fine_or (Err k) later n h = let z : ◌≡◌ {A = ℕ} 0 1 = cc in absurd (omega arith)
+fine_or (Ok tt) later n h = (refl, h)
 
-judged_some : (xs ys : List ℤ) (fs : List ℕ) → judged_rows xs ys fs ≡ Judged.Fine → none_on fs ≡ false
+judged_some : (xs ys : List ℤ) (fs : List ℕ) → judged_rows xs ys fs ≡ Ok tt → none_on fs ≡ false
 unfolding judged_rows
 judged_some xs ys fs h =
-    let one = open_refusal 1 (rows_differ (length xs) (length ys) (length fs)) _ h in
-    let two = open_refusal 2 (no_point (length fs)) _ one.1 in
-    (open_refusal 21 (none_on fs) Judged.Fine two.1).0
+    let one = open_refusal UnevenRows (rows_differ (length xs) (length ys) (length fs)) _ h in
+    let two = open_refusal NoPoint (no_point (length fs)) _ one.1 in
+    (open_refusal NoOnCurve (none_on fs) (Ok tt) two.1).0
 
 -- the first on-curve point is there, and is on-curve
 first_is_on : (fs : List ℕ) → none_on fs ≡ false → (first_on fs < length fs) × (on_at fs (first_on fs) ≡ true)
@@ -70,7 +70,7 @@ pub record Started (ps : Points) : Type 0 where
   pub is : ps ≡ head ∷ rest
   pub on : off_curve head ≡ false
 
-turned_starts : (xs ys : List ℤ) (fs : List ℕ) → judged_rows xs ys fs ≡ Judged.Fine → Started (turned (first_on fs) (points_of (inputs xs ys fs)))
+turned_starts : (xs ys : List ℤ) (fs : List ℕ) → judged_rows xs ys fs ≡ Ok tt → Started (turned (first_on fs) (points_of (inputs xs ys fs)))
 turned_starts xs ys fs h =
     let found = first_is_on fs (judged_some xs ys fs h) in
     let ps = came_to xs ys fs (length fs) in
@@ -87,11 +87,11 @@ pub record Written (i : Inputs) : Type 0 where
   pub start : Started (turned (start_of i) (points_of i))
   pub few : length (explicit_of i) ≤ 1024
 
-written_told : (i : Inputs) (w : Both Outputs Outputs) (n : ℕ) → Promise i w (Explicit.Points n) → Written i
+written_told : (i : Inputs) (w : Both Outputs Outputs) (n : ℕ) → Promise i w (Ok n) → Written i
 written_told (inputs xs ys fs) w n p =
     let ps = explicit_of (inputs xs ys fs) in
     let past = fine_or (judged_rows xs ys fs) (answer_in (room_of w.entry) ps) n (sym p.answer) in
-    let three = refused_or 3 (too_many (length ps)) _ n past.1 in
+    let three = refused_or TooManyPoints (too_many (length ps)) _ n past.1 in
     record { start = turned_starts xs ys fs past.0; few = ltb-false 1024 (length ps) three.0 }
 
 -- ---- 1 to 5
@@ -160,7 +160,7 @@ module _ {xs ys : List ℤ} {fs : List ℕ} (a : Accepted xs ys fs) where
       by [] h on = absurd (omega arith)
       by (f ∷ fs) h on = rw on (refl, refl)
 
-  let_through : judged_rows xs ys fs ≡ Judged.Fine
+  let_through : judged_rows xs ys fs ≡ Ok tt
   unfolding judged_rows
   let_through =
       let none : length fs ≡ 0 → ⊥ = λ z. omega (arith, a.some) in
@@ -183,7 +183,7 @@ itself_when_explicit xs ys fs w r fine room p =
     let a = accepted xs ys fs fine in
     let is = explicit_itself a in
     let long : length (explicit_of (inputs xs ys fs)) ≡ length fs = ap length is ∙ length_came xs ys fs (length fs) in
-    let all : r ≡ Explicit.Points (length fs) = p.answer ∙ rw (let_through a, long, le-ltb 1024 (length fs) a.few, le-ltb (room_of w.entry) (length fs) room) in
+    let all : r ≡ (Ok (length fs)) = p.answer ∙ rw (let_through a, long, le-ltb 1024 (length fs) a.few, le-ltb (room_of w.entry) (length fs) room) in
     record {
       all = all;
       same = promise_shows p ∙ rw (all, is, column_x xs ys fs a.same_x, column_y xs ys fs a.same_y, flag_column xs ys fs);

@@ -39,7 +39,7 @@ module _ (fs : List ℕ) (i : ℕ) (so : i + first_on (drop i fs) ≡ first_on f
       here : first_on (drop i fs) ≡ first_on (drop (i + 1) fs) + 1
       here = rw (drop-cons fs i 0 h, ← is, off, add-one i)
 
-  pub none_found : i ≤ length fs → length fs ≤ i → i ≡ first_on fs
+  pub none_found : i ≤ length fs → length fs ≤ i → length fs ≡ first_on fs
   unfolding first_on
   none_found k h = omega (arith, so, here)
     where

@@ -1,4 +1,6 @@
 -- Contours by the definition, computed. Assumes nothing.
+use Rattle.std.specs.Prelude.{Ok, Err}
+use Rattle.refusals.specs.declared.refusal.Refusal.TheVariants.{OutputTooShort, NoOnCurve}
 use mathlib.Core.List.{[], ◌∷◌}
 use mathlib.Core.Path.{◌≡◌, refl}
 use lib.IntN.{pos, negsuc}
@@ -7,7 +9,6 @@ use Rattle.contour.specs.Points.{came_to}
 use Rattle.halving.specs.Cubic.{point}
 use Rattle.explicit.specs.Explicit.{first_on, after, put_in, middle, explicit_of, outline_of}
 use Rattle.explicit.specs.Entry.{none_on, judged_rows, whole_of}
-use Rattle.explicit.specs.declared.Explicit.TheVariants.{Refused, Points}
 
 -- halves go away from zero, at the ends of 16 bits too
 pub halves : (middle (pos 0) (pos 1) ≡ pos 1) × (middle (negsuc 2) (pos 0) ≡ negsuc 1) × (middle (negsuc 32767) (pos 32767) ≡ negsuc 0)
@@ -33,10 +34,10 @@ unfolding came_to first_on after put_in
 arch_outline = refl
 
 -- five places suffice, and four do not; without its on-curve points it is refused by 21
-pub arch_answered : (whole_of arch 5 ≡ Points 5) × (whole_of arch 4 ≡ Refused 9)
+pub arch_answered : (whole_of arch 5 ≡ Ok 5) × (whole_of arch 4 ≡ Err OutputTooShort)
 unfolding came_to first_on after put_in none_on judged_rows
 arch_answered = (refl, refl)
 
-pub none_on_curve : whole_of (inputs (pos 3 ∷ pos 0 ∷ []) (pos 3 ∷ pos 0 ∷ []) (2 ∷ 254 ∷ [])) 9 ≡ Refused 21
+pub none_on_curve : whole_of (inputs (pos 3 ∷ pos 0 ∷ []) (pos 3 ∷ pos 0 ∷ []) (2 ∷ 254 ∷ [])) 9 ≡ Err NoOnCurve
 unfolding none_on judged_rows
 none_on_curve = refl

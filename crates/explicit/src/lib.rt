@@ -15,16 +15,7 @@ ghost use Rattle.explicit.specs.Explicit.{both_off, middle, implied_point, impli
 ghost use Rattle.explicit.specs.Entry.{judged_rows, lent, WrittenOut, Promise};
 
 use contour::Written;
-use refusals::Judged;
-
-// What `explicit_contour` answers.
-#[derive(Clone, Copy)]
-pub enum Explicit {
-    // the number of a refusal
-    Refused(u8),
-    // points written
-    Points(usize),
-}
+use refusals::Refusal;
 
 // ---- the middle
 
@@ -88,14 +79,12 @@ fn put_next(points: &mut [[i16; 3]], w: Written, prev: [i16; 3], p: [i16; 3]) ->
 fn first_on(flags: &[u8]) -> usize
     ensures { result ≡ first_on flags.now }
 {
-    let mut i = 0;
-    while i < flags.len() {
+    for i in 0..flags.len() {
         if refusals::is_on(flags[i]) {
             return i;
         }
-        i += 1;
     }
-    i
+    flags.len()
 }
 
 // Place k from the start, of n, going round.
@@ -125,12 +114,10 @@ fn put_all(xs: &[i16], ys: &[i16], flags: &[u8], start: usize, points: &mut [[i1
 {
     let mut w = contour::nothing();
     let mut prev = [0i16, 0, 1];
-    let mut k = 0;
-    while k < flags.len() {
+    for k in 0..flags.len() {
         let p = point_at(xs, ys, flags, place_from(start, flags.len(), k));
         w = put_next(points, w, prev, p);
         prev = p;
-        k += 1;
     }
     w
 }
@@ -138,19 +125,19 @@ fn put_all(xs: &[i16], ys: &[i16], flags: &[u8], start: usize, points: &mut [[i1
 // ---- refusals
 
 // Refusals 1, 2 and 21, in their order.
-fn judge(xs: &[i16], ys: &[i16], flags: &[u8]) -> Judged
+fn judge(xs: &[i16], ys: &[i16], flags: &[u8]) -> Result<(), Refusal>
     ensures { result ≡ judged_rows xs.now ys.now flags.now }
 {
     if refusals::rows_differ(xs.len(), ys.len(), flags.len()) {
-        return Judged::Refused(1);
+        return Err(Refusal::UnevenRows);
     }
     if refusals::no_point(flags.len()) {
-        return Judged::Refused(2);
+        return Err(Refusal::NoPoint);
     }
     if first_on(flags) == flags.len() {
-        return Judged::Refused(21);
+        return Err(Refusal::NoOnCurve);
     }
-    Judged::Fine
+    Ok(())
 }
 
 // ---- the entry
@@ -162,19 +149,19 @@ fn write_out(
     ox: &mut [i16],
     oy: &mut [i16],
     of: &mut [u8],
-) -> Explicit
+) -> Result<usize, Refusal>
     requires { w.count ≤ length points.now }
     ensures { (ps : Points) → Wrote points.now w (written 1024 ps) → WrittenOut ps (lent ox oy of) result }
 {
     if w.over {
-        return Explicit::Refused(3);
+        return Err(Refusal::TooManyPoints);
     }
     let n = w.count;
     if rows::least(rows::least(ox.len(), oy.len()), of.len()) < n {
-        return Explicit::Refused(9);
+        return Err(Refusal::OutputTooShort);
     }
     contour::copy_out(points, n, ox, oy, of);
-    Explicit::Points(n)
+    Ok(n)
 }
 
 fn explicit_fine(
@@ -184,7 +171,7 @@ fn explicit_fine(
     ox: &mut [i16],
     oy: &mut [i16],
     of: &mut [u8],
-) -> Explicit
+) -> Result<usize, Refusal>
     ensures { WrittenOut (explicit_from (first_on flags.now) (contour xs ys flags)) (lent ox oy of) result }
 {
     let mut points = [[0i16; 3]; 1024];
@@ -201,11 +188,9 @@ pub fn explicit_contour(
     ox: &mut [i16],
     oy: &mut [i16],
     of: &mut [u8],
-) -> Explicit
+) -> Result<usize, Refusal>
     ensures { Promise (contour xs ys flags) (lent ox oy of) result }
 {
-    match judge(xs, ys, flags) {
-        Judged::Refused(k) => Explicit::Refused(k),
-        Judged::Fine => explicit_fine(xs, ys, flags, ox, oy, of),
-    }
+    judge(xs, ys, flags)?;
+    explicit_fine(xs, ys, flags, ox, oy, of)
 }

@@ -1,7 +1,8 @@
 -- The promises of the exports determine the report and every lent row; and the report and what is written are those of what is read and of the lengths
 -- of the rows alone, whatever the rows held. The exports of GLIF promise what their entries do, and need no law of their own. Assumes nothing.
-use Rattle.std.specs.Prelude.{ℕ, List, ◌≡◌, refl}
+use Rattle.std.specs.Prelude.{ℕ, List, ◌≡◌, refl, Result}
 use Rattle.std.proofs.Common.{sym, ap, ◌∙◌}
+use Rattle.refusals.specs.declared.refusal.Refusal.{Refusal}
 use denote.Triple.Both.{Both}
 use Rattle.rows.specs.Lent.{Lent, before, after, room, Inputs, Shown}
 use Rattle.settings.specs.declared.Settings.{Settings}
@@ -28,7 +29,6 @@ use Rattle.editions.specs.Determine as EditionsOnce
 use Rattle.editions.specs.declared.entry.Editions as Answers
 use Rattle.editions.specs.declared.work.Order.{Order}
 use Rattle.clean.specs.declared.Cleaned as Cleaned
-use Rattle.clean.specs.declared.Restored as Restored
 use Rattle.exports.specs.Reasons as Reasons
 use Rattle.exports.specs.FromCubics as FromCubics
 use Rattle.exports.specs.WrittenOut as WrittenOut
@@ -49,7 +49,7 @@ shown_same {show = show} p q e = p.is ∙ ap show e ∙ sym q.is
 
 -- ---- cleaning, and whatever keeps and lists, and puts back, as it does
 
-pub clean_equal_orders : {show : Cleaned.Cleaned → CleanReport} {i : Inputs} {c : Cleaning} {w w' : Both Clean.Rows Clean.Rows} {r r' : CleanReport} →
+pub clean_equal_orders : {show : Result Cleaned.Cleaned Refusal → CleanReport} {i : Inputs} {c : Cleaning} {w w' : Both Clean.Rows Clean.Rows} {r r' : CleanReport} →
     CleanOnce.places_of w.entry ≡ CleanOnce.places_of w'.entry →
     (s : Shown show (Clean.Sifts i c w) r) → (s' : Shown show (Clean.Sifts i c w') r') →
     CleanOnce.Same r r' (CleanOnce.first_of s.answer w.exit) (CleanOnce.first_of s'.answer w'.exit)
@@ -57,13 +57,13 @@ clean_equal_orders e s s' =
     let same = CleanOnce.equal_orders e s.promise s'.promise in
     record { answer = shown_same s s' same.answer; left = same.left }
 
-pub clean_determined : {show : Cleaned.Cleaned → CleanReport} {i : Inputs} {c : Cleaning} {w w' : Both Clean.Rows Clean.Rows} {r r' : CleanReport} →
+pub clean_determined : {show : Result Cleaned.Cleaned Refusal → CleanReport} {i : Inputs} {c : Cleaning} {w w' : Both Clean.Rows Clean.Rows} {r r' : CleanReport} →
     w.entry ≡ w'.entry → Shown show (Clean.Sifts i c w) r → Shown show (Clean.Sifts i c w') r' → CleanOnce.Same r r' w.exit w'.exit
 clean_determined e s s' =
     let same = CleanOnce.determined e s.promise s'.promise in
     record { answer = shown_same s s' same.answer; left = same.left }
 
-pub put_equal_orders : {show : Restored.Restored → PutReport} {i : Inputs} {n : ℕ} {spots : List (List ℕ)} {w w' : Both Outputs Outputs} {r r' : PutReport} →
+pub put_equal_orders : {show : Result ℕ Refusal → PutReport} {i : Inputs} {n : ℕ} {spots : List (List ℕ)} {w w' : Both Outputs Outputs} {r r' : PutReport} →
     CleanOnce.Counted i n spots →
     CleanOnce.point_places w.entry ≡ CleanOnce.point_places w'.entry →
     (s : Shown show (Clean.Restores i n spots w) r) → (s' : Shown show (Clean.Restores i n spots w') r') →
@@ -72,7 +72,7 @@ put_equal_orders count e s s' =
     let same = CleanOnce.put_equal_orders count e s.promise s'.promise in
     record { answer = shown_same s s' same.answer; left = same.left }
 
-pub put_determined : {show : Restored.Restored → PutReport} {i : Inputs} {n : ℕ} {spots : List (List ℕ)} {w w' : Both Outputs Outputs} {r r' : PutReport} →
+pub put_determined : {show : Result ℕ Refusal → PutReport} {i : Inputs} {n : ℕ} {spots : List (List ℕ)} {w w' : Both Outputs Outputs} {r r' : PutReport} →
     w.entry ≡ w'.entry → Shown show (Clean.Restores i n spots w) r → Shown show (Clean.Restores i n spots w') r' →
     CleanOnce.Same r r' w.exit w'.exit
 put_determined e s s' =

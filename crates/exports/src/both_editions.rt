@@ -7,6 +7,7 @@ ghost use Rattle.exports.specs.BothEditions.{report_one, report};
 
 use crunch::Crunched;
 use editions::{Editions, Order};
+use refusals::Refusal;
 
 // Of one edition the number of a refusal, or 0; points written; pairs tried; lookups that fell in them.
 #[repr(C)]
@@ -25,21 +26,21 @@ pub struct EditionsReport {
     pub b: EditionReport,
 }
 
-fn report_of(c: Crunched) -> EditionReport
+fn report_of(c: Result<Crunched, Refusal>) -> EditionReport
     ensures { result ≡ report_one c }
 {
     match c {
-        Crunched::Refused(k) => EditionReport {
-            number: k as u32,
+        Err(k) => EditionReport {
+            number: k.number() as u32,
             points: 0,
             pairs: 0,
             fallen: 0,
         },
-        Crunched::Points(points, t) => EditionReport {
+        Ok(Crunched { points, tally }) => EditionReport {
             number: 0,
             points,
-            pairs: t.pairs,
-            fallen: t.fallen,
+            pairs: tally.pairs,
+            fallen: tally.fallen,
         },
     }
 }

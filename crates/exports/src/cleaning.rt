@@ -4,7 +4,8 @@ ghost use Rattle.rows.specs.Lent.{contour, Shown};
 ghost use Rattle.clean.specs.Entry.{lent, Promise, lent_outputs, PutPromise};
 ghost use Rattle.exports.specs.Cleaning.{report, put_report};
 
-use clean::{Cleaned, Restored};
+use clean::Cleaned;
+use refusals::Refusal;
 
 // The number of a refusal, or 0; points kept; points dropped.
 #[repr(C)]
@@ -15,16 +16,16 @@ pub struct CleanReport {
     pub dropped: usize,
 }
 
-pub fn clean_report(c: Cleaned) -> CleanReport
+pub fn clean_report(c: Result<Cleaned, Refusal>) -> CleanReport
     ensures { result ≡ report c }
 {
     match c {
-        Cleaned::Refused(k) => CleanReport {
-            number: k as u32,
+        Err(k) => CleanReport {
+            number: k.number() as u32,
             kept: 0,
             dropped: 0,
         },
-        Cleaned::Points(kept, dropped) => CleanReport {
+        Ok(Cleaned { kept, dropped }) => CleanReport {
             number: 0,
             kept,
             dropped,
@@ -55,15 +56,15 @@ pub struct PutReport {
     pub points: usize,
 }
 
-pub fn put_report(c: Restored) -> PutReport
+pub fn put_report(c: Result<usize, Refusal>) -> PutReport
     ensures { result ≡ put_report c }
 {
     match c {
-        Restored::Refused(k) => PutReport {
-            number: k as u32,
+        Err(k) => PutReport {
+            number: k.number() as u32,
             points: 0,
         },
-        Restored::Points(points) => PutReport { number: 0, points },
+        Ok(points) => PutReport { number: 0, points },
     }
 }
 

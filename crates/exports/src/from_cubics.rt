@@ -4,7 +4,7 @@ ghost use Rattle.rows.specs.Lent.{contour, Shown};
 ghost use Rattle.cubics.specs.Entry.{lent, Promise};
 ghost use Rattle.exports.specs.FromCubics.{report};
 
-use cubics::Replaced;
+use refusals::Refusal;
 
 // The number of a refusal, or 0; points written.
 #[repr(C)]
@@ -14,15 +14,15 @@ pub struct CubicReport {
     pub points: usize,
 }
 
-fn cubic_report(c: Replaced) -> CubicReport
+fn cubic_report(c: Result<usize, Refusal>) -> CubicReport
     ensures { result ≡ report c }
 {
     match c {
-        Replaced::Refused(k) => CubicReport {
-            number: k as u32,
+        Err(k) => CubicReport {
+            number: k.number() as u32,
             points: 0,
         },
-        Replaced::Quads(points) => CubicReport { number: 0, points },
+        Ok(points) => CubicReport { number: 0, points },
     }
 }
 

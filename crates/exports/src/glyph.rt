@@ -8,8 +8,8 @@ ghost use Rattle.glyfwrite.specs.Entry as Writing;
 ghost use Rattle.glyphs.specs.Entry as Crunching;
 ghost use Rattle.exports.specs.Glyph.{read_report, write_report};
 
-use glyfread::Read;
-use glyfwrite::Wrote;
+use glyfread::Counts;
+use refusals::Refusal;
 use settings::Settings;
 
 // The number of a refusal, or 0; how many contours, points and instruction bytes were read.
@@ -22,17 +22,23 @@ pub struct GlyphReadReport {
     pub instructions: usize,
 }
 
-fn read_report(r: Read) -> GlyphReadReport
+fn read_report(r: Result<Counts, Refusal>) -> GlyphReadReport
     ensures { result ≡ read_report r }
 {
     match r {
-        Read::Refused(k) => GlyphReadReport {
-            number: k as u32,
+        Err(k) => GlyphReadReport {
+            number: k.number() as u32,
             contours: 0,
             points: 0,
             instructions: 0,
         },
-        Read::Glyph(contours, points, instructions) => GlyphReadReport {
+        Ok(
+            Counts {
+                contours,
+                points,
+                instructions,
+            },
+        ) => GlyphReadReport {
             number: 0,
             contours,
             points,
@@ -63,15 +69,15 @@ pub struct GlyphWriteReport {
     pub bytes: usize,
 }
 
-fn write_report(r: Wrote) -> GlyphWriteReport
+fn write_report(r: Result<usize, Refusal>) -> GlyphWriteReport
     ensures { result ≡ write_report r }
 {
     match r {
-        Wrote::Refused(k) => GlyphWriteReport {
-            number: k as u32,
+        Err(k) => GlyphWriteReport {
+            number: k.number() as u32,
             bytes: 0,
         },
-        Wrote::Bytes(bytes) => GlyphWriteReport { number: 0, bytes },
+        Ok(bytes) => GlyphWriteReport { number: 0, bytes },
     }
 }
 

@@ -4,7 +4,8 @@ ghost use Rattle.rows.specs.Lent.{contour, Shown};
 ghost use Rattle.why.specs.Entry.{Promise};
 ghost use Rattle.exports.specs.Reasons.{bit_if, bits_of, report};
 
-use why::{Explained, Marks};
+use refusals::Refusal;
+use why::Marks;
 
 // The number of a refusal, or 0; a bit for each reason: 1 x, 2 y, 4 before, 8 after, 16 angle.
 #[repr(C)]
@@ -29,15 +30,15 @@ fn bits(m: Marks) -> u32
     turns + zeros + bit_if(m.angle, 16)
 }
 
-fn why_report(e: Explained) -> WhyReport
+fn why_report(e: Result<Marks, Refusal>) -> WhyReport
     ensures { result ≡ report e }
 {
     match e {
-        Explained::Refused(n) => WhyReport {
-            number: n as u32,
+        Err(k) => WhyReport {
+            number: k.number() as u32,
             reasons: 0,
         },
-        Explained::Reasons(m) => WhyReport {
+        Ok(m) => WhyReport {
             number: 0,
             reasons: bits(m),
         },

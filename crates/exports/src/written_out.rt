@@ -4,7 +4,7 @@ ghost use Rattle.rows.specs.Lent.{contour, Shown};
 ghost use Rattle.explicit.specs.Entry.{lent, Promise};
 ghost use Rattle.exports.specs.WrittenOut.{report};
 
-use explicit::Explicit;
+use refusals::Refusal;
 
 // The number of a refusal, or 0; points written.
 #[repr(C)]
@@ -14,15 +14,15 @@ pub struct ExplicitReport {
     pub points: usize,
 }
 
-fn explicit_report(e: Explicit) -> ExplicitReport
+fn explicit_report(e: Result<usize, Refusal>) -> ExplicitReport
     ensures { result ≡ report e }
 {
     match e {
-        Explicit::Refused(k) => ExplicitReport {
-            number: k as u32,
+        Err(k) => ExplicitReport {
+            number: k.number() as u32,
             points: 0,
         },
-        Explicit::Points(points) => ExplicitReport { number: 0, points },
+        Ok(points) => ExplicitReport { number: 0, points },
     }
 }
 

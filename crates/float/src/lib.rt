@@ -93,10 +93,8 @@ pub fn trunc(x: f64) -> f64
 pub fn floor(x: f64) -> f64
     ensures { result ≡ floor_of x }
 {
-    if x > 0.0 {
-        if x < 4503599627370496.0 {
-            return std::num::truncating_f64_to_u64(x) as f64;
-        }
+    if x > 0.0 && x < 4503599627370496.0 {
+        return std::num::truncating_f64_to_u64(x) as f64;
     }
     let t = trunc(x);
     if x < t { t - 1.0 } else { t }
@@ -144,7 +142,7 @@ pub fn of_bits(b: u64) -> f64
 }
 
 // A whole root with what is left over: root * root + rest is the number whose root this is.
-#[derive(Clone, Copy)]
+#[derive(Clone, Copy, Debug, PartialEq, Eq)]
 pub struct WholeRoot {
     pub root: u64,
     pub rest: u64,
@@ -152,7 +150,7 @@ pub struct WholeRoot {
 
 // A root under way: root * root + rest is what was taken in of a number's digits, and left has the
 // digits that were not, from its top.
-#[derive(Clone, Copy)]
+#[derive(Clone, Copy, Debug, PartialEq, Eq)]
 pub struct Underway {
     pub root: u64,
     pub rest: u64,
@@ -210,10 +208,8 @@ pub fn by_digits(w: u64, turns: u64) -> WholeRoot
         rest: 0,
         left: w,
     };
-    let mut i = 0u64;
-    while i < turns {
+    for _i in 0..turns {
         s = turn(s);
-        i += 1;
     }
     WholeRoot {
         root: s.root,
@@ -240,7 +236,7 @@ fn root_digits(w: u64) -> u64
 
 // What is left of a root once its x is read: nothing, or the 53 digits of the root of word * 2^42,
 // which count for 2^power times the smallest f64.
-#[derive(Clone, Copy)]
+#[derive(Clone, Copy, Debug, PartialEq)]
 pub enum Radicand {
     Answer(f64),
     Scaled { word: u64, power: u64 },

@@ -1,4 +1,8 @@
 -- What the promises of specs/Calls say of two calls, of a report, and of a check. Assumes nothing.
+use Rattle.std.specs.Prelude.{◌↔◌, Result, Ok, Err, true, false, Bool}
+use Rattle.refusals.specs.declared.refusal.Refusal.{Refusal}
+use Rattle.refusals.specs.declared.refusal.Refusal.TheVariants.{UnevenRows, NoPoint, TooManyPoints, StartsOffCurve, OffCurveNeighbours, TooManySamples, TooManyBreaks, PastLastSample, OutputTooShort, NoSuchRun, NoSuchSegment, CutShort, EndsNotRising, TooLarge, Composite, NoSuchPenalty, Outside16Bits, ListTooShort, Malformed, CubicOrOpen, NoOnCurve}
+use Rattle.refusals.specs.Number.{number_of}
 use Prim.Native.Nat.{ℕ, ◌<◌}
 use native.Mathlib.Omega.{arith}
 use mathlib.Core.Path.{◌≡◌, refl, sym, ap, subst, ◌∙◌}
@@ -12,16 +16,15 @@ use Rattle.crunch.specs.Crunch as Crunched
 use Rattle.crunch.specs.Entry as Crunch
 use Rattle.chains.specs.Chains as Chained
 use Rattle.chains.specs.Entry as Chains
-use Rattle.checks.specs.declared.Verdict as D
-use Rattle.checks.specs.declared.Verdict.TheVariants as Verdict
-use Rattle.checks.proofs.Exactly.{accepts_exactly, no_exactly, eight_exactly, refused_exactly, never_by_zero}
+use Rattle.checks.proofs.Exactly.{accepts_exactly, no_exactly, eight_exactly, refused_exactly, number_above}
+use Rattle.checks.specs.Exactly.{RefusedBy}
 use Rattle.fontcrunch.specs.Exports.{crunch_report, chain_report, check_report}
 use Rattle.fontcrunch.specs.Determine as Once
 use Rattle.fontcrunch.specs.Handed as Handing
 use Rattle.fontcrunch.specs.Calls.{CrunchGiven, CrunchLeft, CrunchIs, CrunchShows, CrunchAlike, crunch_defined, crunch_after}
 use Rattle.fontcrunch.specs.Calls.{ChainGiven, ChainLeft, ChainIs, ChainShows, ChainAlike, chain_defined, chain_after, chain_worked}
 use Rattle.fontcrunch.specs.Calls.{CheckGiven, CheckLeft, CheckIs, CheckShows, CheckAlike, check_defined, check_work, check_worked, check_settings, check_chain}
-use Rattle.fontcrunch.specs.Calls.{CheckAccepts, CheckDenies, CheckRefuses, CheckEight, Handed}
+use Rattle.fontcrunch.specs.Calls.{CheckAccepts, CheckDenies, CheckRefuses, CheckEight, ByNumber, Handed}
 use Rattle.fontcrunch.specs.declared.CrunchReport.{CrunchReport}
 use Rattle.fontcrunch.specs.declared.ChainReport.{ChainReport}
 use Rattle.fontcrunch.specs.declared.CheckReport.{CheckReport}
@@ -89,32 +92,62 @@ pub check_equal : {g g' : CheckGiven} {l l' : CheckLeft} → CheckIs g l → Che
     Once.CheckSame l.report l'.report (check_worked l) (check_worked l')
 check_equal p q a = Once.check_equal_orders a.rooms p.shown (rw (← a.contour, ← a.settings, ← a.run, ← a.chain) at q.shown)
 
--- a report tells a yes, a no that is no refusal by 0, and a refusal by its number
-yes_of : (v : D.Verdict) (n : ℕ) (r : CheckReport) → CheckShows v n r → r.accepted ≡ 1 → v ≡ Verdict.Yes
-yes_of (Verdict.Refused k) n r s e = absurd (omega (arith, s.1))
-yes_of Verdict.Yes n r s e = refl
-yes_of Verdict.No n r s e = absurd (omega (arith, s.1))
+-- a report tells a yes, a no, since no number of a refusal is 0, and a refusal by its number
+yes_of : (v : Result Bool Refusal) (n : ℕ) (r : CheckReport) → CheckShows v n r → r.accepted ≡ 1 → v ≡ Ok true
+yes_of (Err k) n r s e = absurd (omega (arith, s.1))
+yes_of (Ok true) n r s e = refl
+yes_of (Ok false) n r s e = absurd (omega (arith, s.1))
 
-no_of : (v : D.Verdict) (n : ℕ) (r : CheckReport) → CheckShows v n r → (v ≡ Verdict.Refused 0 → ⊥) → r.number ≡ 0 → r.accepted ≡ 0 → v ≡ Verdict.No
-no_of (Verdict.Refused k) n r s never e f = absurd (never (ap Verdict.Refused (sym s.0 ∙ e)))
-no_of Verdict.Yes n r s never e f = absurd (omega (arith, s.1))
-no_of Verdict.No n r s never e f = refl
+no_of : (v : Result Bool Refusal) (n : ℕ) (r : CheckReport) → CheckShows v n r → r.number ≡ 0 → r.accepted ≡ 0 → v ≡ Ok false
+no_of (Err k) n r s e f = absurd (omega (arith, s.0, e, number_above k))
+no_of (Ok true) n r s e f = absurd (omega (arith, s.1))
+no_of (Ok false) n r s e f = refl
 
-refused_of : (v : D.Verdict) (n : ℕ) (r : CheckReport) (k : ℕ) → CheckShows v n r → 0 < k → r.number ≡ k → v ≡ Verdict.Refused k
-refused_of (Verdict.Refused j) n r k s h e = ap Verdict.Refused (sym s.0 ∙ e)
-refused_of Verdict.Yes n r k s h e = absurd (omega (arith, s.0))
-refused_of Verdict.No n r k s h e = absurd (omega (arith, s.0))
+-- a reason, whose number the report shows
+record Shown (v : Result Bool Refusal) (k : ℕ) : Type 0 where
+  reason : Refusal
+  number : number_of reason ≡ k
+  is : v ≡ Err reason
+
+refused_of : (v : Result Bool Refusal) (n : ℕ) (r : CheckReport) (k : ℕ) → CheckShows v n r → 0 < k → r.number ≡ k → Shown v k
+refused_of (Err j) n r k s h e = record { reason = j; number = sym s.0 ∙ e; is = refl }
+refused_of (Ok true) n r k s h e = absurd (omega (arith, s.0))
+refused_of (Ok false) n r k s h e = absurd (omega (arith, s.0))
+
+-- 8 is the number of one reason
+eight_is : (k : Refusal) → number_of k ≡ 8 → k ≡ PastLastSample
+eight_is UnevenRows e = absurd (omega (arith, e))
+eight_is NoPoint e = absurd (omega (arith, e))
+eight_is TooManyPoints e = absurd (omega (arith, e))
+eight_is StartsOffCurve e = absurd (omega (arith, e))
+eight_is OffCurveNeighbours e = absurd (omega (arith, e))
+eight_is TooManySamples e = absurd (omega (arith, e))
+eight_is TooManyBreaks e = absurd (omega (arith, e))
+eight_is PastLastSample e = refl
+eight_is OutputTooShort e = absurd (omega (arith, e))
+eight_is NoSuchRun e = absurd (omega (arith, e))
+eight_is NoSuchSegment e = absurd (omega (arith, e))
+eight_is CutShort e = absurd (omega (arith, e))
+eight_is EndsNotRising e = absurd (omega (arith, e))
+eight_is TooLarge e = absurd (omega (arith, e))
+eight_is Composite e = absurd (omega (arith, e))
+eight_is NoSuchPenalty e = absurd (omega (arith, e))
+eight_is Outside16Bits e = absurd (omega (arith, e))
+eight_is ListTooShort e = absurd (omega (arith, e))
+eight_is Malformed e = absurd (omega (arith, e))
+eight_is CubicOrOpen e = absurd (omega (arith, e))
+eight_is NoOnCurve e = absurd (omega (arith, e))
 
 pub check_shows : {g : CheckGiven} {l : CheckLeft} → CheckIs g l → CheckShows (check_defined g).verdict (check_defined g).fallen l.report
 check_shows {g} {l} p = rw (p.shown.is, p.shown.promise.ruling) (by (check_defined g).verdict (check_defined g).fallen)
   where
-    by : (v : D.Verdict) (n : ℕ) → CheckShows v n (check_report (record { verdict = v; fallen = n }))
-    by (Verdict.Refused k) n = (refl, refl, refl)
-    by Verdict.Yes n = (refl, refl, refl)
-    by Verdict.No n = (refl, refl, refl)
+    by : (v : Result Bool Refusal) (n : ℕ) → CheckShows v n (check_report (record { verdict = v; fallen = n }))
+    by (Err k) n = (refl, refl, refl)
+    by (Ok true) n = (refl, refl, refl)
+    by (Ok false) n = (refl, refl, refl)
 
 module _ {g : CheckGiven} {l : CheckLeft} (p : CheckIs g l) where
-  abbrev verdict : D.Verdict
+  abbrev verdict : Result Bool Refusal
   verdict = (check_defined g).verdict
 
   abbrev fallen : ℕ
@@ -124,8 +157,8 @@ module _ {g : CheckGiven} {l : CheckLeft} (p : CheckIs g l) where
   shows = check_shows p
 
   -- of a verdict that is known
-  shows_so : {v : D.Verdict} → verdict ≡ v → CheckShows v fallen l.report
-  shows_so e = subst (λ (v : D.Verdict). CheckShows v fallen l.report) e shows
+  shows_so : {v : Result Bool Refusal} → verdict ≡ v → CheckShows v fallen l.report
+  shows_so e = subst (λ (v : Result Bool Refusal). CheckShows v fallen l.report) e shows
 
   pub check_accepts : CheckAccepts g l
   check_accepts =
@@ -133,26 +166,29 @@ module _ {g : CheckGiven} {l : CheckLeft} (p : CheckIs g l) where
       (λ e. exactly.0 (yes_of verdict fallen l.report shows e), λ a. (shows_so (exactly.1 a)).1)
 
   pub check_refuses : CheckRefuses g l
-  check_refuses n h =
-      let exactly = refused_exactly g.xs g.ys g.flags (check_settings g) g.k (check_chain g) (check_work g) n in
-      (λ e. exactly.0 (refused_of verdict fallen l.report n shows h e), λ a. (shows_so (exactly.1 a)).0)
+  check_refuses n h = (λ e. by (refused_of verdict fallen l.report n shows h e), λ b. (shows_so ((exactly b.reason).1 b.refused)).0 ∙ b.number)
+    where
+      exactly : (k : Refusal) → (verdict ≡ Err k) ↔ RefusedBy (rooms_of (check_work g)) (check_settings g) g.xs g.ys g.flags g.k (check_chain g) k
+      exactly k = refused_exactly g.xs g.ys g.flags (check_settings g) g.k (check_chain g) (check_work g) k
 
-  never_refused_by_zero : verdict ≡ Verdict.Refused 0 → ⊥
-  never_refused_by_zero e =
-      let exactly = refused_exactly g.xs g.ys g.flags (check_settings g) g.k (check_chain g) (check_work g) 0 in
-      never_by_zero (rooms_of (check_work g)) (check_settings g) g.xs g.ys g.flags g.k (check_chain g) (exactly.0 e)
+      by : Shown verdict n → ByNumber g n
+      by s = record { reason = s.reason; number = s.number; refused = (exactly s.reason).0 s.is }
 
   pub check_denies : CheckDenies g l
   check_denies =
       let exactly = no_exactly g.xs g.ys g.flags (check_settings g) g.k (check_chain g) (check_work g) in (
-        λ e. exactly.0 (no_of verdict fallen l.report shows never_refused_by_zero e.0 e.1),
+        λ e. exactly.0 (no_of verdict fallen l.report shows e.0 e.1),
         λ d. ((shows_so (exactly.1 d)).0, (shows_so (exactly.1 d)).1),
       )
 
   pub check_eight : CheckEight g l
   check_eight sx sy =
-      let exactly = eight_exactly g.xs g.ys g.flags (check_settings g) g.k (check_chain g) (check_work g) sx sy in
-      (λ e. exactly.0 (refused_of verdict fallen l.report 8 shows (lit≤ tt) e), λ u. (shows_so (exactly.1 u)).0)
+      let exactly = eight_exactly g.xs g.ys g.flags (check_settings g) g.k (check_chain g) (check_work g) sx sy in (
+        λ e.
+            let s = refused_of verdict fallen l.report 8 shows (lit≤ tt) e in
+            exactly.0 (s.is ∙ ap Err (eight_is s.reason s.number)),
+        λ u. (shows_so (exactly.1 u)).0,
+      )
 
 -- ---- chain and check
 

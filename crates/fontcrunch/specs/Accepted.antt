@@ -1,11 +1,10 @@
 -- Demand 3, for the entries: the first `pieces` places of the chain rows that the chain entry leaves, with its score, are accepted by the
 -- checker's entry for the same contour, settings, run and row lengths. Assumes nothing.
-use Rattle.std.specs.Prelude.{ℕ, zero, suc, ◌+◌, Bool, true, false, List, [], ◌∷◌, map, ◌≡◌, refl, ltb, Float, ℤ, length}
+use Rattle.std.specs.Prelude.{ℕ, zero, suc, ◌+◌, Bool, true, false, List, [], ◌∷◌, map, ◌≡◌, refl, ltb, Float, ℤ, length, Option, Some, None, Result, Ok, Err}
 use Rattle.std.proofs.Common.{arith, sym, ap, ◌∙◌, le-ltb, eq-eqb}
 use Rattle.std.proofs.lemmas.List.{length-map}
-use Rattle.refusals.specs.declared.Judged.{Judged}
+use Rattle.refusals.specs.declared.refusal.Refusal.{Refusal}
 use Rattle.runs.specs.declared.Run.{Run}
-use Rattle.runs.specs.declared.Run.TheVariants.{Between, Nothing}
 use Rattle.runs.specs.Runs.{numbered_run}
 use Rattle.settings.specs.Settings.{grid_of, penalty_of, settings_of, judged_for}
 use Rattle.settings.specs.declared.Settings.{Settings}
@@ -14,8 +13,7 @@ use Rattle.optimize.specs.declared.Tally.{Tally}
 use Rattle.survey.specs.Survey.{survey_of}
 use Rattle.chain.specs.Valid as Valid
 use Rattle.chain.specs.declared.Piece.{Piece}
-use Rattle.chain.specs.declared.Checked.TheVariants as Checked
-use Rattle.edition.specs.Edition.{Result, Rooms, answer_room, work_of}
+use Rattle.edition.specs.Edition.{RunOutcome, Rooms, answer_room, work_of}
 use Rattle.edition.specs.Edition as Edition
 use Rattle.edition.specs.Laws.{work_solved}
 use Rattle.rows.specs.Lent.{Inputs, inputs}
@@ -31,7 +29,6 @@ use Rattle.chains.specs.Chains.{refused, unchanged, chained, over_if, chain_out,
 use Rattle.chains.specs.Chains as Chains
 use Rattle.checks.specs.Checks.{GivenChain, check_of}
 use Rattle.checks.specs.Checks as Checks
-use Rattle.checks.specs.declared.Verdict.TheVariants as Verdict
 
 -- ---- a chain in rows is the chain
 
@@ -80,20 +77,20 @@ even ps =
 
 -- ---- one run
 
-no_chain : {n : ℕ} {ps : List Piece} {s : Float} {t : Tally} {A : Type 0} → refused n ≡ chained ps s t → A
-no_chain e = let z : ◌≡◌ {A = ℕ} 0 1 = cc in absurd (omega arith)
+no_chain : {n : Refusal} {ps : List Piece} {s : Float} {t : Tally} {A : Type 0} → refused n ≡ chained ps s t → A
+no_chain e = absurd cc
 
 -- a chain that was written is the optimiser's
-record Written (x : Result) (ps : List Piece) (score : Float) : Type 0 where
+record Written (x : RunOutcome) (ps : List Piece) (score : Float) : Type 0 where
   answer : Statelet
   tally : Tally
   is : x ≡ Edition.solved answer tally
   pieces : pieces_of answer ≡ ps
   scored : score_of answer ≡ score
 
-was_written : (room : ℕ) (x : Result) {ps : List Piece} {score : Float} {t : Tally} → chain_out room x ≡ chained ps score t → Written x ps score
+was_written : (room : ℕ) (x : RunOutcome) {ps : List Piece} {score : Float} {t : Tally} → chain_out room x ≡ chained ps score t → Written x ps score
 was_written room (Edition.refused k) e = no_chain e
-was_written room (Edition.unchanged k) e = let z : ◌≡◌ {A = ℕ} 0 1 = cc in absurd (omega arith)
+was_written room (Edition.unchanged k) e = absurd cc
 was_written room (Edition.solved a q) {ps} {score} {t} e = by (ltb room (length (pieces_of a))) e
   where
     by : (b : Bool) → over_if b (pieces_of a) (score_of a) q ≡ chained ps score t → Written (Edition.solved a q) ps score
@@ -107,40 +104,40 @@ module _ (rooms : Rooms) (room : ℕ) (settings : Settings) (xs ys : List ℤ) (
   abbrev half : ℕ
   half = answer_room rooms.answers rooms.links
 
-  accepted_rows : (samples : List (List Float)) (breaks : List (List Float)) → Valid.checked_chain samples breaks penalty ps score ≡ Checked.Yes →
-      Valid.check_rows samples breaks penalty (starts_of ps) (ends_of ps) (xs_of ps) (ys_of ps) score ≡ Checked.Yes
+  accepted_rows : (samples : List (List Float)) (breaks : List (List Float)) → Valid.checked_chain samples breaks penalty ps score ≡ Some true →
+      Valid.check_rows samples breaks penalty (starts_of ps) (ends_of ps) (xs_of ps) (ys_of ps) score ≡ Some true
   unfolding Valid.check_rows
   accepted_rows samples breaks e = rw (even ps, read_back ps) e
 
   accepted_run : (first count : ℕ) → chain_out room (work_of rooms (grid_of settings) penalty xs ys fs first count) ≡ chained ps score t →
       (Checks.of_survey half penalty (chain_from ps score) (survey_of rooms.samples rooms.breaks xs ys fs first count (grid_of settings))).verdict
-      ≡ Verdict.Yes
+      ≡ Ok true
   accepted_run first count e =
       let was = was_written room (work_of rooms (grid_of settings) penalty xs ys fs first count) e in
       let best = work_solved rooms (grid_of settings) penalty xs ys fs first count was.answer was.tally was.is in
       let fine = best.fine in
       let yes = accepted_any best.samples best.breaks penalty fine.some fine.fit_x fine.fit_y was.answer was.tally.pairs best.is in
-      let same : Valid.checked_chain best.samples best.breaks penalty ps score ≡ Checked.Yes = rw (was.pieces, was.scored) at yes in
+      let same : Valid.checked_chain best.samples best.breaks penalty ps score ≡ (Some true) = rw (was.pieces, was.scored) at yes in
       rw (best.survey, le-ltb half (length best.breaks) best.room, accepted_rows best.samples best.breaks same) refl
 
   -- ---- the whole
 
-  accepted_number : (r : Run) → Chains.of_run rooms room settings xs ys fs r ≡ chained ps score t →
-      (Checks.of_run half settings (chain_from ps score) rooms.samples rooms.breaks xs ys fs r).verdict ≡ Verdict.Yes
-  accepted_number Nothing e = no_chain e
-  accepted_number (Between first count) e = accepted_run first count e
+  accepted_number : (r : Option Run) → Chains.of_run rooms room settings xs ys fs r ≡ chained ps score t →
+      (Checks.of_run half settings (chain_from ps score) rooms.samples rooms.breaks xs ys fs r).verdict ≡ Ok true
+  accepted_number None e = no_chain e
+  accepted_number (Some r) e = accepted_run r.first r.count e
 
   pub accepted_chain : (k : ℕ) → chain_of rooms room settings xs ys fs k ≡ chained ps score t →
-      (check_of rooms settings xs ys fs (chain_from ps score) k).verdict ≡ Verdict.Yes
+      (check_of rooms settings xs ys fs (chain_from ps score) k).verdict ≡ Ok true
   unfolding chain_of check_of
   accepted_chain k e = by (judged_for settings xs ys fs) e
     where
-      by : (j : Judged) → Chains.after_judging j (Chains.of_run rooms room settings xs ys fs (numbered_run settings.closed xs ys fs k)) ≡ chained ps score t →
+      by : (j : Result Unit Refusal) → Chains.after_judging j (Chains.of_run rooms room settings xs ys fs (numbered_run settings.closed xs ys fs k)) ≡ chained ps score t →
           (Checks.after_judging j
           (Checks.of_run half settings (chain_from ps score) rooms.samples rooms.breaks xs ys fs (numbered_run settings.closed xs ys fs k))
-          ).verdict ≡ Verdict.Yes
-      by (Judged.Refused n) f = no_chain f
-      by Judged.Fine f = accepted_number (numbered_run settings.closed xs ys fs k) f
+          ).verdict ≡ Ok true
+      by (Err n) f = no_chain f
+      by (Ok _) f = accepted_number (numbered_run settings.closed xs ys fs k) f
 
 -- ---- the entries: what the chain entry leaves in its rows, checked in scratch rows of the same lengths
 
@@ -154,7 +151,7 @@ left_by i settings k c w = ChainEntry.rows_of (ChainEntry.whole_of i settings k 
 
 pub demand_three : (i : Inputs) (settings : Settings) (k : ℕ) (c : ChainEntry.Rows) (w w' : Work) (ps : List Piece) (score : Float) (tally : Tally) →
     rooms_of w ≡ rooms_of w' → ChainEntry.whole_of i settings k c w ≡ chained ps score tally →
-    (CheckEntry.whole_of i settings k (given_by (places_of (length ps) (left_by i settings k c w)) score) w').verdict ≡ Verdict.Yes
+    (CheckEntry.whole_of i settings k (given_by (places_of (length ps) (left_by i settings k c w)) score) w').verdict ≡ Ok true
 demand_three (inputs xs ys fs) settings k c w w' ps score tally same e =
     rw (e, chained_places ps score tally (ChainEntry.breaks_in (inputs xs ys fs) settings k w) c, sym same)
     (accepted_chain (rooms_of w) (ChainEntry.room_in c) settings xs ys fs ps score tally k e)
@@ -165,7 +162,7 @@ abbrev pub DemandThree : Settings → Type 0
 DemandThree settings =
     (i : Inputs) (k : ℕ) (c : ChainEntry.Rows) (w w' : Work) (ps : List Piece) (score : Float) (tally : Tally) → rooms_of w ≡ rooms_of w' →
     ChainEntry.whole_of i settings k c w ≡ chained ps score tally →
-    (CheckEntry.whole_of i settings k (given_by (places_of (length ps) (left_by i settings k c w)) score) w').verdict ≡ Verdict.Yes
+    (CheckEntry.whole_of i settings k (given_by (places_of (length ps) (left_by i settings k c w)) score) w').verdict ≡ Ok true
 
 pub on_half_units : (penalty closed : ℕ) → DemandThree (settings_of penalty 0 closed)
 on_half_units penalty closed i = demand_three i (settings_of penalty 0 closed)

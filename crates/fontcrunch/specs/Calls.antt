@@ -2,9 +2,11 @@
 -- what is left when the call is over (XLeft). What each export promises of them: that it is its entry's promise (XIs); what its report shows of what the
 -- definition gives, field by field (XShows); and when two calls are of one order (XAlike). Definitions and statements; the theorems, of the contracts as the
 -- check reads them, stand in proofs/Stated.
-use Rattle.std.specs.Prelude.{ℕ, ◌<◌, List, ◌↔◌, ◌≡◌, Float, ℤ, length, take}
+use Rattle.std.specs.Prelude.{ℕ, ◌<◌, List, ◌↔◌, ◌≡◌, Float, ℤ, length, take, Result, Ok, Err, true, false, Bool}
 use Rattle.std.specs.Float.{binary64}
 use Rattle.std.specs.Float.Ieee.{of_bits, to_bits}
+use Rattle.refusals.specs.declared.refusal.Refusal.{Refusal}
+use Rattle.refusals.specs.Number.{number_of}
 use Rattle.rows.specs.Rows.{Work, work}
 use Rattle.rows.specs.Lent.{Inputs, inputs, Shown}
 use Rattle.settings.specs.Settings.{settings_of}
@@ -22,8 +24,6 @@ use Rattle.checks.specs.Entry as Checks
 use Rattle.checks.specs.Checks.{GivenChain}
 use Rattle.checks.specs.Exactly.{Accepted, Denied, Unsettled, RefusedBy}
 use Rattle.checks.specs.declared.Ruling.{Ruling}
-use Rattle.checks.specs.declared.Verdict as D
-use Rattle.checks.specs.declared.Verdict.TheVariants as Verdict
 use Rattle.fontcrunch.specs.Exports.{crunch_report, check_report, ChainShown}
 use Rattle.fontcrunch.specs.declared.CrunchReport.{CrunchReport}
 use Rattle.fontcrunch.specs.declared.ChainReport.{ChainReport}
@@ -82,7 +82,7 @@ crunch_defined g = Crunch.whole_of (crunch_contour g) (crunch_settings g) (crunc
 
 -- the report of a refusal shows its number and nothing else; of points that come out, how many they are, the pairs tried and the lookups that fell
 abbrev pub CrunchShows : Crunched.Outcome → CrunchReport → Type 0
-CrunchShows (Crunched.refused k) r = (r.number ≡ k) × (r.points ≡ 0) × (r.pairs ≡ 0) × (r.fallen ≡ 0)
+CrunchShows (Crunched.refused k) r = (r.number ≡ number_of k) × (r.points ≡ 0) × (r.pairs ≡ 0) × (r.fallen ≡ 0)
 CrunchShows (Crunched.crunched ps t) r = (r.number ≡ 0) × (r.points ≡ length ps) × (r.pairs ≡ t.pairs) × (r.fallen ≡ t.fallen)
 
 -- one order, in rows of equal lengths
@@ -154,7 +154,7 @@ chain_defined g = Chains.whole_of (chain_contour g) (chain_settings g) g.k (chai
 -- the report of a refusal shows its number and nothing else; of a run that leaves its contour unchanged the pairs tried and the lookups that fell; of a chain
 -- also its pieces and the bits of its score. The bits of 0.0 are 0
 abbrev pub ChainShows : Chained.Outcome → ChainReport → Type 0
-ChainShows (Chained.refused k) r = (r.number ≡ k) × (r.pieces ≡ 0) × (r.pairs ≡ 0) × (r.score_bits ≡ 0) × (r.fallen ≡ 0)
+ChainShows (Chained.refused k) r = (r.number ≡ number_of k) × (r.pieces ≡ 0) × (r.pairs ≡ 0) × (r.score_bits ≡ 0) × (r.fallen ≡ 0)
 ChainShows (Chained.unchanged t) r = (r.number ≡ 0) × (r.pieces ≡ 0) × (r.pairs ≡ t.pairs) × (r.score_bits ≡ 0) × (r.fallen ≡ t.fallen)
 ChainShows (Chained.chained ps s t) r =
     (r.number ≡ 0) × (r.pieces ≡ length ps) × (r.pairs ≡ t.pairs) × (r.score_bits ≡ to_bits binary64 s) × (r.fallen ≡ t.fallen)
@@ -218,10 +218,10 @@ abbrev pub check_defined : CheckGiven → Ruling
 check_defined g = Checks.whole_of (check_contour g) (check_settings g) g.k (check_chain g) (check_work g)
 
 -- the report of a refusal shows its number and nothing else; of a verdict whether it is a yes, and the lookups that fell
-abbrev pub CheckShows : D.Verdict → ℕ → CheckReport → Type 0
-CheckShows (Verdict.Refused k) fallen r = (r.number ≡ k) × (r.accepted ≡ 0) × (r.fallen ≡ 0)
-CheckShows Verdict.Yes fallen r = (r.number ≡ 0) × (r.accepted ≡ 1) × (r.fallen ≡ fallen)
-CheckShows Verdict.No fallen r = (r.number ≡ 0) × (r.accepted ≡ 0) × (r.fallen ≡ fallen)
+abbrev pub CheckShows : Result Bool Refusal → ℕ → CheckReport → Type 0
+CheckShows (Err k) fallen r = (r.number ≡ number_of k) × (r.accepted ≡ 0) × (r.fallen ≡ 0)
+CheckShows (Ok true) fallen r = (r.number ≡ 0) × (r.accepted ≡ 1) × (r.fallen ≡ fallen)
+CheckShows (Ok false) fallen r = (r.number ≡ 0) × (r.accepted ≡ 0) × (r.fallen ≡ fallen)
 
 pub record CheckAlike (g g' : CheckGiven) : Type 0 where
   pub contour : check_contour g ≡ check_contour g'
@@ -243,11 +243,15 @@ CheckDenies g l =
     ((l.report.number ≡ 0) × (l.report.accepted ≡ 0))
     ↔ Denied (rooms_of (check_work g)) (check_settings g) g.xs g.ys g.flags g.k (check_chain g)
 
+-- refused, for the reason with this number
+pub record ByNumber (g : CheckGiven) (n : ℕ) : Type 0 where
+  pub reason : Refusal
+  pub number : number_of reason ≡ n
+  pub refused : RefusedBy (rooms_of (check_work g)) (check_settings g) g.xs g.ys g.flags g.k (check_chain g) reason
+
 -- refused by each number exactly when document 01 says so
 abbrev pub CheckRefuses : CheckGiven → CheckLeft → Type 0
-CheckRefuses g l =
-    (n : ℕ) → 0 < n →
-    (l.report.number ≡ n) ↔ RefusedBy (rooms_of (check_work g)) (check_settings g) g.xs g.ys g.flags g.k (check_chain g) n
+CheckRefuses g l = (n : ℕ) → 0 < n → (l.report.number ≡ n) ↔ ByNumber g n
 
 -- of rows of 16 bits, as C's are, by 8 exactly when a measure of a chain of good shape is refused
 abbrev pub CheckEight : CheckGiven → CheckLeft → Type 0

@@ -1,10 +1,11 @@
 -- Demand 3, for what C and Rust get: the first `pieces` places of the chain rows that the chain export leaves, with the score read back from its bits,
 -- handed to the check export with scratch rows of the same lengths: number 0, accepted 1. Assumes nothing.
-use Rattle.std.specs.Prelude.{ℕ, ◌<◌, List, ◌≡◌, refl, T, Float, length}
+use Rattle.std.specs.Prelude.{ℕ, ◌<◌, List, ◌≡◌, refl, T, Float, length, Result, Ok, true}
 use Rattle.std.proofs.Common.{arith, ap, subst, ◌∙◌}
 use Rattle.std.specs.Float.{binary64}
 use Rattle.std.specs.Float.Ieee.{of_bits, to_bits, fits}
 use Rattle.std.specs.Float.Ieee.Bits.{of_bits-to_bits}
+use Rattle.refusals.specs.declared.refusal.Refusal.{Refusal}
 use Rattle.rows.specs.Lent.{Inputs, Shown}
 use Rattle.settings.specs.declared.Settings.{Settings}
 use Rattle.breaks.specs.Breaks.{Row}
@@ -18,7 +19,6 @@ use Rattle.chain.specs.declared.Piece.{Piece}
 use Rattle.checks.specs.Checks.{GivenChain}
 use Rattle.checks.specs.Entry as Checks
 use Rattle.checks.specs.declared.Ruling.{Ruling}
-use Rattle.checks.specs.declared.Verdict.TheVariants as Verdict
 use Rattle.fontcrunch.specs.Accepted.{given_by, demand_three}
 use Rattle.fontcrunch.specs.Exports.{check_report, ChainShown}
 use Rattle.fontcrunch.specs.declared.ChainReport.{ChainReport}
@@ -41,14 +41,14 @@ module _ {i : Inputs} {settings : Settings} {k : ℕ} {c : Chains.LentChain} {w 
   pieces_are : (o : Outcome) → whole ≡ o → r.pieces ≡ (Chains.report (Chains.answer_of o)).pieces
   pieces_are o e =
       ap (λ (x : ChainReport). x.pieces) said.shown.is
-      ∙ ap (λ (a : Chained). (Chains.report a).pieces) (said.shown.promise.answer ∙ ap Chains.answer_of e)
+      ∙ ap (λ (a : Result Chained Refusal). (Chains.report a).pieces) (said.shown.promise.answer ∙ ap Chains.answer_of e)
 
-  accepted_by : (ps : List Piece) (s : Float) (t : Tally) → whole ≡ chained ps s t → asked.answer.verdict ≡ Verdict.Yes
+  accepted_by : (ps : List Piece) (s : Float) (t : Tally) → whole ≡ chained ps s t → asked.answer.verdict ≡ Ok true
   accepted_by ps s t e =
-      let answer : said.shown.answer ≡ Chained.Pieces (length ps) s t = said.shown.promise.answer ∙ ap Chains.answer_of e in
-      let fit : T (fits binary64 s) = subst (λ (a : Chained). T (fits binary64 (Chains.report a).score)) answer said.double in
+      let answer : said.shown.answer ≡ (Ok (Chained.Pieces (length ps) s t)) = said.shown.promise.answer ∙ ap Chains.answer_of e in
+      let fit : T (fits binary64 s) = subst (λ (a : Result Chained Refusal). T (fits binary64 (Chains.report a).score)) answer said.double in
       let bits : r.score_bits ≡ to_bits binary64 s =
-      ap (λ (x : ChainReport). x.score_bits) said.shown.is ∙ ap (λ (a : Chained). to_bits binary64 (Chains.report a).score) answer in
+      ap (λ (x : ChainReport). x.score_bits) said.shown.is ∙ ap (λ (a : Result Chained Refusal). to_bits binary64 (Chains.report a).score) answer in
       let score : of_bits binary64 r.score_bits ≡ s = ap (of_bits binary64) bits ∙ of_bits-to_bits binary64 s fit in
       let given : given_by (places_of r.pieces c.exit) (of_bits binary64 r.score_bits)
       ≡ given_by (places_of (length ps) (Chains.rows_of whole breaks c.entry)) s =

@@ -1,7 +1,7 @@
 -- A run that is solved, from its contour to the checker's yes: run 0, the curve, of (0, 0) on, (1, 0) off, (1, 1) on, (0, 1) on, in the crate's settings and
 -- document 01's full rooms. So what is said of every chain that the chain entry leaves (specs/Accepted, specs/Calls) is said of one at least. Statements;
 -- the theorems stand in proofs/Solved.
-use Rattle.std.specs.Prelude.{ℕ, ◌<◌, List, [], ◌∷◌, ◌≡◌, ℤ, pos, Float}
+use Rattle.std.specs.Prelude.{ℕ, ◌<◌, List, [], ◌∷◌, ◌≡◌, ℤ, pos, Float, Ok, true}
 use Rattle.std.specs.Float.{binary64}
 use Rattle.std.specs.Float.Ieee.{of_bits}
 use Rattle.float.specs.Numbers.{nought, one}
@@ -16,7 +16,6 @@ use Rattle.chains.specs.Entry as Chains
 use Rattle.chains.specs.Determine.{places_of}
 use Rattle.checks.specs.Checks.{check_of}
 use Rattle.checks.specs.Entry as Checks
-use Rattle.checks.specs.declared.Verdict.TheVariants as Verdict
 use Rattle.fontcrunch.specs.Accepted.{chain_from, given_by, left_by}
 use Rattle.fontcrunch.specs.Calls.{ChainGiven, chain_contour, chain_settings, chain_before, chain_work}
 use Rattle.fontcrunch.specs.declared.ChainReport.{ChainReport}
@@ -55,13 +54,13 @@ ChainThere = (room : ℕ) → 0 < room → There room
 
 -- the checker's definition says yes to it
 abbrev pub SaysYes : Type 0
-SaysYes = (check_of full_rooms crate_settings xs ys fs (chain_from (piece ∷ []) score) 0).verdict ≡ Verdict.Yes
+SaysYes = (check_of full_rooms crate_settings xs ys fs (chain_from (piece ∷ []) score) 0).verdict ≡ Ok true
 
 -- demand 3 of the entries, whatever the rows held: what the chain entry leaves in the first place of its rows, checked, is accepted
 abbrev pub LeftIsAccepted : Type 0
 LeftIsAccepted =
     (c : Chains.Rows) (w w' : Work) → 0 < Chains.room_in c → rooms_of w ≡ full_rooms → rooms_of w' ≡ full_rooms →
-    (Checks.whole_of contour crate_settings 0 (given_by (places_of 1 (left_by contour crate_settings 0 c w)) score) w').verdict ≡ Verdict.Yes
+    (Checks.whole_of contour crate_settings 0 (given_by (places_of 1 (left_by contour crate_settings 0 c w)) score) w').verdict ≡ Ok true
 
 -- the chain export, asked for it
 pub record Asked (g : ChainGiven) : Type 0 where

@@ -1,7 +1,7 @@
 -- Document 01's values on both sides, its rows marked P, and what document 02's W3, W5, W6 and W9 add to them: cases and results as data, one way
 -- to evaluate them, one list. Most rows are one computation together, here; those that work a run take several steps, in proofs/, and proofs/Table says of
 -- all of them that they hold. docs/TABLE.md has them for readers. Assumes nothing.
-use Rattle.std.specs.Prelude.{ℕ, zero, suc, ◌+◌, ◌^◌, Bool, true, false, ◌≡◌, refl, ℤ, pos, negsuc, Float}
+use Rattle.std.specs.Prelude.{ℕ, zero, suc, ◌+◌, ◌^◌, Bool, true, false, ◌≡◌, refl, ℤ, pos, negsuc, Float, Some}
 use mathlib.Core.List.{List, [], ◌∷◌, ◌++◌, map, Memᴰ}
 use Rattle.std.specs.Float.Ieee as Ieee
 use Rattle.std.specs.Float.{binary64}
@@ -11,12 +11,13 @@ use Rattle.float.specs.Numbers.{nought, one}
 use Rattle.float.proofs.Table.{each}
 use Rattle.geometry.specs.declared.Point.{Point}
 use Rattle.refusals.specs.Refusals.{off_neighbours, judged}
+use Rattle.refusals.specs.declared.refusal.Refusal.TheVariants.{NoPoint, StartsOffCurve, PastLastSample, NoSuchPenalty}
+use Rattle.refusals.specs.declared.refusal.Refusal.{Refusal}
 use Rattle.outline.specs.Segments.{count_of, end_of, place_after, seg_from}
 use Rattle.corners.specs.Corners as Corners
 use Rattle.corners.specs.Corners.{angle_corner}
 use Rattle.runs.specs.Runs.{marks_from, corner_list, stops_of, between}
 use Rattle.settings.specs.Settings.{yes_of, settings_of, penalty_of, judged_for}
-use Rattle.measure.specs.declared.Measured.TheVariants as Measured
 use Rattle.breaks.specs.Breaks as Breaks
 use Rattle.breaks.specs.declared.Grid.{Grid}
 use Rattle.breaks.specs.Breaks.{half_grid, whole_grid, on_grid}
@@ -45,7 +46,7 @@ pub data Case : Type 0 where
 
 -- what comes of it
 pub data Comes : Type 0 where
-  refused : ℕ → Comes
+  refused : Refusal → Comes
   -- the points out, and the pairs tried
   gives : Points → ℕ → Comes
   -- whether the angle makes a corner
@@ -71,10 +72,10 @@ in_line zero k = []
 in_line (suc n) k = (of_int binary64 (pos k) ∷ of_int binary64 (pos k) ∷ nought ∷ one ∷ nought ∷ []) ∷ in_line n (k + 1)
 
 abbrev pub at_error : Float → Measure
-at_error e i j q = Measured.At (record { error = e })
+at_error e i j q = Some (record { error = e })
 
 abbrev pub pairs_of : Optimised → Comes
-pairs_of refused8 = refused 8
+pairs_of refused8 = refused PastLastSample
 pairs_of (unchanged p) = tried p
 pairs_of (solved a p) = tried p
 
@@ -178,10 +179,10 @@ at_once =
     ∷ record { case = run 32 1 (number 4); result = tried 1 }
     ∷ record { case = run 32 1 (number 7); result = tried 2 }
     -- penalties outside 1 to 256, after the refusals of the rows
-    ∷ record { case = contour 0 0 (pos 7 ∷ []) (pos 9 ∷ []) (1 ∷ []); result = refused 16 }
-    ∷ record { case = contour 257 0 (pos 7 ∷ []) (pos 9 ∷ []) (1 ∷ []); result = refused 16 }
-    ∷ record { case = contour 257 0 [] [] []; result = refused 2 }
-    ∷ record { case = contour 0 0 (pos 7 ∷ []) (pos 9 ∷ []) (0 ∷ []); result = refused 4 }
+    ∷ record { case = contour 0 0 (pos 7 ∷ []) (pos 9 ∷ []) (1 ∷ []); result = refused NoSuchPenalty }
+    ∷ record { case = contour 257 0 (pos 7 ∷ []) (pos 9 ∷ []) (1 ∷ []); result = refused NoSuchPenalty }
+    ∷ record { case = contour 257 0 [] [] []; result = refused NoPoint }
+    ∷ record { case = contour 0 0 (pos 7 ∷ []) (pos 9 ∷ []) (0 ∷ []); result = refused StartsOffCurve }
     ∷ []
 
 -- rows that work a run, each with one pair

@@ -2,7 +2,7 @@
 // means stands in include/fontcrunch.h.
 #![tactic(auto)]
 
-ghost use Rattle.std.specs.Prelude.{◌≡◌, T};
+ghost use Rattle.std.specs.Prelude.{◌≡◌, T, Ok};
 ghost use Rattle.std.specs.Float.{binary64};
 ghost use Rattle.std.specs.Float.Ieee.{fits};
 ghost use Rattle.rows.specs.Lent.{contour, Shown};
@@ -10,12 +10,15 @@ ghost use Rattle.settings.specs.Settings.{settings_of};
 ghost use Rattle.edition.specs.Scratch.{scratch};
 ghost use Rattle.crunch.specs.Entry as Crunch;
 ghost use Rattle.chains.specs.Entry as Chains;
+ghost use Rattle.chains.specs.declared.Chained.TheVariants.{Pieces};
 ghost use Rattle.checks.specs.Entry as Checks;
 ghost use Rattle.fontcrunch.specs.Exports.{crunch_report, chain_report, check_report, ChainShown};
 
 use chains::Chained;
-use checks::{Ruling, Verdict};
+use checks::Ruling;
 use crunch::Crunched;
+use optimize::Tally;
+use refusals::Refusal;
 use settings::Settings;
 
 // The number of a refusal, or 0; points written; pairs tried; lookups that fell off the samples in them.
@@ -48,17 +51,17 @@ pub struct CheckReport {
     pub fallen: usize,
 }
 
-fn crunch_report(c: Crunched) -> CrunchReport
+fn crunch_report(c: Result<Crunched, Refusal>) -> CrunchReport
     ensures { result ≡ crunch_report c }
 {
     match c {
-        Crunched::Refused(k) => CrunchReport {
-            number: k as u32,
+        Err(k) => CrunchReport {
+            number: k.number() as u32,
             points: 0,
             pairs: 0,
             fallen: 0,
         },
-        Crunched::Points(points, tally) => CrunchReport {
+        Ok(Crunched { points, tally }) => CrunchReport {
             number: 0,
             points,
             pairs: tally.pairs,
@@ -67,32 +70,40 @@ fn crunch_report(c: Crunched) -> CrunchReport
     }
 }
 
-fn chain_report(c: Chained) -> ChainReport
+// Of a chain that was written.
+fn pieces_report(score: f64, pieces: usize, t: Tally) -> ChainReport
+    ensures is { result ≡ chain_report (Ok (Pieces pieces score t)) }
+    ensures double { T (fits binary64 score) }
+{
+    ChainReport {
+        number: 0,
+        pieces,
+        pairs: t.pairs,
+        score_bits: float::bits(score),
+        fallen: t.fallen,
+    }
+}
+
+fn chain_report(c: Result<Chained, Refusal>) -> ChainReport
     ensures is { result ≡ chain_report c }
     ensures double { T (fits binary64 (Chains.report c).score) }
 {
     match c {
-        Chained::Refused(k) => ChainReport {
-            number: k as u32,
+        Err(k) => ChainReport {
+            number: k.number() as u32,
             pieces: 0,
             pairs: 0,
             score_bits: 0,
             fallen: 0,
         },
-        Chained::Unchanged(t) => ChainReport {
+        Ok(Chained::Unchanged(t)) => ChainReport {
             number: 0,
             pieces: 0,
             pairs: t.pairs,
             score_bits: 0,
             fallen: t.fallen,
         },
-        Chained::Pieces(pieces, score, t) => ChainReport {
-            number: 0,
-            pieces,
-            pairs: t.pairs,
-            score_bits: float::bits(score),
-            fallen: t.fallen,
-        },
+        Ok(Chained::Pieces(pieces, score, t)) => pieces_report(score, pieces, t),
     }
 }
 
@@ -101,17 +112,17 @@ fn check_report(v: Ruling) -> CheckReport
 {
     let verdict = v.verdict;
     match verdict {
-        Verdict::Refused(k) => CheckReport {
-            number: k as u32,
+        Err(k) => CheckReport {
+            number: k.number() as u32,
             accepted: 0,
             fallen: 0,
         },
-        Verdict::Yes => CheckReport {
+        Ok(true) => CheckReport {
             number: 0,
             accepted: 1,
             fallen: v.fallen,
         },
-        Verdict::No => CheckReport {
+        Ok(false) => CheckReport {
             number: 0,
             accepted: 0,
             fallen: v.fallen,

@@ -1,14 +1,7 @@
 -- The output while the input comes in chunks: a line that ends, a chunk that ends within a line, the last line. Assumes nothing.
-use Prim.Native.Nat.{ℕ, suc, ◌+◌, ◌≤◌, ◌<◌, min}
-use mathlib.Core.Bool.{Bool, true, false}
-use mathlib.Core.List.{List, [], ◌∷◌, ◌++◌, append_assoc, append-nil}
-use mathlib.Core.Path.{◌≡◌, refl, sym, ap, subst, ◌∙◌}
-use native.Mathlib.Omega.{arith}
-use borrow.Author.Tests.{leb-true, leb-false, ltb-true, ltb-false}
-use lib.Dec.{leb, ltb}
-use lib.ListN.{length, take, drop, length-drop, length-append, drop_of_length-le}
-use lib.Seq.{drop-drop, drop-length, take_all, take-append-le, length-take-le, length-sets}
-use Rattle.answering.specs.declared.Order.{Order}
+use Rattle.std.proofs.Common.{ℕ, suc, ◌+◌, ◌≤◌, ◌<◌, min, Bool, true, false, List, [], ◌∷◌, ◌++◌, append_assoc, append-nil, ◌≡◌, refl, sym, ap, subst, ◌∙◌, arith, leb-true, leb-false, ltb-true, ltb-false, leb, ltb, length, take, drop, length-drop, length-append, drop_of_length-le, drop-drop, take_all, length-take-le}
+use Rattle.std.proofs.Math.Seq.{drop-length, take-append-le, length-sets}
+use Rattle.words.specs.declared.Order.{Order}
 use Rattle.lines.specs.Line.{up_to}
 use Rattle.lines.specs.Text.{Put}
 use Rattle.lines.specs.Stream.{lines_of, fed_if, Feeds}
@@ -34,7 +27,7 @@ owes_then {s} {done = done} {done' = done'} {c = c} p q = record {
 
 pub cut_text : (s : Order) (line : List ℕ) → line_text s (take 65537 line) ≡ line_text s line
 unfolding line_text
-cut_text s line = ap (parsed_text s.settings s.told) (cut line)
+cut_text s line = ap (parsed_text s) (cut line)
 
 -- the same first bytes, as many as the buffer has
 same_front : (s : Order) (k l : List ℕ) → take 65537 k ≡ take 65537 l → line_text s k ≡ line_text s l

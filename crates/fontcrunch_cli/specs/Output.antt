@@ -1,6 +1,6 @@
 -- What the program writes. Definitions only.
 use Rattle.std.specs.Prelude.{ℕ, List, [], ◌∷◌, ◌++◌}
-use Rattle.answering.specs.declared.Order.{Order}
+use Rattle.words.specs.declared.Order.{Order}
 use Rattle.lines.specs.Stream.{lines_of}
 use Rattle.answering.specs.Answer.{line_text}
 

@@ -1,7 +1,7 @@
 -- The output while the input comes chunk by chunk; last, what a reader should know of it, as types, which `however_cut` and `flushed` of proofs/Chunks
 -- are of. Definitions and statements only.
 use Rattle.std.specs.Prelude.{ℕ, ◌≤◌, ◌<◌, List, [], ◌∷◌, ◌++◌, ◌≡◌, length, take, drop}
-use Rattle.answering.specs.declared.Order.{Order}
+use Rattle.words.specs.declared.Order.{Order}
 use Rattle.rows.specs.Lent.{Lent, before, after}
 use Rattle.lines.specs.Line.{up_to}
 use Rattle.lines.specs.Text.{Put}

@@ -9,11 +9,10 @@ mod stream;
 ghost use Rattle.std.specs.Prelude.{IfOk};
 ghost use Rattle.fontcrunch_cli.specs.Stream.{Keeps, Chunked};
 
-use answering::Order;
 use std::env::{Env, FillError};
 use std::io;
 use std::io::{Read, Write};
-use words::Asked;
+use words::Order;
 
 // What a chunk's lines are answered goes out before more input is waited for.
 fn take_chunk<W: Write>(
@@ -67,22 +66,22 @@ fn run<R: Read, W: Write>(input: &mut R, to: &mut W, order: Order) -> io::Result
     serve(input, to, &mut text, &mut line, order)
 }
 
-// What the words after the program's name ask for; the row holds them. Words that it has no room for are
-// more than this program knows.
-fn asked<E: Env>(env: &E, row: &mut [u8]) -> Asked {
+// What the words after the program's name ask for; the row holds them. None, where they are wrong: words that
+// it has no room for are more than this program knows.
+fn asked<E: Env>(env: &E, row: &mut [u8]) -> Option<Order> {
     let mut at = 0;
     for i in 1..usize::MAX {
         if row.len() <= at {
-            return Asked::Usage;
+            return None;
         }
         match env.arg(i, &mut row[at..]) {
             Ok(k) => at = lines::put_byte(row, at + k, 0),
             Err(FillError::NotPresent) => break,
-            Err(FillError::TooLong) => return Asked::Usage,
+            Err(FillError::TooLong) => return None,
         }
     }
     if row.len() <= at {
-        return Asked::Usage;
+        return None;
     }
     words::read(&row[..at])
 }
@@ -90,10 +89,8 @@ fn asked<E: Env>(env: &E, row: &mut [u8]) -> Asked {
 fn main(rt: HostRuntime) -> io::Result<()> {
     let mut row = [0u8; 4096];
     match asked(&rt, &mut row) {
-        Asked::For(settings, told) => {
-            run(&mut rt.stdin(), &mut rt.stdout(), Order { settings, told })
-        }
-        Asked::Usage => rt.eprintln(
+        Some(order) => run(&mut rt.stdin(), &mut rt.stdout(), order),
+        None => rt.eprintln(
             "usage: fontcrunch_cli [--penalty N] [--whole-units] [--closed] [--fallen]   N sixteenths, 1 to 256, 32 where none is said; of several the last counts",
         ),
     }

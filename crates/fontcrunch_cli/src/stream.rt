@@ -5,10 +5,10 @@ ghost use Rattle.fontcrunch_cli.specs.Output.{output_of};
 ghost use Rattle.fontcrunch_cli.specs.Stream.{Keeps, Takes};
 
 use crate::out;
-use answering::Order;
 use lines::Fed;
+use words::Order;
 
-#[derive(Clone, Copy)]
+#[derive(Clone, Copy, Debug, PartialEq, Eq)]
 pub struct Taken {
     // bytes of the line under way, at the start of its buffer
     pub used: usize,

@@ -1,4 +1,5 @@
 -- Worked values of the definitions, by computation. Assumes nothing.
+use Rattle.std.specs.Prelude.{Some, None}
 use mathlib.Core.Path.{◌≡◌, refl}
 use mathlib.Core.List.{[], ◌∷◌, map}
 use mathlib.Core.Bool.{true, false}
@@ -10,7 +11,6 @@ use Rattle.geometry.specs.Geometry.{is_int, is_close, distance_of, unitize_of, l
 use Rattle.float.specs.Numbers.{nought, half, epsilon}
 use Rattle.geometry.specs.declared.Point.{Point}
 use Rattle.geometry.specs.declared.Quad.{Quad}
-use Rattle.geometry.specs.declared.Crossing.TheVariants.{At, Nowhere}
 
 -- n / d, rounded
 abbrev num : ℕ → ℕ → Float
@@ -61,6 +61,6 @@ crossings : intersect_of (whole 0 0) (whole 1 0) (whole 3 5) (whole 0 1)
     ∷ intersect_of (whole 0 0) (whole 1 0) (whole 0 0) (point nought (Ieee.mul binary64 half epsilon))
     ∷ intersect_of (whole 0 0) (point nan nan) (whole 3 5) (whole 0 1)
     ∷ []
-    ≡ At (whole 3 0) ∷ At (whole 0 0) ∷ Nowhere ∷ At (point nan nan) ∷ []
+    ≡ (Some (whole 3 0)) ∷ (Some (whole 0 0)) ∷ None ∷ (Some (point nan nan)) ∷ []
 unfolding abs_of Ieee.of_bits Ieee.round Ieee.add Ieee.sub Ieee.mul Ieee.div Ieee.lt
 crossings = refl

@@ -1,5 +1,5 @@
 -- Points and quads: each float operation is rounded as IEEE 754 says, in the order of the Rust. Definitions only.
-use Rattle.std.specs.Prelude.{Bool, true, false, ◌&&◌, T, Float}
+use Rattle.std.specs.Prelude.{Bool, true, false, ◌&&◌, T, Float, Option, Some, None}
 use Rattle.std.specs.Float.{binary64}
 use Rattle.std.specs.Float.Ieee.{add, sub, mul, div, lt}
 use Rattle.std.specs.Float.Ieee.Scale.{finite}
@@ -7,8 +7,6 @@ use Rattle.float.specs.Numbers.{nought, half, one, epsilon}
 use Rattle.float.specs.Float.{abs_of, close_to, floor_of, round_of, root_of}
 use Rattle.geometry.specs.declared.Point.{Point}
 use Rattle.geometry.specs.declared.Quad.{Quad}
-use Rattle.geometry.specs.declared.Crossing.{Crossing}
-use Rattle.geometry.specs.declared.Crossing.TheVariants.{At, Nowhere}
 
 -- ---- points
 
@@ -91,11 +89,11 @@ crossed_at det a b d0 d1 = record {
   y = div binary64 (sub binary64 (mul binary64 a d1.y) (mul binary64 b d0.y)) det;
 }
 
-abbrev pub absent_if : Bool → Point → Crossing
-absent_if true p = Nowhere
-absent_if false p = At p
+abbrev pub absent_if : Bool → Point → Option Point
+absent_if true p = None
+absent_if false p = Some p
 
 -- absent if |det| < 2 ^ -52; a NaN det has a crossing, with NaN in it
-abbrev pub intersect_of : Point → Point → Point → Point → Crossing
+abbrev pub intersect_of : Point → Point → Point → Point → Option Point
 intersect_of p0 d0 p1 d1 =
     absent_if (lt (abs_of (det_of d0 d1)) epsilon) (crossed_at (det_of d0 d1) (offset_of p0 d0) (offset_of p1 d1) d0 d1)

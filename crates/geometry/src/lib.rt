@@ -6,31 +6,24 @@ ghost use Rattle.std.specs.Prelude.{◌≡◌};
 ghost use Rattle.geometry.specs.Geometry.{along_of, lerp_of, is_close, square_distance_of, distance_of, square_norm_of, norm_of, unitize_of, round_point_of};
 ghost use Rattle.geometry.specs.Geometry.{is_int, is_whole, line_quad, is_line, is_smooth, point_at_t, offset_of, crossed_at, intersect_of};
 
-#[derive(Clone, Copy)]
+#[derive(Clone, Copy, Debug, PartialEq)]
 pub struct Point {
     pub x: f64,
     pub y: f64,
 }
 
-#[derive(Clone, Copy)]
+#[derive(Clone, Copy, Debug, PartialEq)]
 pub struct Quad {
     pub p0: Point,
     pub p1: Point,
     pub p2: Point,
 }
 
-#[derive(Clone, Copy)]
+#[derive(Clone, Copy, Debug, PartialEq)]
 pub struct Break {
     pub s: f64,
     pub xy: Point,
     pub dir: Point,
-}
-
-// Where two lines cross; no crossing is an answer by itself.
-#[derive(Clone, Copy)]
-pub enum Crossing {
-    At(Point),
-    Nowhere,
 }
 
 // One coordinate of lerp.
@@ -45,10 +38,7 @@ pub fn is_int(f: f64) -> bool
     ensures { result ≡ is_int f }
 {
     let d = f - float::floor(f);
-    if d == 0.0 {
-        return true;
-    }
-    float::is_close(d, 0.0)
+    d == 0.0 || float::is_close(d, 0.0)
 }
 
 impl Point {
@@ -64,11 +54,7 @@ impl Point {
     pub fn is_close(self, other: Point) -> bool
         ensures { result ≡ is_close self other }
     {
-        if float::is_close(self.x, other.x) {
-            float::is_close(self.y, other.y)
-        } else {
-            false
-        }
+        float::is_close(self.x, other.x) && float::is_close(self.y, other.y)
     }
 
     pub fn square_distance(self, other: Point) -> f64
@@ -122,11 +108,7 @@ impl Point {
     pub fn is_whole(self) -> bool
         ensures { result ≡ is_whole self }
     {
-        if is_int(self.x) {
-            is_int(self.y)
-        } else {
-            false
-        }
+        is_int(self.x) && is_int(self.y)
     }
 }
 
@@ -186,13 +168,13 @@ fn crossed_at(det: f64, a: f64, b: f64, d0: Point, d1: Point) -> Point
     }
 }
 
-// The crossing of the line through p0 along d0 and the line through p1 along d1.
-pub fn intersect(p0: Point, d0: Point, p1: Point, d1: Point) -> Crossing
+// The crossing of the line through p0 along d0 and the line through p1 along d1, or none.
+pub fn intersect(p0: Point, d0: Point, p1: Point, d1: Point) -> Option<Point>
     ensures { result ≡ intersect_of p0 d0 p1 d1 }
 {
     let det = d0.x * d1.y - d0.y * d1.x;
     if float::abs(det) < 0.0000000000000002220446049250313 {
-        return Crossing::Nowhere;
+        return None;
     }
-    Crossing::At(crossed_at(det, offset(p0, d0), offset(p1, d1), d0, d1))
+    Some(crossed_at(det, offset(p0, d0), offset(p1, d1), d0, d1))
 }

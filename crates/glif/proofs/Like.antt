@@ -6,25 +6,32 @@ use native.Mathlib.Numerals.{add-one}
 use mathlib.Core.Bool.{Bool, true, false, not, true≢false}
 use mathlib.Core.List.{List}
 use mathlib.Core.Path.{◌≡◌, refl, sym, ap, subst, ◌∙◌}
-use borrow.Author.Tests.{lt-ltb, ne_eqb, ltb-true, ltb-false, eqb-true, eqb-false}
+use borrow.Author.Tests.{lt-ltb, ltb-true, ltb-false, eqb-true, eqb-false}
 use lib.Dec.{eqb, ltb, leb}
 use lib.ListN.{length, get_or, set, length-set, get_or-eq_default}
 use lib.Seq.{get_or-set_same, get_or-set_other}
 use Rattle.gliftext.specs.Pick.{pick, both, either, more, sum}
 use Rattle.gliftext.specs.Table.{class_of, move_of}
 use Rattle.gliftext.specs.Words.{pushed, grown, no_number, fed_number, named_char, is_char, narrowed}
-use Rattle.gliftext.specs.Text.{named, referred, character, goes_in, value_begins, valued, pointed, said, wrong_text, attributed, texted}
+use Rattle.gliftext.specs.Text.{named, referred, character, goes_in, value_begins, valued, pointed, declared, said, wrong_text, attributed, texted}
 use Rattle.gliftext.specs.Utf8.{rune_class, rune_on}
 use Rattle.gliftext.specs.declared.text.Text.{Text}
+use Rattle.gliftext.specs.declared.text.Declaration.{Declaration}
+use Rattle.gliftext.specs.declared.text.Declaration.TheVariants.{Wrong}
 use Rattle.gliftext.specs.declared.text.Name.{Name}
 use Rattle.gliftext.specs.declared.text.Value.{Value}
 use Rattle.gliftext.specs.declared.text.Point.{Point}
 use Rattle.glif.specs.Names.{alike}
 use Rattle.glif.specs.Tree.{on_path, wrong_entry, entered, left, nested, text_fits, treed}
 use Rattle.glif.specs.declared.tree.Tree.{Tree}
+use Rattle.gliftext.proofs.Doing.{does_true, does_false}
 use Rattle.gliftext.proofs.Picks.{plain_sum, pick_by, in_left, in_right, or_right, or-false}
 use Rattle.glif.proofs.Stems.{Abs, Fed, fed, seen_in, wrong_in, kept_in, acts, moved, step}
 use Rattle.gliftext.proofs.Live.{live_tag, live_name, live_value, live_refer, Facts, facts}
+use Rattle.gliftext.specs.Actions.{does}
+use Rattle.gliftext.specs.Actions.{action_of}
+use Rattle.gliftext.specs.declared.action.Action.{Action}
+use Rattle.gliftext.specs.declared.action.Action.TheVariants.{Tag, TagOn, NameStart, NameOn, Quote, Char, Attribute, Opens, Empty, Closes, Content, Section, Reference, TextReference, LetterOf, Decimal, Hexadecimal, Named, Numbered, Said, Declared, Target}
 
 pub record Tagged (s t : Abs) : Type 0 where
   pub tag : s.text.tag ≡ t.text.tag
@@ -59,10 +66,10 @@ unfolding named pick
 named_same x y true goes b h = refl
 named_same x y false goes b h = rw (h refl)
 
-module _ (a b : ℕ) where
-  refer_same : (r r' : ℕ) → (either (eqb a 13) (eqb a 14) ≡ false → r ≡ r') → referred r a b ≡ referred r' a b
+module _ (a : Action) (b : ℕ) where
+  refer_same : (r r' : ℕ) → (either (does a Reference) (does a TextReference) ≡ false → r ≡ r') → referred r a b ≡ referred r' a b
   unfolding referred
-  refer_same r r' h = pick_by (either (eqb a 13) (eqb a 14)) (λ e. refl) (λ e. ap (λ (v : ℕ). pick (eqb a 15) (pushed v b) (pick (eqb a 16) (grown 10 v b) (pick (eqb a 17) (grown 16 v b) v))) (h e))
+  refer_same r r' h = pick_by (either (does a Reference) (does a TextReference)) (λ e. refl) (λ e. ap (λ (v : ℕ). pick (does a LetterOf) (pushed v b) (pick (does a Decimal) (grown 10 v b) (pick (does a Hexadecimal) (grown 16 v b) v))) (h e))
 
   value_same : (v v' : Value) (r r' : ℕ) → (value_begins a ≡ false → v ≡ v') → (goes_in a ≡ true → character a b r ≡ character a b r') → valued v a b r ≡ valued v' a b r'
   unfolding valued
@@ -75,60 +82,60 @@ module _ (a b : ℕ) where
       pick_by (value_begins a) (λ e. refl) (λ e. pick_by (goes_in a) (λ g. rw (h e, k g)) (λ g. rw (h e))) in
       λ i. record { number = n i; word = w i }
 
-  point_same : (p p' : Point) (name name' : ℕ) (v v' : Value) → (eqb a 1 ≡ false → p ≡ p') → (eqb a 7 ≡ true → name ≡ name') → (eqb a 7 ≡ true → v ≡ v') →
+  point_same : (p p' : Point) (name name' : ℕ) (v v' : Value) → (does a Tag ≡ false → p ≡ p') → (does a Attribute ≡ true → name ≡ name') → (does a Attribute ≡ true → v ≡ v') →
       pointed p a name v ≡ pointed p' a name' v'
   unfolding pointed pick
-  point_same p p' name name' v v' h k l = by (eqb a 1) (eqb a 7) refl refl
+  point_same p p' name name' v v' h k l = by (does a Tag) (does a Attribute) refl refl
     where
-      by : (x y : Bool) → eqb a 1 ≡ x → eqb a 7 ≡ y → pointed p a name v ≡ pointed p' a name' v'
+      by : (x y : Bool) → does a Tag ≡ x → does a Attribute ≡ y → pointed p a name v ≡ pointed p' a name' v'
       by true y e f = rw e
       by false true e f = rw (e, f, h e, k f, l f)
       by false false e f = rw (e, f, h e)
 
-module _ (a : ℕ) where
-  said_same : (d d' name name' word word' : ℕ) → d ≡ d' → (either (eqb a 21) (eqb a 23) ≡ true → name ≡ name') → (eqb a 21 ≡ true → word ≡ word') →
+module _ (a : Action) where
+  said_same : (d d' : Declaration) (name name' word word' : ℕ) → d ≡ d' → (either (does a Declared) (does a Target) ≡ true → name ≡ name') → (does a Declared ≡ true → word ≡ word') →
       said d a name word ≡ said d' a name' word'
   unfolding said pick
-  said_same d d' name name' word word' e h k = by (eqb a 21) (eqb a 23) refl refl
+  said_same d d' name name' word word' e h k = by (does a Declared) (does a Target) refl refl
     where
-      by : (x y : Bool) → eqb a 21 ≡ x → eqb a 23 ≡ y → said d a name word ≡ said d' a name' word'
+      by : (x y : Bool) → does a Declared ≡ x → does a Target ≡ y → said d a name word ≡ said d' a name' word'
       by true y f g =
-          let n : name ≡ name' = h (in_left (eqb a 21) (eqb a 23) f) in
+          let n : name ≡ name' = h (in_left (does a Declared) (does a Target) f) in
           rw (f, e, n, k f)
       by false true f g =
-          let n : name ≡ name' = h (in_right (eqb a 21) (eqb a 23) g) in
+          let n : name ≡ name' = h (in_right (does a Declared) (does a Target) g) in
           rw (f, g, e, n)
       by false false f g = rw (f, g, e)
 
-  wrong_same : (name name' r r' d d' : ℕ) → d ≡ d' → (eqb a 12 ≡ true → name ≡ name') → (either (eqb a 18) (eqb a 19) ≡ true → r ≡ r') →
+  wrong_same : (name name' r r' : ℕ) (d d' : Declaration) → d ≡ d' → (does a Section ≡ true → name ≡ name') → (either (does a Named) (does a Numbered) ≡ true → r ≡ r') →
       wrong_text a name r d ≡ wrong_text a name' r' d'
   unfolding wrong_text
   wrong_same name name' r r' d d' e h k =
-      let p : both (eqb a 18) (eqb (named_char r) 0) ≡ both (eqb a 18) (eqb (named_char r') 0) = pick_by (eqb a 18) (λ f. ap (λ (v : ℕ). eqb (named_char v) 0) (k (in_left _ _ f))) (λ f. refl) in
-      let q : both (eqb a 19) (not (is_char r)) ≡ both (eqb a 19) (not (is_char r')) = pick_by (eqb a 19) (λ f. ap (λ (v : ℕ). not (is_char v)) (k (in_right _ _ f))) (λ f. refl) in
-      let m : both (eqb a 12) (not (eqb name 288907940929)) ≡ both (eqb a 12) (not (eqb name' 288907940929)) = pick_by (eqb a 12) (λ f. ap (λ (v : ℕ). not (eqb v 288907940929)) (h f)) (λ f. refl) in
-      λ i. either (p i) (either (q i) (either (m i) (eqb (e i) 3)))
+      let p : both (does a Named) (eqb (named_char r) 0) ≡ both (does a Named) (eqb (named_char r') 0) = pick_by (does a Named) (λ f. ap (λ (v : ℕ). eqb (named_char v) 0) (k (in_left _ _ f))) (λ f. refl) in
+      let q : both (does a Numbered) (not (is_char r)) ≡ both (does a Numbered) (not (is_char r')) = pick_by (does a Numbered) (λ f. ap (λ (v : ℕ). not (is_char v)) (k (in_right _ _ f))) (λ f. refl) in
+      let m : both (does a Section) (not (eqb name 288907940929)) ≡ both (does a Section) (not (eqb name' 288907940929)) = pick_by (does a Section) (λ f. ap (λ (v : ℕ). not (eqb v 288907940929)) (h f)) (λ f. refl) in
+      λ i. either (p i) (either (q i) (either (m i) (declared (e i) Wrong)))
 
-  attributes_same : (n n' : ℕ) → (eqb a 1 ≡ false → n ≡ n') → attributed n a ≡ attributed n' a
+  attributes_same : (n n' : ℕ) → (does a Tag ≡ false → n ≡ n') → attributed n a ≡ attributed n' a
   unfolding attributed
-  attributes_same n n' h = pick_by (eqb a 1) (λ e. refl) (λ e. ap (λ (v : ℕ). pick (eqb a 5) (pick (ltb v 256) (more v) v) v) (h e))
+  attributes_same n n' h = pick_by (does a Tag) (λ e. refl) (λ e. ap (λ (v : ℕ). pick (does a Quote) (pick (ltb v 256) (more v) v) v) (h e))
 
-  attributes_few : (n : ℕ) → (eqb a 1 ≡ false → n ≤ 256) → attributed n a ≤ 256
+  attributes_few : (n : ℕ) → (does a Tag ≡ false → n ≤ 256) → attributed n a ≤ 256
   unfolding attributed pick more
-  attributes_few n h = by (eqb a 1) (eqb a 5) (ltb n 256) refl refl
+  attributes_few n h = by (does a Tag) (does a Quote) (ltb n 256) refl refl
     where
-      by : (x y w : Bool) → eqb a 1 ≡ x → ltb n 256 ≡ w → pick x 0 (pick y (pick w (pick (ltb n 18446744073709551615) (n + 1) n) n) n) ≤ 256
+      by : (x y w : Bool) → does a Tag ≡ x → ltb n 256 ≡ w → pick x 0 (pick y (pick w (pick (ltb n 18446744073709551615) (n + 1) n) n) n) ≤ 256
       by true y w e f = omega arith
       by false true true e f = rw (lt-ltb n 18446744073709551615 (omega (arith, ltb-true n 256 f))) (omega (arith, ltb-true n 256 f))
       by false true false e f = h e
       by false false w e f = h e
 
-  nested_same : (t : Tree) (word word' : ℕ) → (either (eqb a 8) (eqb a 9) ≡ true → word ≡ word') → nested t a word ≡ nested t a word'
+  nested_same : (t : Tree) (word word' : ℕ) → (either (does a Opens) (does a Empty) ≡ true → word ≡ word') → nested t a word ≡ nested t a word'
   nested_same t word word' h =
-      pick_by (eqb a 8) (λ f. ap (entered t) (h (in_left (eqb a 8) (eqb a 9) f)))
-      (λ f. pick_by (eqb a 9) (λ g. ap (λ (v : ℕ). left (entered t v)) (h (in_right (eqb a 8) (eqb a 9) g))) (λ g. refl))
+      pick_by (does a Opens) (λ f. ap (entered t) (h (in_left (does a Opens) (does a Empty) f)))
+      (λ f. pick_by (does a Empty) (λ g. ap (λ (v : ℕ). left (entered t v)) (h (in_right (does a Opens) (does a Empty) g))) (λ g. refl))
 
-  tree_same : (t : Tree) (word word' : ℕ) (w w' : Bool) → (either (eqb a 8) (eqb a 9) ≡ true → word ≡ word') → w ≡ w' → treed t a word w ≡ treed t a word' w'
+  tree_same : (t : Tree) (word word' : ℕ) (w w' : Bool) → (either (does a Opens) (does a Empty) ≡ true → word ≡ word') → w ≡ w' → treed t a word w ≡ treed t a word' w'
   unfolding treed
   tree_same t word word' w w' h e =
       let p = nested_same t word word' h in
@@ -137,7 +144,7 @@ module _ (a : ℕ) where
         level = (p i).level;
         root = (p i).root;
         outline = (p i).outline;
-        wrong = either (p i).wrong (either (e i) (both (either (eqb a 11) (either (eqb a 12) (eqb a 14))) (not (text_fits t))));
+        wrong = either (p i).wrong (either (e i) (both (either (does a Content) (either (does a Section) (does a TextReference))) (not (text_fits t))));
       }
 
   -- ---- names
@@ -153,20 +160,20 @@ module _ (a : ℕ) where
         let before = seen_same k p p' e (omega arith) (λ j m. h j (omega arith)) in
         λ i. either (before i) (alike (here i) (e i))
 
-    names_wrong : (n n' : ℕ) (p p' : List ℕ) → length names ≡ length names' → (either (eqb a 5) (eqb a 10) ≡ true → p ≡ p') → (eqb a 5 ≡ true → n ≡ n') → (eqb a 5 ≡ true → n ≤ 256) →
-        (eqb a 10 ≡ true → get_or names (depth - 1) z ≡ get_or names' (depth - 1) z) → (eqb a 5 ≡ true → (j : ℕ) → j < depth + n → get_or names j z ≡ get_or names' j z) →
+    names_wrong : (n n' : ℕ) (p p' : List ℕ) → length names ≡ length names' → (either (does a Quote) (does a Closes) ≡ true → p ≡ p') → (does a Quote ≡ true → n ≡ n') → (does a Quote ≡ true → n ≤ 256) →
+        (does a Closes ≡ true → get_or names (depth - 1) z ≡ get_or names' (depth - 1) z) → (does a Quote ≡ true → (j : ℕ) → j < depth + n → get_or names j z ≡ get_or names' j z) →
         wrong_in z names a depth n p ≡ wrong_in z names' a depth n' p'
     unfolding wrong_in pick seen_in
     names_wrong n n' p p' long same count few last those =
-        let x : pick (eqb a 10) (not (alike (get_or names (depth - 1) z) p)) false ≡ pick (eqb a 10) (not (alike (get_or names' (depth - 1) z) p')) false =
-        pick_by (eqb a 10) (λ e. λ i. not (alike (last e i) (same (in_right (eqb a 5) (eqb a 10) e) i))) (λ e. refl) in
-        let y : both (eqb a 5) (leb (length names) (sum depth n)) ≡ both (eqb a 5) (leb (length names') (sum depth n')) =
-        pick_by (eqb a 5) (λ e. λ i. leb (long i) (sum depth (count e i))) (λ e. refl) in
-        let w : seen_in z names depth (pick (eqb a 5) n 0) p ≡ seen_in z names' depth (pick (eqb a 5) n' 0) p' = by (eqb a 5) refl in
+        let x : pick (does a Closes) (not (alike (get_or names (depth - 1) z) p)) false ≡ pick (does a Closes) (not (alike (get_or names' (depth - 1) z) p')) false =
+        pick_by (does a Closes) (λ e. λ i. not (alike (last e i) (same (in_right (does a Quote) (does a Closes) e) i))) (λ e. refl) in
+        let y : both (does a Quote) (leb (length names) (sum depth n)) ≡ both (does a Quote) (leb (length names') (sum depth n')) =
+        pick_by (does a Quote) (λ e. λ i. leb (long i) (sum depth (count e i))) (λ e. refl) in
+        let w : seen_in z names depth (pick (does a Quote) n 0) p ≡ seen_in z names' depth (pick (does a Quote) n' 0) p' = by (does a Quote) refl in
         λ i. either (x i) (either (y i) (w i))
       where
-        by : (t : Bool) → eqb a 5 ≡ t → seen_in z names depth (pick t n 0) p ≡ seen_in z names' depth (pick t n' 0) p'
-        by true e = seen_same n p p' (same (in_left (eqb a 5) (eqb a 10) e)) (few e) (those e) ∙ ap (λ (v : ℕ). seen_in z names' depth v p') (count e)
+        by : (t : Bool) → does a Quote ≡ t → seen_in z names depth (pick t n 0) p ≡ seen_in z names' depth (pick t n' 0) p'
+        by true e = seen_same n p p' (same (in_left (does a Quote) (does a Closes) e)) (few e) (those e) ∙ ap (λ (v : ℕ). seen_in z names' depth v p') (count e)
         by false e = refl
 
     set_agree : (m : ℕ) (u v : List ℕ) → length names ≡ length names' → u ≡ v → ((j : ℕ) → j < m → get_or names j z ≡ get_or names' j z) →
@@ -191,11 +198,11 @@ module _ (a : ℕ) where
 
 module _ (t : Tree) (word : ℕ) (w : Bool) where
   -- an element that closes was open
-  pub closes_deep : (a : ℕ) → eqb a 10 ≡ true → (treed t a word w).wrong ≡ false → 0 < t.depth
+  pub closes_deep : (a : Action) → does a Closes ≡ true → (treed t a word w).wrong ≡ false → 0 < t.depth
   unfolding treed left pick
   closes_deep a e h =
-      let is = eqb-true a 10 e in
-      let h' = subst (λ (v : ℕ). (treed t v word w).wrong ≡ false) is h in
+      let is = does_true a Closes e in
+      let h' = subst (λ (v : Action). (treed t v word w).wrong ≡ false) is h in
       let deep = (or-false t.wrong (eqb t.depth 0) (or-false _ _ h').0).1 in
       pos_of_ne-zero (eqb-false t.depth 0 deep)
 
@@ -207,63 +214,63 @@ module _ (t : Tree) (word : ℕ) (w : Bool) where
   unfolding entered
   enter_fine e = (or-false _ _ e).1
 
-  pub opened_fine : (a : ℕ) → eqb a 8 ≡ true → (treed t a word w).wrong ≡ false → (entered t word).wrong ≡ false
+  pub opened_fine : (a : Action) → does a Opens ≡ true → (treed t a word w).wrong ≡ false → (entered t word).wrong ≡ false
   unfolding treed pick
-  opened_fine a e h = (or-false (entered t word).wrong _ (subst (λ (v : ℕ). (treed t v word w).wrong ≡ false) (eqb-true a 8 e) h)).0
+  opened_fine a e h = (or-false (entered t word).wrong _ (subst (λ (v : Action). (treed t v word w).wrong ≡ false) (does_true a Opens e) h)).0
 
-  pub opens_shallow : (a : ℕ) → eqb a 8 ≡ true → (treed t a word w).wrong ≡ false → t.depth ≤ 255
+  pub opens_shallow : (a : Action) → does a Opens ≡ true → (treed t a word w).wrong ≡ false → t.depth ≤ 255
   opens_shallow a e h = entry_shallow (on_path t word) (enter_fine (opened_fine a e h))
 
-  abbrev after : ℕ → Tree
+  abbrev after : Action → Tree
   after a = treed t a word w
 
-  pub depth_opens : (a : ℕ) → eqb a 8 ≡ true → t.depth ≤ 256 → (after a).depth ≡ suc t.depth
+  pub depth_opens : (a : Action) → does a Opens ≡ true → t.depth ≤ 256 → (after a).depth ≡ suc t.depth
   unfolding treed entered more pick
-  depth_opens a e h = subst (λ (v : ℕ). (treed t v word w).depth ≡ suc t.depth) (sym (eqb-true a 8 e)) (rw (lt-ltb t.depth 18446744073709551615 (omega arith)) (add-one t.depth))
+  depth_opens a e h = subst (λ (v : Action). (treed t v word w).depth ≡ suc t.depth) (sym (does_true a Opens e)) (rw (lt-ltb t.depth 18446744073709551615 (omega arith)) (add-one t.depth))
 
-  pub depth_less : (a : ℕ) → eqb a 8 ≡ false → t.depth ≤ 256 → (after a).depth ≤ t.depth
+  pub depth_less : (a : Action) → does a Opens ≡ false → t.depth ≤ 256 → (after a).depth ≤ t.depth
   unfolding treed entered left more pick
-  depth_less a e h = by (eqb a 9) (eqb a 10) refl refl
+  depth_less a e h = by (does a Empty) (does a Closes) refl refl
     where
-      by : (x y : Bool) → eqb a 9 ≡ x → eqb a 10 ≡ y → (after a).depth ≤ t.depth
+      by : (x y : Bool) → does a Empty ≡ x → does a Closes ≡ y → (after a).depth ≤ t.depth
       by true y f g = rw (e, f, lt-ltb t.depth 18446744073709551615 (omega arith)) (omega arith)
       by false true f g = rw (e, f, g) (omega arith)
       by false false f g = rw (e, f, g) (omega arith)
 
 -- ---- the row of names and the number of attributes, by the action
 
-module _ (names : List (List ℕ)) (a depth n : ℕ) (tag name : List ℕ) where
-  kept_opens : eqb a 8 ≡ true → kept_in names a depth n tag name ≡ set names depth tag
+module _ (names : List (List ℕ)) (a : Action) (depth n : ℕ) (tag name : List ℕ) where
+  kept_opens : does a Opens ≡ true → kept_in names a depth n tag name ≡ set names depth tag
   unfolding kept_in pick
   kept_opens e = rw e
 
-  kept_quote : eqb a 8 ≡ false → eqb a 5 ≡ true → kept_in names a depth n tag name ≡ set names (sum depth n) name
+  kept_quote : does a Opens ≡ false → does a Quote ≡ true → kept_in names a depth n tag name ≡ set names (sum depth n) name
   unfolding kept_in pick
   kept_quote e g = rw (e, g)
 
-  kept_other : eqb a 8 ≡ false → eqb a 5 ≡ false → kept_in names a depth n tag name ≡ names
+  kept_other : does a Opens ≡ false → does a Quote ≡ false → kept_in names a depth n tag name ≡ names
   unfolding kept_in pick
   kept_other e g = rw (e, g)
 
   pub kept_long : length (kept_in names a depth n tag name) ≡ length names
-  kept_long = by (eqb a 8) (eqb a 5) refl refl
+  kept_long = by (does a Opens) (does a Quote) refl refl
     where
-      by : (x y : Bool) → eqb a 8 ≡ x → eqb a 5 ≡ y → length (kept_in names a depth n tag name) ≡ length names
+      by : (x y : Bool) → does a Opens ≡ x → does a Quote ≡ y → length (kept_in names a depth n tag name) ≡ length names
       by true y e g = ap length (kept_opens e) ∙ length-set names depth tag
       by false true e g = ap length (kept_quote e g) ∙ length-set names (sum depth n) name
       by false false e g = ap length (kept_other e g)
 
-attributes_one : (n a : ℕ) → eqb a 1 ≡ true → attributed n a ≡ 0
+attributes_one : (n : ℕ) (a : Action) → does a Tag ≡ true → attributed n a ≡ 0
 unfolding attributed pick
 attributes_one n a e = rw e
 
-attributes_other : (n a : ℕ) → eqb a 1 ≡ false → eqb a 5 ≡ false → attributed n a ≡ n
+attributes_other : (n : ℕ) (a : Action) → does a Tag ≡ false → does a Quote ≡ false → attributed n a ≡ n
 unfolding attributed pick
 attributes_other n a e g = rw (e, g)
 
-attributes_more : (n a : ℕ) → eqb a 1 ≡ false → n ≤ 256 → attributed n a ≤ suc n
+attributes_more : (n : ℕ) (a : Action) → does a Tag ≡ false → n ≤ 256 → attributed n a ≤ suc n
 unfolding attributed pick more
-attributes_more n a e h = rw (e, lt-ltb n 18446744073709551615 (omega arith)) (by (eqb a 5) (ltb n 256))
+attributes_more n a e h = rw (e, lt-ltb n 18446744073709551615 (omega arith)) (by (does a Quote) (ltb n 256))
   where
     by : (x y : Bool) → pick x (pick y (n + 1) n) n ≤ suc n
     by true true = omega arith
@@ -279,12 +286,12 @@ pick_taken : (t : Bool) (x : ℕ) → t ≡ true → pick t x 0 ≡ x
 unfolding pick
 pick_taken t x e = rw e
 
-not_two : (a x y : ℕ) → eqb a x ≡ true → (x ≡ y → ⊥) → eqb a y ≡ false
-not_two a x y e h = ne_eqb a y (λ g. h (sym (eqb-true a x e) ∙ g))
+not_two : (a x y : Action) → does a x ≡ true → (x ≡ y → ⊥) → does a y ≡ false
+not_two a x y e h = does_false a y (λ g. h (sym (does_true a x e) ∙ g))
 
 -- ---- one byte
 
-module _ (z : List ℕ) (b c a n : ℕ) (st : List ℕ) (s t : Abs) (like : Like z s t) (f : Facts s.text.state c a n) where
+module _ (z : List ℕ) (b c : ℕ) (a : Action) (n : ℕ) (st : List ℕ) (s t : Abs) (like : Like z s t) (f : Facts s.text.state c a n) where
   abbrev pub text_of : Abs → Text
   text_of x = texted x.text n a b 0
 
@@ -292,13 +299,13 @@ module _ (z : List ℕ) (b c a n : ℕ) (st : List ℕ) (s t : Abs) (like : Like
   next x = acts z a b st (text_of x) x
 
   -- names, references and values as they are after the byte
-  name_set : either (eqb a 3) (live_name s.text.state) ≡ true → named s.text.name (eqb a 3) (eqb a 4) b 0 ≡ named t.text.name (eqb a 3) (eqb a 4) b 0
-  name_set h = named_same s.text.name t.text.name (eqb a 3) (eqb a 4) b (λ e. like.name (or_right _ _ h e))
+  name_set : either (does a NameStart) (live_name s.text.state) ≡ true → named s.text.name (does a NameStart) (does a NameOn) b 0 ≡ named t.text.name (does a NameStart) (does a NameOn) b 0
+  name_set h = named_same s.text.name t.text.name (does a NameStart) (does a NameOn) b (λ e. like.name (or_right _ _ h e))
 
-  stem_set : either (eqb a 3) (live_name s.text.state) ≡ true → pick (eqb a 3) st s.name ≡ pick (eqb a 3) st t.name
-  stem_set h = pick_by (eqb a 3) (λ e. refl) (λ e. like.stem (or_right _ _ h e))
+  stem_set : either (does a NameStart) (live_name s.text.state) ≡ true → pick (does a NameStart) st s.name ≡ pick (does a NameStart) st t.name
+  stem_set h = pick_by (does a NameStart) (λ e. refl) (λ e. like.stem (or_right _ _ h e))
 
-  refer_set : either (either (eqb a 13) (eqb a 14)) (live_refer s.text.state) ≡ true → referred s.text.refer a b ≡ referred t.text.refer a b
+  refer_set : either (either (does a Reference) (does a TextReference)) (live_refer s.text.state) ≡ true → referred s.text.refer a b ≡ referred t.text.refer a b
   refer_set h = refer_same a b s.text.refer t.text.refer (λ e. like.refer (or_right _ _ h e))
 
   abbrev ref_s : ℕ
@@ -307,48 +314,48 @@ module _ (z : List ℕ) (b c a n : ℕ) (st : List ℕ) (s t : Abs) (like : Like
   abbrev ref_t : ℕ
   ref_t = referred t.text.refer a b
 
-  refer_read : either (eqb a 18) (eqb a 19) ≡ true → ref_s ≡ ref_t
+  refer_read : either (does a Named) (does a Numbered) ≡ true → ref_s ≡ ref_t
   refer_read h = refer_set (in_right _ _ (f.reads_refer h))
 
   same_character : goes_in a ≡ true → character a b ref_s ≡ character a b ref_t
   same_character h =
-      ap narrowed (pick_by (eqb a 6) (λ e. refl) (λ e. pick_by (eqb a 18) (λ g. ap named_char (refer_read (in_left (eqb a 18) (eqb a 19) g))) (λ g. refer_read (or_right (eqb a 6) _ h e))))
+      ap narrowed (pick_by (does a Char) (λ e. refl) (λ e. pick_by (does a Named) (λ g. ap named_char (refer_read (in_left (does a Named) (does a Numbered) g))) (λ g. refer_read (or_right (does a Char) _ h e))))
 
-  value_set : either (either (eqb a 5) (eqb a 20)) (live_value s.text.state) ≡ true → valued s.text.value a b ref_s ≡ valued t.text.value a b ref_t
+  value_set : either (either (does a Quote) (does a Said)) (live_value s.text.state) ≡ true → valued s.text.value a b ref_s ≡ valued t.text.value a b ref_t
   value_set h = value_same a b s.text.value t.text.value ref_s ref_t (λ e. like.value (or_right _ _ h e)) same_character
 
-  name_read : either (either (eqb a 5) (eqb a 7)) (either (either (eqb a 10) (eqb a 12)) (either (eqb a 21) (eqb a 23))) ≡ true →
-      named s.text.name (eqb a 3) (eqb a 4) b 0 ≡ named t.text.name (eqb a 3) (eqb a 4) b 0
+  name_read : either (either (does a Quote) (does a Attribute)) (either (either (does a Closes) (does a Section)) (either (does a Declared) (does a Target))) ≡ true →
+      named s.text.name (does a NameStart) (does a NameOn) b 0 ≡ named t.text.name (does a NameStart) (does a NameOn) b 0
   name_read h = name_set (in_right _ _ (f.reads_name h))
 
-  stem_read : either (eqb a 5) (eqb a 10) ≡ true → pick (eqb a 3) st s.name ≡ pick (eqb a 3) st t.name
-  stem_read h = stem_set (in_right _ _ (f.reads_name (by (eqb a 5) refl)))
+  stem_read : either (does a Quote) (does a Closes) ≡ true → pick (does a NameStart) st s.name ≡ pick (does a NameStart) st t.name
+  stem_read h = stem_set (in_right _ _ (f.reads_name (by (does a Quote) refl)))
     where
-      by : (x : Bool) → eqb a 5 ≡ x → either (either (eqb a 5) (eqb a 7)) (either (either (eqb a 10) (eqb a 12)) (either (eqb a 21) (eqb a 23))) ≡ true
-      by true e = in_left _ _ (in_left (eqb a 5) (eqb a 7) e)
-      by false e = in_right _ _ (in_left _ _ (in_left (eqb a 10) (eqb a 12) (or_right (eqb a 5) (eqb a 10) h e)))
+      by : (x : Bool) → does a Quote ≡ x → either (either (does a Quote) (does a Attribute)) (either (either (does a Closes) (does a Section)) (either (does a Declared) (does a Target))) ≡ true
+      by true e = in_left _ _ (in_left (does a Quote) (does a Attribute) e)
+      by false e = in_right _ _ (in_left _ _ (in_left (does a Closes) (does a Section) (or_right (does a Quote) (does a Closes) h e)))
 
-  value_read : either (eqb a 7) (eqb a 21) ≡ true → valued s.text.value a b ref_s ≡ valued t.text.value a b ref_t
+  value_read : either (does a Attribute) (does a Declared) ≡ true → valued s.text.value a b ref_s ≡ valued t.text.value a b ref_t
   value_read h = value_set (in_right _ _ (f.reads_value h))
 
-  tag_read : either (either (eqb a 5) (eqb a 7)) (either (eqb a 8) (eqb a 9)) ≡ true → Tagged s t
+  tag_read : either (either (does a Quote) (does a Attribute)) (either (does a Opens) (does a Empty)) ≡ true → Tagged s t
   tag_read h = like.tagged (f.reads_tag h)
 
-  abbrev seven : eqb a 7 ≡ true → either (either (eqb a 5) (eqb a 7)) (either (eqb a 8) (eqb a 9)) ≡ true
-  seven e = in_left _ _ (in_right (eqb a 5) (eqb a 7) e)
+  abbrev seven : does a Attribute ≡ true → either (either (does a Quote) (does a Attribute)) (either (does a Opens) (does a Empty)) ≡ true
+  seven e = in_left _ _ (in_right (does a Quote) (does a Attribute) e)
 
   -- ---- the text
 
-  tag_set : live_tag n ≡ true → eqb a 1 ≡ false → Tagged s t
+  tag_set : live_tag n ≡ true → does a Tag ≡ false → Tagged s t
   tag_set h e = like.tagged (or_right _ _ (f.sets_tag h) e)
 
   text_tag : live_tag n ≡ true → (text_of s).tag ≡ (text_of t).tag
   unfolding texted
-  text_tag h = named_same s.text.tag t.text.tag (eqb a 1) (eqb a 2) b (λ e. (tag_set h e).tag)
+  text_tag h = named_same s.text.tag t.text.tag (does a Tag) (does a TagOn) b (λ e. (tag_set h e).tag)
 
-  pub tag_word : either (eqb a 8) (eqb a 9) ≡ true → (text_of s).tag.word ≡ (text_of t).tag.word
+  pub tag_word : either (does a Opens) (does a Empty) ≡ true → (text_of s).tag.word ≡ (text_of t).tag.word
   unfolding texted
-  tag_word h = ap (λ (v : Name). v.word) (named_same s.text.tag t.text.tag (eqb a 1) (eqb a 2) b (λ e. (tag_read (in_right (either (eqb a 5) (eqb a 7)) _ h)).tag))
+  tag_word h = ap (λ (v : Name). v.word) (named_same s.text.tag t.text.tag (does a Tag) (does a TagOn) b (λ e. (tag_read (in_right (either (does a Quote) (does a Attribute)) _ h)).tag))
 
   text_name : live_name n ≡ true → (text_of s).name ≡ (text_of t).name
   unfolding texted
@@ -366,7 +373,7 @@ module _ (z : List ℕ) (b c a n : ℕ) (st : List ℕ) (s t : Abs) (like : Like
   unfolding texted
   text_point h =
       point_same a b s.text.point t.text.point _ _ _ _ (λ e. (tag_set h e).point)
-      (λ e. ap (λ (v : Name). v.word) (name_read (in_left _ _ (in_right (eqb a 5) (eqb a 7) e)))) (λ e. value_read (in_left (eqb a 7) (eqb a 21) e))
+      (λ e. ap (λ (v : Name). v.word) (name_read (in_left _ _ (in_right (does a Quote) (does a Attribute) e)))) (λ e. value_read (in_left (does a Attribute) (does a Declared) e))
 
   text_attributes : live_tag n ≡ true → (text_of s).attributes ≡ (text_of t).attributes
   unfolding texted
@@ -380,19 +387,19 @@ module _ (z : List ℕ) (b c a n : ℕ) (st : List ℕ) (s t : Abs) (like : Like
   unfolding texted
   text_said =
       said_same a s.text.said t.text.said _ _ _ _ like.said
-      (λ e. ap (λ (v : Name). v.word) (name_read (in_right (either (eqb a 5) (eqb a 7)) _ (in_right (either (eqb a 10) (eqb a 12)) _ e))))
-      (λ e. ap (λ (v : Value). v.word) (value_read (in_right (eqb a 7) (eqb a 21) e)))
+      (λ e. ap (λ (v : Name). v.word) (name_read (in_right (either (does a Quote) (does a Attribute)) _ (in_right (either (does a Closes) (does a Section)) _ e))))
+      (λ e. ap (λ (v : Value). v.word) (value_read (in_right (does a Attribute) (does a Declared) e)))
 
   text_wrong : (text_of s).wrong ≡ (text_of t).wrong
   unfolding texted
   text_wrong =
       λ i. either (like.wrong i) (wrong_same a _ _ ref_s ref_t _ _ text_said
-      (λ e. ap (λ (v : Name). v.word) (name_read (in_right (either (eqb a 5) (eqb a 7)) _ (in_left _ _ (in_right (eqb a 10) (eqb a 12) e))))) refer_read i)
+      (λ e. ap (λ (v : Name). v.word) (name_read (in_right (either (does a Quote) (does a Attribute)) _ (in_left _ _ (in_right (does a Closes) (does a Section) e))))) refer_read i)
 
   -- ---- the open elements
 
   module _ (h : (next s).tree.wrong ≡ false) where
-    last_name : eqb a 10 ≡ true → get_or s.names (s.tree.depth - 1) z ≡ get_or t.names (s.tree.depth - 1) z
+    last_name : does a Closes ≡ true → get_or s.names (s.tree.depth - 1) z ≡ get_or t.names (s.tree.depth - 1) z
     last_name e =
         let deep = closes_deep s.tree _ _ a e h in
         like.names (s.tree.depth - 1) (omega arith)
@@ -401,17 +408,17 @@ module _ (z : List ℕ) (b c a n : ℕ) (st : List ℕ) (s t : Abs) (like : Like
     unfolding pick
     live_when e = rw e
 
-    five : eqb a 5 ≡ true → either (either (eqb a 5) (eqb a 7)) (either (eqb a 8) (eqb a 9)) ≡ true
-    five e = in_left _ _ (in_left (eqb a 5) (eqb a 7) e)
+    five : does a Quote ≡ true → either (either (does a Quote) (does a Attribute)) (either (does a Opens) (does a Empty)) ≡ true
+    five e = in_left _ _ (in_left (does a Quote) (does a Attribute) e)
 
-    all_names : eqb a 5 ≡ true → (j : ℕ) → j < s.tree.depth + s.text.attributes → get_or s.names j z ≡ get_or t.names j z
+    all_names : does a Quote ≡ true → (j : ℕ) → j < s.tree.depth + s.text.attributes → get_or s.names j z ≡ get_or t.names j z
     all_names e j l = like.names j (omega (arith, live_when (f.reads_tag (five e))))
 
     abbrev stem_s : List ℕ
-    stem_s = pick (eqb a 3) st s.name
+    stem_s = pick (does a NameStart) st s.name
 
     abbrev stem_t : List ℕ
-    stem_t = pick (eqb a 3) st t.name
+    stem_t = pick (does a NameStart) st t.name
 
     same_wrong : wrong_in z s.names a s.tree.depth s.text.attributes stem_s ≡ wrong_in z t.names a t.tree.depth t.text.attributes stem_t
     same_wrong =
@@ -425,19 +432,19 @@ module _ (z : List ℕ) (b c a n : ℕ) (st : List ℕ) (s t : Abs) (like : Like
         ∙ ap (λ (v : Tree). treed v a (text_of t).tag.word (wrong_in z t.names a t.tree.depth t.text.attributes stem_t)) like.tree
 
     still_shallow : (next s).tree.depth ≤ 256
-    still_shallow = by (eqb a 8) refl
+    still_shallow = by (does a Opens) refl
       where
-        by : (x : Bool) → eqb a 8 ≡ x → (next s).tree.depth ≤ 256
+        by : (x : Bool) → does a Opens ≡ x → (next s).tree.depth ≤ 256
         by true e = omega (arith, depth_opens s.tree (text_of s).tag.word (wrong_in z s.names a s.tree.depth s.text.attributes stem_s) a e like.shallow, opens_shallow s.tree _ _ a e h)
         by false e = omega (arith, depth_less s.tree (text_of s).tag.word (wrong_in z s.names a s.tree.depth s.text.attributes stem_s) a e like.shallow, like.shallow)
 
     -- ---- names
 
     abbrev tag_s : List ℕ
-    tag_s = pick (eqb a 1) st s.tag
+    tag_s = pick (does a Tag) st s.tag
 
     abbrev tag_t : List ℕ
-    tag_t = pick (eqb a 1) st t.tag
+    tag_t = pick (does a Tag) st t.tag
 
     same_depth : s.tree.depth ≡ t.tree.depth
     same_depth = ap (λ (v : Tree). v.depth) like.tree
@@ -446,45 +453,45 @@ module _ (z : List ℕ) (b c a n : ℕ) (st : List ℕ) (s t : Abs) (like : Like
     unfolding texted
     live_after = refl
 
-    opens_names : eqb a 8 ≡ true → (j : ℕ) → j < live_names (next s) → get_or (next s).names j z ≡ get_or (next t).names j z
+    opens_names : does a Opens ≡ true → (j : ℕ) → j < live_names (next s) → get_or (next s).names j z ≡ get_or (next t).names j z
     opens_names e j l =
-        let twelve : n ≡ 12 = eqb-true n 12 (f.tags_end (in_left (eqb a 8) _ e)) in
+        let twelve : n ≡ 12 = eqb-true n 12 (f.tags_end (in_left (does a Opens) _ e)) in
         let dead : live_tag n ≡ false = subst (λ (v : ℕ). live_tag v ≡ false) (sym twelve) (unfold pick in refl) in
         let none : pick (live_tag n) (attributed s.text.attributes a) 0 ≤ 0 = pick_most (live_tag n) _ 0 (λ g. absurd (true≢false (sym g ∙ dead))) in
         let deep = depth_opens s.tree (text_of s).tag.word (wrong_in z s.names a s.tree.depth s.text.attributes stem_s) a e like.shallow in
-        let same : tag_s ≡ tag_t = pick_by (eqb a 1) (λ g. refl) (λ g. (tag_read (in_right (either (eqb a 5) (eqb a 7)) _ (in_left (eqb a 8) (eqb a 9) e))).stem) in
+        let same : tag_s ≡ tag_t = pick_by (does a Tag) (λ g. refl) (λ g. (tag_read (in_right (either (does a Quote) (does a Attribute)) _ (in_left (does a Opens) (does a Empty) e))).stem) in
         rw (kept_opens s.names a s.tree.depth s.text.attributes tag_s stem_s e, kept_opens t.names a t.tree.depth t.text.attributes tag_t stem_t e, ← same_depth)
         (set_agree a z s.names t.names s.tree.depth like.shallow s.tree.depth tag_s tag_t like.long same (λ k m. like.names k (omega arith)) j (omega (arith, live_after)))
 
-    quote_names : eqb a 8 ≡ false → eqb a 5 ≡ true → (j : ℕ) → j < live_names (next s) → get_or (next s).names j z ≡ get_or (next t).names j z
+    quote_names : does a Opens ≡ false → does a Quote ≡ true → (j : ℕ) → j < live_names (next s) → get_or (next s).names j z ≡ get_or (next t).names j z
     quote_names e g j l =
         let tagged = tag_read (five g) in
         let most : pick (live_tag n) (attributed s.text.attributes a) 0 ≤ suc s.text.attributes =
-        pick_most (live_tag n) _ _ (λ d. attributes_more s.text.attributes a (not_two a 5 1 g (λ x. omega (arith, x))) tagged.few) in
+        pick_most (live_tag n) _ _ (λ d. attributes_more s.text.attributes a (not_two a Quote Tag g (λ x. cc)) tagged.few) in
         let deep = depth_less s.tree (text_of s).tag.word (wrong_in z s.names a s.tree.depth s.text.attributes stem_s) a e like.shallow in
         let at : sum s.tree.depth s.text.attributes ≡ s.tree.depth + s.text.attributes = plain_sum s.tree.depth s.text.attributes (omega (arith, like.shallow, tagged.few)) in
         let at' : sum t.tree.depth t.text.attributes ≡ s.tree.depth + s.text.attributes = (λ i. sum (sym same_depth i) (sym tagged.attributes i)) ∙ at in
         rw (kept_quote s.names a s.tree.depth s.text.attributes tag_s stem_s e g, kept_quote t.names a t.tree.depth t.text.attributes tag_t stem_t e g, at, at')
         (set_agree a z s.names t.names s.tree.depth like.shallow (s.tree.depth + s.text.attributes) stem_s stem_t like.long
-        (stem_read (in_left (eqb a 5) (eqb a 10) g)) (all_names g) j (omega (arith, live_after)))
+        (stem_read (in_left (does a Quote) (does a Closes) g)) (all_names g) j (omega (arith, live_after)))
 
-    other_names : eqb a 8 ≡ false → eqb a 5 ≡ false → (j : ℕ) → j < live_names (next s) → get_or (next s).names j z ≡ get_or (next t).names j z
+    other_names : does a Opens ≡ false → does a Quote ≡ false → (j : ℕ) → j < live_names (next s) → get_or (next s).names j z ≡ get_or (next t).names j z
     other_names e g j l =
         let deep = depth_less s.tree (text_of s).tag.word (wrong_in z s.names a s.tree.depth s.text.attributes stem_s) a e like.shallow in
         let most : pick (live_tag n) (attributed s.text.attributes a) 0 ≤ pick (live_tag s.text.state) s.text.attributes 0 =
-        pick_most (live_tag n) _ _ (λ d. by d (eqb a 1) refl) in
+        pick_most (live_tag n) _ _ (λ d. by d (does a Tag) refl) in
         ap (λ (l : List (List ℕ)). get_or l j z) (kept_other s.names a s.tree.depth s.text.attributes tag_s stem_s e g)
         ∙ like.names j (omega (arith, live_after))
         ∙ sym (ap (λ (l : List (List ℕ)). get_or l j z) (kept_other t.names a t.tree.depth t.text.attributes tag_t stem_t e g))
       where
-        by : live_tag n ≡ true → (x : Bool) → eqb a 1 ≡ x → attributed s.text.attributes a ≤ pick (live_tag s.text.state) s.text.attributes 0
+        by : live_tag n ≡ true → (x : Bool) → does a Tag ≡ x → attributed s.text.attributes a ≤ pick (live_tag s.text.state) s.text.attributes 0
         by d true o = rw (attributes_one s.text.attributes a o) (omega arith)
         by d false o = rw (attributes_other s.text.attributes a o g, pick_taken (live_tag s.text.state) s.text.attributes (or_right _ _ (f.sets_tag d) o)) (omega arith)
 
     same_names : (j : ℕ) → j < live_names (next s) → get_or (next s).names j z ≡ get_or (next t).names j z
-    same_names = by (eqb a 8) (eqb a 5) refl refl
+    same_names = by (does a Opens) (does a Quote) refl refl
       where
-        by : (x y : Bool) → eqb a 8 ≡ x → eqb a 5 ≡ y → (j : ℕ) → j < live_names (next s) → get_or (next s).names j z ≡ get_or (next t).names j z
+        by : (x y : Bool) → does a Opens ≡ x → does a Quote ≡ y → (j : ℕ) → j < live_names (next s) → get_or (next s).names j z ≡ get_or (next t).names j z
         by true y e g = opens_names e
         by false true e g = quote_names e g
         by false false e g = other_names e g
@@ -492,7 +499,7 @@ module _ (z : List ℕ) (b c a n : ℕ) (st : List ℕ) (s t : Abs) (like : Like
     stays_tagged : live_tag n ≡ true → Tagged (next s) (next t)
     stays_tagged d = record {
       tag = text_tag d;
-      stem = pick_by (eqb a 1) (λ o. refl) (λ o. (tag_set d o).stem);
+      stem = pick_by (does a Tag) (λ o. refl) (λ o. (tag_set d o).stem);
       attributes = text_attributes d;
       few = text_few d;
       point = text_point d;
@@ -526,4 +533,4 @@ unfolding step moved
 like_step z (fed b st) s t like h =
     let m : ℕ = move_of s.text.state (class_of b) in
     subst (λ (k : ℕ). Like z (moved z m b st s) (moved z (move_of k (class_of b)) b st t)) like.state
-    (stays z b (class_of b) (m / 64) (m % 64) st s t like (facts s.text.state (class_of b)) h)
+    (stays z b (class_of b) (action_of (m / 64)) (m % 64) st s t like (facts s.text.state (class_of b)) h)

@@ -18,6 +18,8 @@ use Rattle.glif.specs.declared.tree.Tree.{Tree}
 use Rattle.glif.specs.Scan.{fresh_scan, Pass, pass, turned, scanned, totals_of, judged, judged_of}
 use Rattle.glif.specs.declared.scan.Scan.{Scan}
 use Rattle.glif.specs.declared.scan.Totals.{Totals}
+use Rattle.gliftext.specs.Actions.{action_of}
+use Rattle.gliftext.specs.declared.action.Action.{Action}
 
 module _ (bs ns : List ℕ) (ps : List (List ℕ)) where
   pub scan_starts : {s : Scan} → s ≡ fresh_scan → pass s ns ps ≡ scanned bs 0 ns ps
@@ -39,13 +41,13 @@ unfolding judged_of
 judge_is bs ps₀ e f g = rw (← e, g, f)
 
 -- one byte, from what each part gives
-pub turn_is : (bs : List ℕ) (i : ℕ) (s : Scan) (ns : List ℕ) (ps : List (List ℕ)) {k m : ℕ} {text : Text} {wrong met : Bool} {tree : Tree} {sum : Sum}
-    {ns' : List ℕ} {ps' : List (List ℕ)} → k ≡ class_of (get_or bs i 0) → m ≡ move_of s.text.state k →
-    text ≡ texted s.text (m % 64) (m / 64) (get_or bs i 0) i →
-    wrong ≡ wrong_names bs ns (m / 64) s.tree.depth s.text.attributes text.name.at →
-    ns' ≡ kept_names ns (m / 64) s.tree.depth s.text.attributes text.tag.at text.name.at →
-    met ≡ point_met s.tree (m / 64) text.tag.word → ps' ≡ kept_point ps met s.sum text.point →
-    tree ≡ treed s.tree (m / 64) text.tag.word wrong → sum ≡ summed s.sum s.tree (m / 64) text.tag.word text.point →
+pub turn_is : (bs : List ℕ) (i : ℕ) (s : Scan) (ns : List ℕ) (ps : List (List ℕ)) {k m : ℕ} {action : Action} {text : Text} {wrong met : Bool} {tree : Tree} {sum : Sum}
+    {ns' : List ℕ} {ps' : List (List ℕ)} → k ≡ class_of (get_or bs i 0) → m ≡ move_of s.text.state k → action ≡ action_of (m / 64) →
+    text ≡ texted s.text (m % 64) action (get_or bs i 0) i →
+    wrong ≡ wrong_names bs ns action s.tree.depth s.text.attributes text.name.at →
+    ns' ≡ kept_names ns action s.tree.depth s.text.attributes text.tag.at text.name.at →
+    met ≡ point_met s.tree action text.tag.word → ps' ≡ kept_point ps met s.sum text.point →
+    tree ≡ treed s.tree action text.tag.word wrong → sum ≡ summed s.sum s.tree action text.tag.word text.point →
     pass (record { text = text; tree = tree; sum = sum }) ns' ps' ≡ turned bs i (pass s ns ps)
 unfolding turned
-turn_is bs i s ns ps a b d e f g h j l = rw (l, j, h, g, f, e, d, b, a)
+turn_is bs i s ns ps a b n d e f g h j l = rw (l, j, h, g, f, e, d, n, b, a)

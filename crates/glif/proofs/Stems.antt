@@ -10,9 +10,10 @@ use lib.ListN.{length, take, drop, get_or, set, length-set, get_or-map, length-m
 use lib.Seq.{set_out, take-suc}
 use Rattle.gliftext.specs.Pick.{pick, both, either, sum}
 use Rattle.gliftext.specs.Table.{classes, class_of, is_name, move_of}
-use Rattle.gliftext.specs.Text.{named, texted, offcurve}
+use Rattle.gliftext.specs.Text.{is_kind, named, texted}
 use Rattle.gliftext.specs.Utf8.{rune_class, rune_on, rune_at}
 use Rattle.gliftext.specs.declared.text.Text.{Text}
+use Rattle.gliftext.specs.declared.text.Kind.TheVariants.{Offcurve}
 use Rattle.glif.specs.Names.{alike, same_name, seen_to, repeated, unclosed, wrong_names, kept_names}
 use Rattle.glif.specs.Tree.{treed}
 use Rattle.glif.specs.Outline.{point_met, summed, kept_point, offset_of, mark_of, nowhere}
@@ -22,6 +23,10 @@ use Rattle.glif.specs.declared.scan.Scan.{Scan}
 use Rattle.glif.specs.declared.tree.Tree.{Tree}
 use Rattle.glif.specs.declared.outline.Sum.{Sum}
 use Rattle.gliftext.proofs.Picks.{pick_same}
+use Rattle.gliftext.specs.Actions.{does}
+use Rattle.gliftext.specs.Actions.{action_of}
+use Rattle.gliftext.specs.declared.action.Action.{Action}
+use Rattle.gliftext.specs.declared.action.Action.TheVariants.{Tag, NameStart, Quote, Opens, Closes}
 
 -- ---- the name at the front of a text: its bytes, and 0 where something stands after it
 
@@ -92,38 +97,38 @@ unfoldable pub seen_in : List ℕ → List (List ℕ) → ℕ → ℕ → List �
 seen_in z names from zero p = false
 seen_in z names from (suc k) p = either (seen_in z names from k p) (alike (get_or names (sum from k) z) p)
 
-unfoldable pub wrong_in : List ℕ → List (List ℕ) → ℕ → ℕ → ℕ → List ℕ → Bool
+unfoldable pub wrong_in : List ℕ → List (List ℕ) → Action → ℕ → ℕ → List ℕ → Bool
 wrong_in z names action depth n p =
-    either (pick (eqb action 10) (not (alike (get_or names (depth - 1) z) p)) false)
-    (either (both (eqb action 5) (leb (length names) (sum depth n))) (seen_in z names depth (pick (eqb action 5) n 0) p))
+    either (pick (does action Closes) (not (alike (get_or names (depth - 1) z) p)) false)
+    (either (both (does action Quote) (leb (length names) (sum depth n))) (seen_in z names depth (pick (does action Quote) n 0) p))
 
-unfoldable pub kept_in : List (List ℕ) → ℕ → ℕ → ℕ → List ℕ → List ℕ → List (List ℕ)
-kept_in names action depth n tag name = pick (eqb action 8) (set names depth tag) (pick (eqb action 5) (set names (sum depth n) name) names)
+unfoldable pub kept_in : List (List ℕ) → Action → ℕ → ℕ → List ℕ → List ℕ → List (List ℕ)
+kept_in names action depth n tag name = pick (does action Opens) (set names depth tag) (pick (does action Quote) (set names (sum depth n) name) names)
 
 -- the place of a point in the scratch row
 abbrev pub place_of : Sum → Point → List ℕ
-place_of s p = offset_of p.x ∷ offset_of p.y ∷ mark_of (eqb s.here 0) (eqb p.kind offcurve) ∷ []
+place_of s p = offset_of p.x ∷ offset_of p.y ∷ mark_of (eqb s.here 0) (is_kind p.kind Offcurve) ∷ []
 
 unfoldable pub point_in : List (List ℕ) → Bool → Sum → Point → List (List ℕ)
 point_in points met s p = pick met (set points s.points (place_of s p)) points
 
 -- by an action, to a state
-abbrev pub acts : List ℕ → ℕ → ℕ → List ℕ → Text → Abs → Abs
+abbrev pub acts : List ℕ → Action → ℕ → List ℕ → Text → Abs → Abs
 acts z action b st text a =
     record {
       text = text;
       tree = treed a.tree action text.tag.word
-          (wrong_in z a.names action a.tree.depth a.text.attributes (pick (eqb action 3) st a.name));
+          (wrong_in z a.names action a.tree.depth a.text.attributes (pick (does action NameStart) st a.name));
       sum = summed a.sum a.tree action text.tag.word text.point;
-      tag = pick (eqb action 1) st a.tag;
-      name = pick (eqb action 3) st a.name;
-      names = kept_in a.names action a.tree.depth a.text.attributes (pick (eqb action 1) st a.tag) (pick (eqb action 3) st a.name);
+      tag = pick (does action Tag) st a.tag;
+      name = pick (does action NameStart) st a.name;
+      names = kept_in a.names action a.tree.depth a.text.attributes (pick (does action Tag) st a.tag) (pick (does action NameStart) st a.name);
       points = point_in a.points (point_met a.tree action text.tag.word) a.sum text.point;
       rune = rune_on a.rune (rune_class b);
     }
 
 unfoldable pub moved : List ℕ → ℕ → ℕ → List ℕ → Abs → Abs
-moved z m b st a = acts z (m / 64) b st (texted a.text (m % 64) (m / 64) b 0) a
+moved z m b st a = acts z (action_of (m / 64)) b st (texted a.text (m % 64) (action_of (m / 64)) b 0) a
 
 unfoldable pub step : List ℕ → Fed → Abs → Abs
 step z (fed b st) a = moved z (move_of a.text.state (class_of b)) b st a
@@ -153,9 +158,9 @@ flat t =
       wrong = t.wrong;
     }
 
-flat_text : (t : Text) (state action b i : ℕ) → flat (texted t state action b i) ≡ texted (flat t) state action b 0
+flat_text : (t : Text) (state : ℕ) (action : Action) (b i : ℕ) → flat (texted t state action b i) ≡ texted (flat t) state action b 0
 unfolding flat texted named
-flat_text t state action b i = rw (pick_same {A = ℕ} (eqb action 1) 0, pick_same {A = ℕ} (eqb action 3) 0)
+flat_text t state action b i = rw (pick_same {A = ℕ} (does action Tag) 0, pick_same {A = ℕ} (does action NameStart) 0)
 
 module _ (bs : List ℕ) where
   abbrev pub name_at : ℕ → List ℕ
@@ -184,10 +189,10 @@ module _ (bs : List ℕ) where
   seen_same names from (suc k) p =
       rw (seen_same names from k p, same_name_lem (get_or names (sum from k) 0) p, get_or-map name_at names (sum from k) 0)
 
-  wrong_same : (names : List ℕ) (action depth n p : ℕ) → wrong_names bs names action depth n p ≡ wrong_in (name_at 0) (map name_at names) action depth n (name_at p)
+  wrong_same : (names : List ℕ) (action : Action) (depth n p : ℕ) → wrong_names bs names action depth n p ≡ wrong_in (name_at 0) (map name_at names) action depth n (name_at p)
   unfolding wrong_names wrong_in unclosed repeated
   wrong_same names action depth n p =
-      rw (seen_same names depth (pick (eqb action 5) n 0) p, same_name_lem (get_or names (depth - 1) 0) p, get_or-map name_at names (depth - 1) 0, length-map names name_at)
+      rw (seen_same names depth (pick (does action Quote) n 0) p, same_name_lem (get_or names (depth - 1) 0) p, get_or-map name_at names (depth - 1) 0, length-map names name_at)
 
   map_set : (f : ℕ → List ℕ) (l : List ℕ) (i v : ℕ) → map f (set l i v) ≡ set (map f l) i (f v)
   map_set f [] i v = refl
@@ -199,10 +204,10 @@ module _ (bs : List ℕ) where
   pick_ap f true x y = refl
   pick_ap f false x y = refl
 
-  kept_same : (names : List ℕ) (action depth n tag name : ℕ) →
+  kept_same : (names : List ℕ) (action : Action) (depth n tag name : ℕ) →
       length names ≤ nowhere → map name_at (kept_names names action depth n tag name) ≡ kept_in (map name_at names) action depth n (name_at tag) (name_at name)
   unfolding kept_names kept_in pick
-  kept_same names action depth n tag name few = by (eqb action 8) (eqb action 5)
+  kept_same names action depth n tag name few = by (does action Opens) (does action Quote)
     where
       by : (x y : Bool) → map name_at (set names (pick x depth (pick y (sum depth n) nowhere)) (pick x tag name))
           ≡ pick x (set (map name_at names) depth (name_at tag)) (pick y (set (map name_at names) (sum depth n) (name_at name)) (map name_at names))
@@ -215,11 +220,11 @@ module _ (bs : List ℕ) where
   kept_point_lem points true s p few = refl
   kept_point_lem points false s p few = set_out points nowhere (place_of s p) few
 
-  texted_tag : (t : Text) (state action b i : ℕ) → (texted t state action b i).tag.at ≡ pick (eqb action 1) i t.tag.at
+  texted_tag : (t : Text) (state : ℕ) (action : Action) (b i : ℕ) → (texted t state action b i).tag.at ≡ pick (does action Tag) i t.tag.at
   unfolding texted named
   texted_tag t state action b i = refl
 
-  texted_name : (t : Text) (state action b i : ℕ) → (texted t state action b i).name.at ≡ pick (eqb action 3) i t.name.at
+  texted_name : (t : Text) (state : ℕ) (action : Action) (b i : ℕ) → (texted t state action b i).name.at ≡ pick (does action NameStart) i t.name.at
   unfolding texted named
   texted_name t state action b i = refl
 
@@ -233,20 +238,20 @@ module _ (bs : List ℕ) where
   flat_point t = refl
 
   abs_moved : (r i m b : ℕ) (s : Scan) (names : List ℕ) (points : List (List ℕ)) → length names ≤ nowhere → length points ≤ nowhere →
-      abs_of (rune_on r (rune_class b)) (acted bs (m / 64) (texted s.text (m % 64) (m / 64) b i) s names points)
+      abs_of (rune_on r (rune_class b)) (acted bs (action_of (m / 64)) (texted s.text (m % 64) (action_of (m / 64)) b i) s names points)
       ≡ moved (name_at 0) m b (name_at i) (abs_of r (pass s names points))
   unfolding abs_of moved
   abs_moved r i m b s names points few few' =
-      let action : ℕ = m / 64 in
+      let action : Action = action_of (m / 64) in
       let u : Text = texted s.text (m % 64) action b i in
       let flat-is : texted (flat s.text) (m % 64) action b 0 ≡ flat u = sym (flat_text s.text (m % 64) action b i) in
       let word_is : (flat u).tag.word ≡ u.tag.word = flat_word u in
       let point_is : (flat u).point ≡ u.point = flat_point u in
       let few-is : (flat s.text).attributes ≡ s.text.attributes = unfold flat in refl in
-      let tag_is : name_at u.tag.at ≡ pick (eqb action 1) (name_at i) (name_at s.text.tag.at) =
-      ap name_at (texted_tag s.text (m % 64) action b i) ∙ pick_ap name_at (eqb action 1) i s.text.tag.at in
-      let name-is : name_at u.name.at ≡ pick (eqb action 3) (name_at i) (name_at s.text.name.at) =
-      ap name_at (texted_name s.text (m % 64) action b i) ∙ pick_ap name_at (eqb action 3) i s.text.name.at in
+      let tag_is : name_at u.tag.at ≡ pick (does action Tag) (name_at i) (name_at s.text.tag.at) =
+      ap name_at (texted_tag s.text (m % 64) action b i) ∙ pick_ap name_at (does action Tag) i s.text.tag.at in
+      let name-is : name_at u.name.at ≡ pick (does action NameStart) (name_at i) (name_at s.text.name.at) =
+      ap name_at (texted_name s.text (m % 64) action b i) ∙ pick_ap name_at (does action NameStart) i s.text.name.at in
       rw (
         flat-is,
         word_is,

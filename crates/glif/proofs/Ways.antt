@@ -11,16 +11,20 @@ use Rattle.glif.specs.Tree.{on_path, entered, left, opens_tag, treed}
 use Rattle.glif.specs.Outline.{begun, ended, with_point, point_met, contour_met, contour_left, summed}
 use Rattle.glif.specs.declared.tree.Tree.{Tree}
 use Rattle.glif.specs.declared.outline.Sum.{Sum}
+use Rattle.gliftext.proofs.Doing.{does_true, does_false}
 use Rattle.gliftext.proofs.Picks.{plain_more, both_true, both_left, both_right}
 use Rattle.glif.proofs.Like.{closes_deep}
+use Rattle.gliftext.specs.Actions.{does}
+use Rattle.gliftext.specs.declared.action.Action.{Action}
+use Rattle.gliftext.specs.declared.action.Action.TheVariants.{Opens, Empty, Closes}
 
 -- where the open elements went: into one on the path, into another, past one, out of one, or nowhere
-pub data Went (t t' : Tree) (a : ℕ) (on : Bool) : Type 0 where
-  down_on : eqb a 8 ≡ true → on ≡ true → t.level ≡ t.depth → t'.level ≡ suc t.level → t'.depth ≡ suc t.depth → Went t t' a on
-  down : eqb a 8 ≡ true → on ≡ false → t'.level ≡ t.level → t'.depth ≡ suc t.depth → Went t t' a on
-  aside : eqb a 9 ≡ true → t'.level ≡ t.level → t'.depth ≡ t.depth → Went t t' a on
-  up : eqb a 10 ≡ true → t'.level ≡ min t.level (t.depth - 1) → t'.depth ≡ t.depth - 1 → 0 < t.depth → Went t t' a on
-  still : eqb a 8 ≡ false → eqb a 9 ≡ false → eqb a 10 ≡ false → t'.level ≡ t.level → t'.depth ≡ t.depth → Went t t' a on
+pub data Went (t t' : Tree) (a : Action) (on : Bool) : Type 0 where
+  down_on : does a Opens ≡ true → on ≡ true → t.level ≡ t.depth → t'.level ≡ suc t.level → t'.depth ≡ suc t.depth → Went t t' a on
+  down : does a Opens ≡ true → on ≡ false → t'.level ≡ t.level → t'.depth ≡ suc t.depth → Went t t' a on
+  aside : does a Empty ≡ true → t'.level ≡ t.level → t'.depth ≡ t.depth → Went t t' a on
+  up : does a Closes ≡ true → t'.level ≡ min t.level (t.depth - 1) → t'.depth ≡ t.depth - 1 → 0 < t.depth → Went t t' a on
+  still : does a Opens ≡ false → does a Empty ≡ false → does a Closes ≡ false → t'.level ≡ t.level → t'.depth ≡ t.depth → Went t t' a on
 
 less_of : (x y : ℕ) → pick (ltb x y) x y ≡ min x y
 unfolding pick
@@ -30,7 +34,7 @@ less_of x y = by (ltb x y) refl
     by true e = omega (arith, ltb-true x y e)
     by false e = omega (arith, ltb-false x y e)
 
-module _ (t : Tree) (a word : ℕ) (w : Bool) (fits : t.level ≤ t.depth) (shallow : t.depth ≤ 256) (fine : (treed t a word w).wrong ≡ false) where
+module _ (t : Tree) (a : Action) (word : ℕ) (w : Bool) (fits : t.level ≤ t.depth) (shallow : t.depth ≤ 256) (fine : (treed t a word w).wrong ≡ false) where
   abbrev on : Bool
   on = on_path t word
 
@@ -52,9 +56,9 @@ module _ (t : Tree) (a word : ℕ) (w : Bool) (fits : t.level ≤ t.depth) (shal
 
   pub went : Went t (treed t a word w) a on
   unfolding treed entered left pick
-  went = by (eqb a 8) (eqb a 9) (eqb a 10) refl refl refl
+  went = by (does a Opens) (does a Empty) (does a Closes) refl refl refl
     where
-      by : (x y v : Bool) → eqb a 8 ≡ x → eqb a 9 ≡ y → eqb a 10 ≡ v → Went t (treed t a word w) a on
+      by : (x y v : Bool) → does a Opens ≡ x → does a Empty ≡ y → does a Closes ≡ v → Went t (treed t a word w) a on
       by true y v e f g = elim on as (λ (o : Bool). on ≡ o → Went t (treed t a word w) a on) [
         | true ↦ λ h. down_on e h (on_level h) (rw (e, h) (plain_more t.level (omega arith))) (rw e (plain_more t.depth (omega arith)))
         | false ↦ λ h. down e h (rw (e, h)) (rw e (plain_more t.depth (omega arith)))
@@ -66,15 +70,15 @@ module _ (t : Tree) (a word : ℕ) (w : Bool) (fits : t.level ≤ t.depth) (shal
   -- an outline that is open, or was, stays met
   pub outline_kept : t.outline ≡ true → (treed t a word w).outline ≡ true
   unfolding treed entered left pick
-  outline_kept o = by (eqb a 8) (eqb a 9) (eqb a 10) refl refl refl
+  outline_kept o = by (does a Opens) (does a Empty) (does a Closes) refl refl refl
     where
-      by : (x y v : Bool) → eqb a 8 ≡ x → eqb a 9 ≡ y → eqb a 10 ≡ v → (treed t a word w).outline ≡ true
+      by : (x y v : Bool) → does a Opens ≡ x → does a Empty ≡ y → does a Closes ≡ v → (treed t a word w).outline ≡ true
       by true y v e f g = rw (e, o)
       by false true v e f g = rw (e, f, o)
       by false false true e f g = rw (e, f, g, o)
       by false false false e f g = rw (e, f, g, o)
 
-  outline_made : eqb a 8 ≡ true → on ≡ true → t.depth ≡ 1 → (treed t a word w).outline ≡ true
+  outline_made : does a Opens ≡ true → on ≡ true → t.depth ≡ 1 → (treed t a word w).outline ≡ true
   unfolding treed entered pick
   outline_made e o d = rw (e, o, d) (either_true t.outline)
     where
@@ -84,15 +88,15 @@ module _ (t : Tree) (a word : ℕ) (w : Bool) (fits : t.level ≤ t.depth) (shal
 
   pub root_kept : t.root ≡ true → (treed t a word w).root ≡ true
   unfolding treed entered left pick
-  root_kept o = by (eqb a 8) (eqb a 9) (eqb a 10) refl refl refl
+  root_kept o = by (does a Opens) (does a Empty) (does a Closes) refl refl refl
     where
-      by : (x y v : Bool) → eqb a 8 ≡ x → eqb a 9 ≡ y → eqb a 10 ≡ v → (treed t a word w).root ≡ true
+      by : (x y v : Bool) → does a Opens ≡ x → does a Empty ≡ y → does a Closes ≡ v → (treed t a word w).root ≡ true
       by true y v e f g = rw e
       by false true v e f g = rw (e, f)
       by false false true e f g = rw (e, f, g, o)
       by false false false e f g = rw (e, f, g, o)
 
-  pub root_made : eqb a 8 ≡ true → (treed t a word w).root ≡ true
+  pub root_made : does a Opens ≡ true → (treed t a word w).root ≡ true
   unfolding treed entered pick
   root_made e = rw e
 
@@ -111,14 +115,14 @@ module _ (t : Tree) (a word : ℕ) (w : Bool) (fits : t.level ≤ t.depth) (shal
 
 -- ---- what is summed up
 
-module _ (s : Sum) (t : Tree) (a word : ℕ) (p : Point) where
+module _ (s : Sum) (t : Tree) (a : Action) (word : ℕ) (p : Point) where
   pub summed_by : {c m l : Bool} → contour_met t a word ≡ c → point_met t a word ≡ m → contour_left t a word ≡ l →
       summed s t a word p ≡ pick l (ended (pick m (with_point (pick c (begun s) s) p) (pick c (begun s) s))) (pick m (with_point (pick c (begun s) s) p) (pick c (begun s) s))
   unfolding summed
   summed_by e f g = rw (e, f, g)
 
-module _ (t : Tree) (a word : ℕ) where
-  pub tags_none : eqb a 8 ≡ false → eqb a 9 ≡ false → opens_tag a ≡ false
+module _ (t : Tree) (a : Action) (word : ℕ) where
+  pub tags_none : does a Opens ≡ false → does a Empty ≡ false → opens_tag a ≡ false
   unfolding opens_tag pick
   tags_none e f = rw (e, f)
 
@@ -142,17 +146,17 @@ module _ (t : Tree) (a word : ℕ) where
   unfolding contour_met pick
   contour_on e f g = rw (e, g, f)
 
-  pub left_none : eqb a 10 ≡ false → contour_met t a word ≡ false → contour_left t a word ≡ false
+  pub left_none : does a Closes ≡ false → contour_met t a word ≡ false → contour_left t a word ≡ false
   unfolding contour_left pick
-  left_none e f = rw (e, f) (both_right (eqb a 9) false refl)
+  left_none e f = rw (e, f) (both_right (does a Empty) false refl)
 
-  pub left_open : eqb a 10 ≡ false → eqb a 9 ≡ false → contour_left t a word ≡ false
+  pub left_open : does a Closes ≡ false → does a Empty ≡ false → contour_left t a word ≡ false
   unfolding contour_left pick
   left_open e f = rw (e, f)
 
   pub left_other : contour_met t a word ≡ false → both (eqb t.level 3) (eqb t.depth 3) ≡ false → contour_left t a word ≡ false
   unfolding contour_left pick
-  left_other e f = rw (e, f) (by (eqb a 10) (eqb a 9))
+  left_other e f = rw (e, f) (by (does a Closes) (does a Empty))
     where
       by : (x y : Bool) → either (both x false) (both y false) ≡ false
       by true true = refl
@@ -160,27 +164,27 @@ module _ (t : Tree) (a word : ℕ) where
       by false true = refl
       by false false = refl
 
-  pub left_empty : eqb a 9 ≡ true → contour_met t a word ≡ true → contour_left t a word ≡ true
+  pub left_empty : does a Empty ≡ true → contour_met t a word ≡ true → contour_left t a word ≡ true
   unfolding contour_left pick
-  left_empty e f = rw (e, f) (by (both (eqb a 10) (both (eqb t.level 3) (eqb t.depth 3))))
+  left_empty e f = rw (e, f) (by (both (does a Closes) (both (eqb t.level 3) (eqb t.depth 3))))
     where
       by : (x : Bool) → either x true ≡ true
       by true = refl
       by false = refl
 
-  pub left_closed : eqb a 10 ≡ true → t.level ≡ 3 → t.depth ≡ 3 → contour_left t a word ≡ true
+  pub left_closed : does a Closes ≡ true → t.level ≡ 3 → t.depth ≡ 3 → contour_left t a word ≡ true
   unfolding contour_left pick
   left_closed e f g = rw (e, f, g)
 
 -- ---- a contour opens, or closes, or neither
 
-pub data Way (t t' : Tree) (a : ℕ) (on : Bool) : Type 0 where
-  opening : eqb a 8 ≡ true → on ≡ true → t.level ≡ 2 → t.depth ≡ 2 → t'.level ≡ 3 → t'.depth ≡ 3 → Way t t' a on
-  closing : eqb a 10 ≡ true → t.level ≡ 3 → t.depth ≡ 3 → t'.level ≡ 2 → t'.depth ≡ 2 → Way t t' a on
+pub data Way (t t' : Tree) (a : Action) (on : Bool) : Type 0 where
+  opening : does a Opens ≡ true → on ≡ true → t.level ≡ 2 → t.depth ≡ 2 → t'.level ≡ 3 → t'.depth ≡ 3 → Way t t' a on
+  closing : does a Closes ≡ true → t.level ≡ 3 → t.depth ≡ 3 → t'.level ≡ 2 → t'.depth ≡ 2 → Way t t' a on
   outer : t.level ≤ 2 → t'.level ≤ 2 → t'.level ≤ t'.depth → Went t t' a on → Way t t' a on
   inner : 2 < t.level → 2 < t'.level → t'.level ≤ t'.depth → Went t t' a on → Way t t' a on
 
-pub way_of : {t t' : Tree} {a : ℕ} {on : Bool} → t.level ≤ t.depth → Went t t' a on → Way t t' a on
+pub way_of : {t t' : Tree} {a : Action} {on : Bool} → t.level ≤ t.depth → Went t t' a on → Way t t' a on
 way_of {t} {t'} {a} {on} fits (down_on e o l l' d) = by (eqb t.level 2) refl (ltb 2 t.level) refl
   where
     by : (x : Bool) → eqb t.level 2 ≡ x → (y : Bool) → ltb 2 t.level ≡ y → Way t t' a on
@@ -219,24 +223,24 @@ way_of {t} {t'} {a} {on} fits (up e l d p) = by (ltb 2 t.level) refl (eqb t.dept
     by false g x h = let less = ltb-false 2 t.level g in outer less (omega arith) (omega arith) (up e l d p)
 
 -- nothing of the outline is met
-pub record Quiet (t : Tree) (a word : ℕ) : Type 0 where
+pub record Quiet (t : Tree) (a : Action) (word : ℕ) : Type 0 where
   pub no_contour : contour_met t a word ≡ false
   pub no_point_lem : point_met t a word ≡ false
   pub no_end : contour_left t a word ≡ false
 
-pub quiet_sum : {t : Tree} {a word : ℕ} → Quiet t a word → (s : Sum) (p : Point) → summed s t a word p ≡ s
+pub quiet_sum : {t : Tree} {a : Action} {word : ℕ} → Quiet t a word → (s : Sum) (p : Point) → summed s t a word p ≡ s
 unfolding pick
 quiet_sum {t} {a} {word} q s p = summed_by s t a word p q.no_contour q.no_point_lem q.no_end
 
-left_same : (t : Tree) (a word word' : ℕ) → contour_met t a word ≡ contour_met t a word' → contour_left t a word ≡ contour_left t a word'
+left_same : (t : Tree) (a : Action) (word word' : ℕ) → contour_met t a word ≡ contour_met t a word' → contour_left t a word ≡ contour_left t a word'
 unfolding contour_left
-left_same t a word word' e = ap (λ (m : Bool). either (both (eqb a 10) (both (eqb t.level 3) (eqb t.depth 3))) (both (eqb a 9) m)) e
+left_same t a word word' e = ap (λ (m : Bool). either (both (does a Closes) (both (eqb t.level 3) (eqb t.depth 3))) (both (does a Empty) m)) e
 
-tag_is : (a : ℕ) → opens_tag a ≡ either (eqb a 8) (eqb a 9)
+tag_is : (a : Action) → opens_tag a ≡ either (does a Opens) (does a Empty)
 unfolding opens_tag
 tag_is a = refl
 
-pub met_same : (t : Tree) (a word word' : ℕ) → (either (eqb a 8) (eqb a 9) ≡ true → word ≡ word') → Quiet t a word → Quiet t a word'
+pub met_same : (t : Tree) (a : Action) (word word' : ℕ) → (either (does a Opens) (does a Empty) ≡ true → word ≡ word') → Quiet t a word → Quiet t a word'
 met_same t a word word' h q = by (opens_tag a) refl
   where
     by : (x : Bool) → opens_tag a ≡ x → Quiet t a word'
@@ -254,7 +258,7 @@ bare_now s = by s.bare
     by false = refl
 
 -- outside of contours nothing is met, or a contour opens: an empty one would be refused
-pub outer_quiet : (t t' : Tree) (a word : ℕ) (s : Sum) (p : Point) → t.level ≤ 2 → t'.level ≤ 2 → Went t t' a (on_path t word) →
+pub outer_quiet : (t t' : Tree) (a : Action) (word : ℕ) (s : Sum) (p : Point) → t.level ≤ 2 → t'.level ≤ 2 → Went t t' a (on_path t word) →
     (summed s t a word p).bare ≡ false → Quiet t a word
 outer_quiet t t' a word s p low low' went fine = by (contour_met t a word) refl
   where
@@ -267,16 +271,16 @@ outer_quiet t t' a word s p low low' went fine = by (contour_met t a word) refl
     ends : contour_met t a word ≡ false → Quiet t a word
     ends e = record { no_contour = e; no_point_lem = point; no_end = left_other t a word e (both_left (eqb t.level 3) (eqb t.depth 3) (ne_eqb t.level 3 three)) }
 
-    empty : eqb a 9 ≡ true → contour_met t a word ≡ true → ⊥
+    empty : does a Empty ≡ true → contour_met t a word ≡ true → ⊥
     empty e m =
         let is : summed s t a word p ≡ ended (begun s) = unfold pick in summed_by s t a word p m point (left_empty t a word e m) in
         true≢false (sym (bare_now s) ∙ sym (ap (λ (v : Sum). v.bare) is) ∙ fine)
 
-    not_a : eqb a 8 ≡ false → eqb a 9 ≡ false → contour_met t a word ≡ false
+    not_a : does a Opens ≡ false → does a Empty ≡ false → contour_met t a word ≡ false
     not_a e f = (met_none t a word (tags_none t a word e f)).0
 
-    ten : eqb a 10 ≡ true → contour_met t a word ≡ false
-    ten e = let is = eqb-true a 10 e in not_a (ne_eqb a 8 (λ g. omega arith)) (ne_eqb a 9 (λ g. omega arith))
+    ten : does a Closes ≡ true → contour_met t a word ≡ false
+    ten e = let is = does_true a Closes e in not_a (does_false a Opens (λ g. cc)) (does_false a Empty (λ g. cc))
 
     none : Went t t' a (on_path t word) → contour_met t a word ≡ true → ⊥
     none (down_on e o l l' d) m = true≢false (sym m ∙ contour_off t a word (λ g. omega arith))
@@ -290,11 +294,11 @@ outer_quiet t t' a word s p low low' went fine = by (contour_met t a word) refl
     by false e = ends e
 
 -- inside of a contour points may be met, and nothing else
-pub record Points (t : Tree) (a word : ℕ) : Type 0 where
+pub record Points (t : Tree) (a : Action) (word : ℕ) : Type 0 where
   pub no_contour : contour_met t a word ≡ false
   pub no_end : contour_left t a word ≡ false
 
-pub points_count : {t : Tree} {a word : ℕ} → Points t a word → (s : Sum) (p : Point) → (summed s t a word p).contours ≡ s.contours
+pub points_count : {t : Tree} {a : Action} {word : ℕ} → Points t a word → (s : Sum) (p : Point) → (summed s t a word p).contours ≡ s.contours
 unfolding pick with_point
 points_count {t} {a} {word} q s p = ap (λ (v : Sum). v.contours) (summed_by s t a word p q.no_contour refl q.no_end) ∙ by (point_met t a word)
   where
@@ -302,15 +306,15 @@ points_count {t} {a} {word} q s p = ap (λ (v : Sum). v.contours) (summed_by s t
     by true = refl
     by false = refl
 
-pub inner_points : (t t' : Tree) (a word : ℕ) → 2 < t.level → 2 < t'.level → Went t t' a (on_path t word) → Points t a word
+pub inner_points : (t t' : Tree) (a : Action) (word : ℕ) → 2 < t.level → 2 < t'.level → Went t t' a (on_path t word) → Points t a word
 inner_points t t' a word high high' went =
     let met = contour_off t a word (λ g. omega arith) in
     record { no_contour = met; no_end = by met (both (eqb t.level 3) (eqb t.depth 3)) refl }
   where
-    ten : Went t t' a (on_path t word) → t.level ≡ 3 → t.depth ≡ 3 → eqb a 10 ≡ false
-    ten (down_on e o l l' d) f g = let is = eqb-true a 8 e in ne_eqb a 10 (λ h. omega arith)
-    ten (down e o l d) f g = let is = eqb-true a 8 e in ne_eqb a 10 (λ h. omega arith)
-    ten (aside e l d) f g = let is = eqb-true a 9 e in ne_eqb a 10 (λ h. omega arith)
+    ten : Went t t' a (on_path t word) → t.level ≡ 3 → t.depth ≡ 3 → does a Closes ≡ false
+    ten (down_on e o l l' d) f g = let is = does_true a Opens e in does_false a Closes (λ h. cc)
+    ten (down e o l d) f g = let is = does_true a Opens e in does_false a Closes (λ h. cc)
+    ten (aside e l d) f g = let is = does_true a Empty e in does_false a Closes (λ h. cc)
     ten (up e l d q) f g = absurd (omega arith)
     ten (still e h i l d) f g = i
 

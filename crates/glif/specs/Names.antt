@@ -2,6 +2,9 @@
 use Rattle.std.specs.Prelude.{ℕ, zero, suc, ◌-◌, Bool, false, not, List, [], ◌∷◌, eqb, leb, length, get_or, set, drop}
 use Rattle.gliftext.specs.Pick.{pick, both, either, sum}
 use Rattle.gliftext.specs.Table.{is_name}
+use Rattle.gliftext.specs.Actions.{does}
+use Rattle.gliftext.specs.declared.action.Action.{Action}
+use Rattle.gliftext.specs.declared.action.Action.TheVariants.{Quote, Opens, Closes}
 
 -- whether two texts begin with one name, with something after it
 unfoldable pub alike : List ℕ → List ℕ → Bool
@@ -17,19 +20,19 @@ unfoldable pub seen_to : List ℕ → List ℕ → ℕ → ℕ → ℕ → Bool
 seen_to bytes names from zero p = false
 seen_to bytes names from (suc k) p = either (seen_to bytes names from k p) (same_name bytes (get_or names (sum from k) 0) p)
 
--- an attribute's value begins, 5: its name is unlike those before it, and the row has room
-unfoldable pub repeated : List ℕ → List ℕ → ℕ → ℕ → ℕ → ℕ → Bool
+-- an attribute's value begins: its name is unlike those before it, and the row has room
+unfoldable pub repeated : List ℕ → List ℕ → Action → ℕ → ℕ → ℕ → Bool
 repeated bytes names action depth n p =
-    either (both (eqb action 5) (leb (length names) (sum depth n))) (seen_to bytes names depth (pick (eqb action 5) n 0) p)
+    either (both (does action Quote) (leb (length names) (sum depth n))) (seen_to bytes names depth (pick (does action Quote) n 0) p)
 
--- an element closes, 10: its name is that of the last one open
-unfoldable pub unclosed : List ℕ → List ℕ → ℕ → ℕ → ℕ → Bool
-unclosed bytes names action depth p = pick (eqb action 10) (not (same_name bytes (get_or names (depth - 1) 0) p)) false
+-- an element closes: its name is that of the last one open
+unfoldable pub unclosed : List ℕ → List ℕ → Action → ℕ → ℕ → Bool
+unclosed bytes names action depth p = pick (does action Closes) (not (same_name bytes (get_or names (depth - 1) 0) p)) false
 
-unfoldable pub wrong_names : List ℕ → List ℕ → ℕ → ℕ → ℕ → ℕ → Bool
+unfoldable pub wrong_names : List ℕ → List ℕ → Action → ℕ → ℕ → ℕ → Bool
 wrong_names bytes names action depth n p = either (unclosed bytes names action depth p) (repeated bytes names action depth n p)
 
--- the row with the name of an element that opens, 8, or of an attribute, 5
-unfoldable pub kept_names : List ℕ → ℕ → ℕ → ℕ → ℕ → ℕ → List ℕ
+-- the row with the name of an element that opens, or of an attribute
+unfoldable pub kept_names : List ℕ → Action → ℕ → ℕ → ℕ → ℕ → List ℕ
 kept_names names action depth n tag name =
-    set names (pick (eqb action 8) depth (pick (eqb action 5) (sum depth n) 18446744073709551615)) (pick (eqb action 8) tag name)
+    set names (pick (does action Opens) depth (pick (does action Quote) (sum depth n) 18446744073709551615)) (pick (does action Opens) tag name)

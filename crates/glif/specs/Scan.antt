@@ -10,6 +10,8 @@ use Rattle.glif.specs.Outline.{no_sum, point_met, summed, kept_point}
 use Rattle.gliftext.specs.declared.text.Text.{Text}
 use Rattle.glif.specs.declared.scan.Totals.{Totals}
 use Rattle.glif.specs.declared.scan.Scan.{Scan}
+use Rattle.gliftext.specs.Actions.{action_of}
+use Rattle.gliftext.specs.declared.action.Action.{Action}
 
 abbrev pub fresh_scan : Scan
 fresh_scan = record { text = fresh_text; tree = no_tree; sum = no_sum }
@@ -19,7 +21,7 @@ pub data Pass : Type 0 where
   pass : Scan → List ℕ → List (List ℕ) → Pass
 
 -- one byte: its action on the text; then on the open elements, the contours and the rows, with the text as it is after it
-abbrev pub acted : List ℕ → ℕ → Text → Scan → List ℕ → List (List ℕ) → Pass
+abbrev pub acted : List ℕ → Action → Text → Scan → List ℕ → List (List ℕ) → Pass
 acted bytes action text s names points =
     pass
     (record {
@@ -34,7 +36,8 @@ unfoldable pub turned : List ℕ → ℕ → Pass → Pass
 turned bytes i (pass s names points) =
     let b : ℕ = get_or bytes i 0 in
     let m : ℕ = move_of s.text.state (class_of b) in
-    acted bytes (m / 64) (texted s.text (m % 64) (m / 64) b i) s names points
+    let action : Action = action_of (m / 64) in
+    acted bytes action (texted s.text (m % 64) action b i) s names points
 
 -- the first k bytes
 unfoldable pub scanned : List ℕ → ℕ → List ℕ → List (List ℕ) → Pass

@@ -2,6 +2,9 @@
 use Rattle.std.specs.Prelude.{ℕ, ◌-◌, Bool, true, false, not, eqb, ltb}
 use Rattle.gliftext.specs.Pick.{pick, both, either, more}
 use Rattle.glif.specs.declared.tree.Tree.{Tree}
+use Rattle.gliftext.specs.Actions.{does}
+use Rattle.gliftext.specs.declared.action.Action.{Action}
+use Rattle.gliftext.specs.declared.action.Action.TheVariants.{Opens, Empty, Closes, Content, Section, TextReference}
 
 abbrev pub no_tree : Tree
 no_tree = record { depth = 0; level = 0; root = false; outline = false; wrong = false }
@@ -48,18 +51,18 @@ left t =
 unfoldable pub text_fits : Tree → Bool
 text_fits t = both (ltb 0 t.depth) (not (both (eqb t.level t.depth) (ltb 2 t.depth)))
 
--- a tag opens an element, 8, or is one, 9
-unfoldable pub opens_tag : ℕ → Bool
-opens_tag action = either (eqb action 8) (eqb action 9)
+-- a tag opens an element, or is one
+unfoldable pub opens_tag : Action → Bool
+opens_tag action = either (does action Opens) (does action Empty)
 
--- an element opens, 8, is empty, 9, or closes, 10
-abbrev pub nested : Tree → ℕ → ℕ → Tree
+-- an element opens, is empty, or closes
+abbrev pub nested : Tree → Action → ℕ → Tree
 nested t action word =
-    pick (eqb action 8) (entered t word)
-    (pick (eqb action 9) (left (entered t word)) (pick (eqb action 10) (left t) t))
+    pick (does action Opens) (entered t word)
+    (pick (does action Empty) (left (entered t word)) (pick (does action Closes) (left t) t))
 
--- text stands there, 11, 12, 14; `wrong` is what the names showed
-unfoldable pub treed : Tree → ℕ → ℕ → Bool → Tree
+-- text stands there; `wrong` is what the names showed
+unfoldable pub treed : Tree → Action → ℕ → Bool → Tree
 treed t action word wrong =
     record {
       depth = (nested t action word).depth;
@@ -68,5 +71,5 @@ treed t action word wrong =
       outline = (nested t action word).outline;
       wrong =
           either (nested t action word).wrong
-          (either wrong (both (either (eqb action 11) (either (eqb action 12) (eqb action 14))) (not (text_fits t))));
+          (either wrong (both (either (does action Content) (either (does action Section) (does action TextReference))) (not (text_fits t))));
     }

@@ -1,10 +1,10 @@
 // Names by their places in the file: the open elements' in the front of a row, and those of a tag's attributes
 // after them.
-ghost use Rattle.std.specs.Prelude.{◌≡◌, set, get_or};
+ghost use Rattle.std.specs.Prelude.{◌≡◌};
 ghost use Rattle.gliftext.specs.Table.{is_name};
 ghost use Rattle.glif.specs.Names.{same_name, seen_to, repeated, unclosed, wrong_names, kept_names};
 
-use gliftext::{both, class_of, either, less, pick, plus};
+use gliftext::{Action, at, both, class_of, either, less, pick, plus, store};
 
 fn is_name(b: u8) -> bool
     ensures { result ≡ is_name b }
@@ -36,40 +36,32 @@ fn same_name(bytes: &[u8], p: usize, q: usize) -> bool
     false
 }
 
-fn size_at(row: &[usize], i: usize) -> usize
-    ensures { result ≡ get_or row.now i 0 }
-{
-    if i < row.len() { row[i] } else { 0 }
-}
-
 // Whether the name at a place is one of n names of the row.
 fn seen(bytes: &[u8], names: &[usize], from: usize, n: usize, p: usize) -> bool
     ensures { result ≡ seen_to bytes.now names.now from n p }
 {
     let mut found = false;
-    let mut k = 0;
-    while k < n {
-        found = either(found, same_name(bytes, size_at(names, plus(from, k)), p));
-        k += 1;
+    for k in 0..n {
+        found = either(found, same_name(bytes, at(names, plus(from, k), 0), p));
     }
     found
 }
 
-// An attribute's value begins, 5: its name is unlike those before it, and there is room for it.
-fn repeats(bytes: &[u8], names: &[usize], action: usize, depth: usize, n: usize, p: usize) -> bool
+// An attribute's value begins: its name is unlike those before it, and there is room for it.
+fn repeats(bytes: &[u8], names: &[usize], action: Action, depth: usize, n: usize, p: usize) -> bool
     ensures { result ≡ repeated bytes.now names.now action depth n p }
 {
-    let k = pick(action == 5, n, 0);
-    let full = both(action == 5, names.len() <= plus(depth, n));
+    let k = pick(action == Action::Quote, n, 0);
+    let full = both(action == Action::Quote, names.len() <= plus(depth, n));
     either(full, seen(bytes, names, depth, k, p))
 }
 
-// An element closes, 10: its name is that of the last one open.
-fn unclosed(bytes: &[u8], names: &[usize], action: usize, depth: usize, p: usize) -> bool
+// An element closes: its name is that of the last one open.
+fn unclosed(bytes: &[u8], names: &[usize], action: Action, depth: usize, p: usize) -> bool
     ensures { result ≡ unclosed bytes.now names.now action depth p }
 {
-    if action == 10 {
-        return !same_name(bytes, size_at(names, less(depth, 1)), p);
+    if action == Action::Closes {
+        return !same_name(bytes, at(names, less(depth, 1), 0), p);
     }
     false
 }
@@ -77,7 +69,7 @@ fn unclosed(bytes: &[u8], names: &[usize], action: usize, depth: usize, p: usize
 pub fn wrong_names(
     bytes: &[u8],
     names: &[usize],
-    action: usize,
+    action: Action,
     depth: usize,
     n: usize,
     p: usize,
@@ -88,18 +80,10 @@ pub fn wrong_names(
     either(end, repeats(bytes, names, action, depth, n, p))
 }
 
-fn store_size(row: &mut [usize], i: usize, v: usize)
-    ensures { row.new ≡ set row.old i v }
-{
-    if i < row.len() {
-        row[i] = v;
-    }
-}
-
-// The name of an element that opens, 8, and of an attribute, 5, with n before it.
+// The name of an element that opens, and of an attribute, with n before it.
 pub fn keep_name(
     names: &mut [usize],
-    action: usize,
+    action: Action,
     depth: usize,
     n: usize,
     tag: usize,
@@ -107,7 +91,11 @@ pub fn keep_name(
 )
     ensures { names.new ≡ kept_names names.old action depth n tag name }
 {
-    let attribute = pick(action == 5, plus(depth, n), 18446744073709551615);
-    let place = pick(action == 8, depth, attribute);
-    store_size(names, place, pick(action == 8, tag, name));
+    let attribute = pick(
+        action == Action::Quote,
+        plus(depth, n),
+        18446744073709551615,
+    );
+    let place = pick(action == Action::Opens, depth, attribute);
+    store(names, place, pick(action == Action::Opens, tag, name));
 }

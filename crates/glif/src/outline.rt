@@ -1,23 +1,23 @@
 // The points of the contours as they stand in the file, and what is refused of them.
-ghost use Rattle.std.specs.Prelude.{◌≡◌, [], ◌∷◌, set};
+ghost use Rattle.std.specs.Prelude.{◌≡◌};
 ghost use Rattle.gliftext.specs.Pick.{pick};
-ghost use Rattle.glif.specs.Outline.{is_number, is_far, offset_of, no_sum, begun, ended, known, cubic_of};
+ghost use Rattle.glif.specs.Outline.{is_number, is_far, offset_of, no_sum, begun, ended, cubic_of};
 ghost use Rattle.glif.specs.Outline.{wrong_point, with_point, point_met, contour_met, contour_left, summed, mark_of, kept_point};
 
 use crate::tree::{Tree, on_path, opens_tag};
-use gliftext::{Number, Point, both, choose, either, less, more, pick, plus};
+use gliftext::{Action, Kind, Number, Point, both, either, less, more, pick, plus, store};
 
 fn is_number(n: Number) -> bool
     ensures { result ≡ is_number n }
 {
-    either(n.state == 2, n.state == 4)
+    n.state.digit_last()
 }
 
 // Outside 16 bits.
 fn is_far(n: Number) -> bool
     ensures { result ≡ is_far n }
 {
-    choose(n.minus, 32768 < n.size, 32767 < n.size)
+    pick(n.minus, 32768 < n.size, 32767 < n.size)
 }
 
 // A coordinate counted from -32768, so that it is never below zero; one outside 16 bits is refused.
@@ -30,7 +30,7 @@ fn offset_of(n: Number) -> usize
 // How many contours, points as they stand, and points as they enter; then of this contour how many points,
 // whether one is on-curve, whether the first is off-curve or a line, and whether the last is off-curve; then
 // what is refused: 19, 20, 14, 21.
-#[derive(Clone, Copy)]
+#[derive(Clone, Copy, Debug, PartialEq, Eq)]
 pub struct Sum {
     pub contours: usize,
     pub points: usize,
@@ -63,12 +63,6 @@ pub fn no_sum() -> Sum
         far: false,
         bare: false,
     }
-}
-
-fn pick_sum(c: bool, a: Sum, b: Sum) -> Sum
-    ensures { result ≡ pick c a b }
-{
-    if c { a } else { b }
 }
 
 fn begin_contour(s: Sum) -> Sum
@@ -111,15 +105,6 @@ fn end_contour(s: Sum) -> Sum
     }
 }
 
-// move, line, curve, qcurve, offcurve.
-fn is_known(kind: usize) -> bool
-    ensures { result ≡ known kind }
-{
-    let quadratic = either(kind == 124671986136677, kind == 8027215963192718949);
-    let straight = either(kind == 1836021349, kind == 1818848869);
-    either(straight, either(kind == 427172197989, quadratic))
-}
-
 // A point that is open or cubic, or not whole.
 fn is_cubic(p: Point) -> bool
     ensures { result ≡ cubic_of p }
@@ -127,7 +112,7 @@ fn is_cubic(p: Point) -> bool
     let x = p.x;
     let y = p.y;
     either(
-        either(p.kind == 1836021349, p.kind == 427172197989),
+        either(p.kind == Kind::Move, p.kind == Kind::Curve),
         either(x.part, y.part),
     )
 }
@@ -137,15 +122,18 @@ fn wrong_point(s: Sum, p: Point) -> bool
     ensures { result ≡ wrong_point s p }
 {
     let numbers = both(is_number(p.x), is_number(p.y));
-    let later = both(0 < s.here, p.kind == 1836021349);
-    let line = both(both(0 < s.here, s.off), p.kind == 1818848869);
-    either(either(!numbers, !is_known(p.kind)), either(later, line))
+    let later = both(0 < s.here, p.kind == Kind::Move);
+    let line = both(both(0 < s.here, s.off), p.kind == Kind::Line);
+    either(
+        either(!numbers, p.kind == Kind::Unknown),
+        either(later, line),
+    )
 }
 
 fn add_point(s: Sum, p: Point) -> Sum
     ensures { result ≡ with_point s p }
 {
-    let off = p.kind == 8027215963192718949;
+    let off = p.kind == Kind::Offcurve;
     let first = s.here == 0;
     Sum {
         contours: s.contours,
@@ -153,8 +141,8 @@ fn add_point(s: Sum, p: Point) -> Sum
         full: pick(both(off, s.off), more(more(s.full)), more(s.full)),
         here: more(s.here),
         on: either(s.on, !off),
-        lead: choose(first, off, s.lead),
-        straight: choose(first, p.kind == 1818848869, s.straight),
+        lead: pick(first, off, s.lead),
+        straight: pick(first, p.kind == Kind::Line, s.straight),
         off: off,
         wrong: either(s.wrong, wrong_point(s, p)),
         cubic: either(s.cubic, is_cubic(p)),
@@ -164,31 +152,34 @@ fn add_point(s: Sum, p: Point) -> Sum
 }
 
 // A point's tag; the tag of a contour; the end of one.
-pub fn point_met(t: Tree, action: usize, word: usize) -> bool
+pub fn point_met(t: Tree, action: Action, word: usize) -> bool
     ensures { result ≡ point_met t action word }
 {
     both(opens_tag(action), both(t.level == 3, on_path(t, word)))
 }
 
-fn contour_met(t: Tree, action: usize, word: usize) -> bool
+fn contour_met(t: Tree, action: Action, word: usize) -> bool
     ensures { result ≡ contour_met t action word }
 {
     both(opens_tag(action), both(t.level == 2, on_path(t, word)))
 }
 
-fn contour_left(t: Tree, action: usize, word: usize) -> bool
+fn contour_left(t: Tree, action: Action, word: usize) -> bool
     ensures { result ≡ contour_left t action word }
 {
-    let closes = both(action == 10, both(t.level == 3, t.depth == 3));
-    either(closes, both(action == 9, contour_met(t, action, word)))
+    let closes = both(action == Action::Closes, both(t.level == 3, t.depth == 3));
+    either(
+        closes,
+        both(action == Action::Empty, contour_met(t, action, word)),
+    )
 }
 
-pub fn sum_of(s: Sum, t: Tree, action: usize, word: usize, p: Point) -> Sum
+pub fn sum_of(s: Sum, t: Tree, action: Action, word: usize, p: Point) -> Sum
     ensures { result ≡ summed s t action word p }
 {
-    let a = pick_sum(contour_met(t, action, word), begin_contour(s), s);
-    let b = pick_sum(point_met(t, action, word), add_point(a, p), a);
-    pick_sum(contour_left(t, action, word), end_contour(b), b)
+    let a = pick(contour_met(t, action, word), begin_contour(s), s);
+    let b = pick(point_met(t, action, word), add_point(a, p), a);
+    pick(contour_left(t, action, word), end_contour(b), b)
 }
 
 // A place of the scratch row holds x, y, and a number: 1 for on-curve, and 2 more for the first of a contour.
@@ -198,18 +189,10 @@ fn mark_of(first: bool, off: bool) -> usize
     pick(first, pick(off, 2, 3), pick(off, 0, 1))
 }
 
-fn store_point(points: &mut [[usize; 3]], i: usize, x: usize, y: usize, mark: usize)
-    ensures { points.new ≡ set points.old i (x ∷ y ∷ mark ∷ []) }
-{
-    if i < points.len() {
-        points[i] = [x, y, mark];
-    }
-}
-
 pub fn keep_point(points: &mut [[usize; 3]], met: bool, s: Sum, p: Point)
     ensures { points.new ≡ kept_point points.old met s p }
 {
-    let mark = mark_of(s.here == 0, p.kind == 8027215963192718949);
+    let mark = mark_of(s.here == 0, p.kind == Kind::Offcurve);
     let place = pick(met, s.points, 18446744073709551615);
-    store_point(points, place, offset_of(p.x), offset_of(p.y), mark);
+    store(points, place, [offset_of(p.x), offset_of(p.y), mark]);
 }

@@ -5,9 +5,11 @@ ghost use Rattle.glif.specs.Scan.{fresh_scan, pass, turned, scanned, number_of, 
 use crate::names::{keep_name, wrong_names};
 use crate::outline::{Sum, keep_point, no_sum, point_met, sum_of};
 use crate::tree::{Tree, no_tree, tree_of};
-use gliftext::{Text, both, class_of, either, fresh_text, is_utf8, move_of, pick, text_of};
+use gliftext::{
+    Text, action_of, both, class_of, either, fresh_text, is_utf8, move_of, pick, text_of,
+};
 
-#[derive(Clone, Copy)]
+#[derive(Clone, Copy, Debug, PartialEq, Eq)]
 pub struct Scan {
     pub text: Text,
     pub tree: Tree,
@@ -35,7 +37,7 @@ pub fn turn(bytes: &[u8], i: usize, s: Scan, names: &mut [usize], points: &mut [
     let sum = s.sum;
     let b = bytes[i];
     let m = move_of(old.state, class_of(b));
-    let action = m / 64;
+    let action = action_of(m / 64);
     let text = text_of(old, m % 64, action, b, i);
     let tag = text.tag;
     let name = text.name;
@@ -55,10 +57,8 @@ pub fn scan_bytes(bytes: &[u8], names: &mut [usize], points: &mut [[usize; 3]]) 
         ≡ scanned bytes.now (length bytes.now) names.old points.old }
 {
     let mut s = fresh_scan();
-    let mut i = 0;
-    while i < bytes.len() {
+    for i in 0..bytes.len() {
         s = turn(bytes, i, s, names, points);
-        i += 1;
     }
     s
 }
@@ -77,7 +77,7 @@ fn number_of(s: Scan, utf8: bool) -> usize
 }
 
 // The number of a refusal, or 0; how many contours, how many points as they stand, and as they enter.
-#[derive(Clone, Copy)]
+#[derive(Clone, Copy, Debug, PartialEq, Eq)]
 pub struct Totals {
     pub number: usize,
     pub contours: usize,

@@ -3,10 +3,10 @@ ghost use Rattle.std.specs.Prelude.{◌≡◌};
 ghost use Rattle.gliftext.specs.Pick.{pick};
 ghost use Rattle.glif.specs.Tree.{path_word, on_path, entered, left, text_fits, treed, no_tree, opens_tag};
 
-use gliftext::{both, either, less, more, pick};
+use gliftext::{Action, both, either, less, more, pick};
 
 // `depth` elements are open, the first `level` of them those of the path; the root was met, and an outline.
-#[derive(Clone, Copy)]
+#[derive(Clone, Copy, Debug, PartialEq, Eq)]
 pub struct Tree {
     pub depth: usize,
     pub level: usize,
@@ -88,30 +88,27 @@ fn text_fits(t: Tree) -> bool
     both(0 < t.depth, !both(t.level == t.depth, 2 < t.depth))
 }
 
-fn pick_tree(c: bool, a: Tree, b: Tree) -> Tree
-    ensures { result ≡ pick c a b }
-{
-    if c { a } else { b }
-}
-
-pub fn opens_tag(action: usize) -> bool
+pub fn opens_tag(action: Action) -> bool
     ensures { result ≡ opens_tag action }
 {
-    either(action == 8, action == 9)
+    either(action == Action::Opens, action == Action::Empty)
 }
 
 // An element opens, is empty, or closes; `wrong` is what its names showed.
-pub fn tree_of(t: Tree, action: usize, word: usize, wrong: bool) -> Tree
+pub fn tree_of(t: Tree, action: Action, word: usize, wrong: bool) -> Tree
     ensures { result ≡ treed t action word wrong }
 {
-    let texts = either(action == 11, either(action == 12, action == 14));
-    let inside = enter(t, word);
-    let after = pick_tree(
-        action == 9,
-        leave(inside),
-        pick_tree(action == 10, leave(t), t),
+    let texts = either(
+        action == Action::Content,
+        either(action == Action::Section, action == Action::TextReference),
     );
-    let next = pick_tree(action == 8, inside, after);
+    let inside = enter(t, word);
+    let after = pick(
+        action == Action::Empty,
+        leave(inside),
+        pick(action == Action::Closes, leave(t), t),
+    );
+    let next = pick(action == Action::Opens, inside, after);
     Tree {
         depth: next.depth,
         level: next.level,

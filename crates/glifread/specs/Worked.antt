@@ -2,12 +2,13 @@
 use Rattle.std.specs.Prelude.{ℕ, List, [], ◌∷◌, ◌≡◌, refl, pos, negsuc}
 use Rattle.gliftext.specs.Pick.{pick, more, sum}
 use Rattle.gliftext.specs.Words.{pushed, digit_of, grown, fed_number, named_char, is_char, narrowed}
+use Rattle.gliftext.specs.Actions.{actions, action_of}
 use Rattle.gliftext.specs.Table.{classes, class_of, is_name, table, move_of}
 use Rattle.gliftext.specs.Utf8.{runes, rune_class, rune_table, rune_on, rune_at, is_utf8}
-use Rattle.gliftext.specs.Text.{named, referred, valued, pointed, said, wrong_text, attributed, texted}
+use Rattle.gliftext.specs.Text.{named, referred, valued, kind_of, pointed, said, wrong_text, attributed, texted}
 use Rattle.glif.specs.Tree.{path_word, on_path, entered, left, text_fits, opens_tag, treed}
 use Rattle.glif.specs.Names.{alike, same_name, seen_to, repeated, unclosed, wrong_names, kept_names}
-use Rattle.glif.specs.Outline.{is_number, is_far, offset_of, known, cubic_of, begun, ended}
+use Rattle.glif.specs.Outline.{is_number, is_far, offset_of, cubic_of, begun, ended}
 use Rattle.glif.specs.Outline.{wrong_point, with_point, point_met, contour_met, contour_left, summed, mark_of, kept_point}
 use Rattle.glif.specs.Scan.{turned, scanned, number_of, totals_of, judged_of}
 use Rattle.glifread.specs.Enter.{is_off, is_first, middle_of, signed_of, flag_of, end_of, rows, put_at}
@@ -36,9 +37,9 @@ alone =
     60 ∷ 103 ∷ 108 ∷ 121 ∷ 112 ∷ 104 ∷ 47 ∷ 62 ∷ []
 
 pub reads_alone : reported alone ≡ record { number = 0; contours = 0; points = 0 }
-unfolding pick more sum pushed digit_of grown fed_number named_char is_char narrowed classes class_of is_name table move_of runes rune_class
-    rune_table rune_on rune_at is_utf8 named referred valued pointed said wrong_text attributed texted path_word on_path entered left text_fits opens_tag
-    treed alike same_name seen_to repeated unclosed wrong_names kept_names is_number is_far offset_of known cubic_of begun ended wrong_point with_point
+unfolding pick more sum pushed digit_of grown fed_number named_char is_char narrowed classes class_of is_name table move_of actions action_of runes rune_class
+    rune_table rune_on rune_at is_utf8 named referred valued kind_of pointed said wrong_text attributed texted path_word on_path entered left text_fits opens_tag
+    treed alike same_name seen_to repeated unclosed wrong_names kept_names is_number is_far offset_of cubic_of begun ended wrong_point with_point
     point_met contour_met contour_left summed mark_of kept_point turned scanned number_of totals_of judged_of refusal numbered report_of
 reads_alone = refl
 
@@ -54,17 +55,17 @@ entering =
 
 -- from the on-curve point, with the middle (-1.5, 0.5) between the two off-curve ones
 pub reads_contour : reported entering ≡ record { number = 0; contours = 1; points = 4 }
-unfolding pick more sum pushed digit_of grown fed_number named_char is_char narrowed classes class_of is_name table move_of runes rune_class
-    rune_table rune_on rune_at is_utf8 named referred valued pointed said wrong_text attributed texted path_word on_path entered left text_fits opens_tag
-    treed alike same_name seen_to repeated unclosed wrong_names kept_names is_number is_far offset_of known cubic_of begun ended wrong_point with_point
+unfolding pick more sum pushed digit_of grown fed_number named_char is_char narrowed classes class_of is_name table move_of actions action_of runes rune_class
+    rune_table rune_on rune_at is_utf8 named referred valued kind_of pointed said wrong_text attributed texted path_word on_path entered left text_fits opens_tag
+    treed alike same_name seen_to repeated unclosed wrong_names kept_names is_number is_far offset_of cubic_of begun ended wrong_point with_point
     point_met contour_met contour_left summed mark_of kept_point turned scanned number_of totals_of judged_of refusal numbered report_of
 reads_contour = refl
 
 pub enters_contour : filled_by entering
     ≡ filled (3 ∷ 0 ∷ 0 ∷ 0 ∷ []) (rows (pos 9 ∷ pos 0 ∷ negsuc 1 ∷ negsuc 2 ∷ []) (pos 9 ∷ pos 0 ∷ pos 1 ∷ pos 1 ∷ []) (1 ∷ 0 ∷ 1 ∷ 0 ∷ []))
-unfolding pick more sum pushed digit_of grown fed_number named_char is_char narrowed classes class_of is_name table move_of runes rune_class
-    rune_table rune_on rune_at is_utf8 named referred valued pointed said wrong_text attributed texted path_word on_path entered left text_fits opens_tag
-    treed alike same_name seen_to repeated unclosed wrong_names kept_names is_number is_far offset_of known cubic_of begun ended wrong_point with_point
+unfolding pick more sum pushed digit_of grown fed_number named_char is_char narrowed classes class_of is_name table move_of actions action_of runes rune_class
+    rune_table rune_on rune_at is_utf8 named referred valued kind_of pointed said wrong_text attributed texted path_word on_path entered left text_fits opens_tag
+    treed alike same_name seen_to repeated unclosed wrong_names kept_names is_number is_far offset_of cubic_of begun ended wrong_point with_point
     point_met contour_met contour_left summed mark_of kept_point turned scanned number_of totals_of judged_of refusal numbered report_of is_off is_first
     middle_of signed_of flag_of end_of put_at enter_one enter_to seek_from enter_contour enter_next enter_up_to enter_all
 enters_contour = refl
@@ -78,9 +79,9 @@ commented =
     32 ∷ 45 ∷ 45 ∷ 62 ∷ 60 ∷ 47 ∷ 111 ∷ 117 ∷ 116 ∷ 108 ∷ 105 ∷ 110 ∷ 101 ∷ 62 ∷ 60 ∷ 47 ∷ 103 ∷ 108 ∷ 121 ∷ 112 ∷ 104 ∷ 62 ∷ []
 
 pub reads_no_comment : reported commented ≡ record { number = 0; contours = 0; points = 0 }
-unfolding pick more sum pushed digit_of grown fed_number named_char is_char narrowed classes class_of is_name table move_of runes rune_class
-    rune_table rune_on rune_at is_utf8 named referred valued pointed said wrong_text attributed texted path_word on_path entered left text_fits opens_tag
-    treed alike same_name seen_to repeated unclosed wrong_names kept_names is_number is_far offset_of known cubic_of begun ended wrong_point with_point
+unfolding pick more sum pushed digit_of grown fed_number named_char is_char narrowed classes class_of is_name table move_of actions action_of runes rune_class
+    rune_table rune_on rune_at is_utf8 named referred valued kind_of pointed said wrong_text attributed texted path_word on_path entered left text_fits opens_tag
+    treed alike same_name seen_to repeated unclosed wrong_names kept_names is_number is_far offset_of cubic_of begun ended wrong_point with_point
     point_met contour_met contour_left summed mark_of kept_point turned scanned number_of totals_of judged_of refusal numbered report_of
 reads_no_comment = refl
 
@@ -91,9 +92,9 @@ crossed =
     60 ∷ 47 ∷ 111 ∷ 117 ∷ 116 ∷ 108 ∷ 105 ∷ 110 ∷ 101 ∷ 62 ∷ []
 
 pub refuses_crossed : reported crossed ≡ record { number = 19; contours = 0; points = 0 }
-unfolding pick more sum pushed digit_of grown fed_number named_char is_char narrowed classes class_of is_name table move_of runes rune_class
-    rune_table rune_on rune_at is_utf8 named referred valued pointed said wrong_text attributed texted path_word on_path entered left text_fits opens_tag
-    treed alike same_name seen_to repeated unclosed wrong_names kept_names is_number is_far offset_of known cubic_of begun ended wrong_point with_point
+unfolding pick more sum pushed digit_of grown fed_number named_char is_char narrowed classes class_of is_name table move_of actions action_of runes rune_class
+    rune_table rune_on rune_at is_utf8 named referred valued kind_of pointed said wrong_text attributed texted path_word on_path entered left text_fits opens_tag
+    treed alike same_name seen_to repeated unclosed wrong_names kept_names is_number is_far offset_of cubic_of begun ended wrong_point with_point
     point_met contour_met contour_left summed mark_of kept_point turned scanned number_of totals_of judged_of refusal numbered report_of
 refuses_crossed = refl
 
@@ -106,8 +107,8 @@ fractional =
     62 ∷ 60 ∷ 47 ∷ 111 ∷ 117 ∷ 116 ∷ 108 ∷ 105 ∷ 110 ∷ 101 ∷ 62 ∷ 60 ∷ 47 ∷ 103 ∷ 108 ∷ 121 ∷ 112 ∷ 104 ∷ 62 ∷ []
 
 pub refuses_fractional : reported fractional ≡ record { number = 20; contours = 0; points = 0 }
-unfolding pick more sum pushed digit_of grown fed_number named_char is_char narrowed classes class_of is_name table move_of runes rune_class
-    rune_table rune_on rune_at is_utf8 named referred valued pointed said wrong_text attributed texted path_word on_path entered left text_fits opens_tag
-    treed alike same_name seen_to repeated unclosed wrong_names kept_names is_number is_far offset_of known cubic_of begun ended wrong_point with_point
+unfolding pick more sum pushed digit_of grown fed_number named_char is_char narrowed classes class_of is_name table move_of actions action_of runes rune_class
+    rune_table rune_on rune_at is_utf8 named referred valued kind_of pointed said wrong_text attributed texted path_word on_path entered left text_fits opens_tag
+    treed alike same_name seen_to repeated unclosed wrong_names kept_names is_number is_far offset_of cubic_of begun ended wrong_point with_point
     point_met contour_met contour_left summed mark_of kept_point turned scanned number_of totals_of judged_of refusal numbered report_of
 refuses_fractional = refl

@@ -4,8 +4,7 @@ ghost use Rattle.std.specs.Prelude.{◌≡◌, ◌-◌};
 ghost use Rattle.glifread.specs.Enter.{is_off, is_first, middle_of, signed_of, flag_of, end_of, rows, drawn, walked};
 ghost use Rattle.glifread.specs.Enter.{put_at, enter_one, enter_to, seek_from, enter_contour, enter_next, enter_all, entering, filled};
 
-use crate::place::{point_at, store_i16, store_u8, store_u16};
-use gliftext::{both, choose, less, more, pick, plus};
+use gliftext::{at, both, less, more, pick, plus, store};
 
 fn is_off(mark: usize) -> bool
     ensures { result ≡ is_off mark }
@@ -58,13 +57,13 @@ fn put(xs: &mut [i16], ys: &mut [i16], flags: &mut [u8], i: usize, x: usize, y: 
     ensures { rows xs.new ys.new flags.new
         ≡ put_at i x y off (rows xs.old ys.old flags.old) }
 {
-    store_i16(xs, i, signed(x));
-    store_i16(ys, i, signed(y));
-    store_u8(flags, i, flag_of(off));
+    store(xs, i, signed(x));
+    store(ys, i, signed(y));
+    store(flags, i, flag_of(off));
 }
 
 // The next place of the rows, and the point before it; before a contour's first point none is off-curve.
-#[derive(Clone, Copy)]
+#[derive(Clone, Copy, Debug, PartialEq, Eq)]
 pub struct Pen {
     pub at: usize,
     pub off: bool,
@@ -115,11 +114,9 @@ fn enter_places(
         ≡ enter_to points.now from (to - from) (drawn start (rows xs.old ys.old flags.old)) }
 {
     let mut pen = start;
-    let mut k = 0;
-    let n = less(to, from);
-    while k < n {
-        pen = enter_one(point_at(points, plus(from, k)), pen, xs, ys, flags);
-        k += 1;
+    for k in 0..less(to, from) {
+        let p = at(points, plus(from, k), [0; 3]);
+        pen = enter_one(p, pen, xs, ys, flags);
     }
     pen
 }
@@ -128,15 +125,13 @@ fn enter_places(
 fn seek(points: &[[usize; 3]], from: usize, to: usize, first: bool) -> usize
     ensures { result ≡ seek_from first points.now (to - from) from }
 {
-    let mut i = from;
-    while i < to {
-        let p = point_at(points, i);
-        if choose(first, is_first(p[2]), !is_off(p[2])) {
+    for i in from..to {
+        let p = at(points, i, [0; 3]);
+        if pick(first, is_first(p[2]), !is_off(p[2])) {
             return i;
         }
-        i += 1;
     }
-    i
+    from.max(to)
 }
 
 // A contour of the places from one to another: from its first on-curve point round to it. The next place.
@@ -165,7 +160,7 @@ fn enter_contour(
 }
 
 // Where a walk over the contours stands: the next place of the points, and of the rows.
-#[derive(Clone, Copy)]
+#[derive(Clone, Copy, Debug, PartialEq, Eq)]
 pub struct Walk {
     pub from: usize,
     pub at: usize,
@@ -187,7 +182,7 @@ fn enter_next(
 {
     let to = seek(points, more(w.from), n, true);
     let at = enter_contour(points, w.from, to, w.at, xs, ys, flags);
-    store_u16(ends, k, end_of(at));
+    store(ends, k, end_of(at));
     Walk { from: to, at }
 }
 
@@ -205,9 +200,7 @@ pub fn enter_all(
         ≡ enter_all points.now n contours (filled ends.old (rows xs.old ys.old flags.old)) }
 {
     let mut w = Walk { from: 0, at: 0 };
-    let mut k = 0;
-    while k < contours {
+    for k in 0..contours {
         w = enter_next(points, n, k, w, ends, xs, ys, flags);
-        k += 1;
     }
 }

@@ -2,7 +2,6 @@
 #![tactic(auto)]
 
 mod enter;
-mod place;
 mod read;
 
 pub use crate::read::{GlifReadReport, read_glif};

@@ -1,16 +1,16 @@
 // A file into rows: it is judged whole, with its points in the scratch row; then the contours enter the rows.
-ghost use Rattle.std.specs.Prelude.{◌≡◌};
+ghost use Rattle.std.specs.Prelude.{◌≡◌, length, replicate};
+ghost use Rattle.glifread.specs.Enter.{no_place};
 ghost use Rattle.glifread.specs.Reads.{refusal, report_of, numbered};
 ghost use Rattle.glifread.specs.Entry.{lent, Promise};
 
 use crate::enter::enter_all;
-use crate::place::clear;
 use glif::{Totals, judge};
 use gliftext::pick;
 
 // The number of a refusal, or 0; how many contours and points were read.
 #[repr(C)]
-#[derive(Clone, Copy)]
+#[derive(Clone, Copy, Debug, PartialEq, Eq)]
 pub struct GlifReadReport {
     pub number: u32,
     pub contours: usize,
@@ -43,6 +43,14 @@ fn report_of(f: Totals, k: usize) -> GlifReadReport
         number: small(k),
         contours: pick(k == 0, f.contours, 0),
         points: pick(k == 0, f.full, 0),
+    }
+}
+
+fn clear(points: &mut [[usize; 3]])
+    ensures { points.new ≡ replicate (length points.old) no_place }
+{
+    for i in 0..points.len() {
+        points[i] = [0; 3];
     }
 }
 

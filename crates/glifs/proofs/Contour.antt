@@ -12,15 +12,16 @@ use lib.ListN.{get_or, set}
 use Rattle.lines.specs.Text as Text
 use Rattle.gliftext.specs.Pick.{pick, both, either, most}
 use Rattle.gliftext.specs.Words.{no_number}
-use Rattle.gliftext.specs.Text.{offcurve}
+use Rattle.gliftext.specs.Text.{is_kind}
+use Rattle.gliftext.specs.declared.text.Kind.TheVariants.{Offcurve}
 use Rattle.gliftext.specs.declared.text.Point.{Point}
-use Rattle.glif.specs.Outline.{is_far, offset_of, known, cubic_of, wrong_point, with_point, mark_of}
+use Rattle.glif.specs.Outline.{is_far, offset_of, cubic_of, wrong_point, with_point, mark_of}
 use Rattle.glif.specs.declared.outline.Sum.{Sum}
 use Rattle.glifwrite.specs.Contours.{is_on}
 use Rattle.gliftext.proofs.Picks.{plain_more, not-not}
 use Rattle.glifwrite.specs.Texts.{contour_text, Small}
 use Rattle.glif.proofs.Stems.{Abs, Fed, fed_of, place_of, steps, steps_append, closed_fed}
-use Rattle.glifs.proofs.Point.{Ready, Kept, kind_of, point_of, point_closed, point_read}
+use Rattle.glifs.proofs.Point.{Ready, Kept, written_kind, point_of, point_closed, point_read}
 use Rattle.glifs.specs.Back.{number_in, Enters}
 use Rattle.glifs.proofs.Back.{coordinate_reads_back}
 
@@ -65,7 +66,7 @@ module _ (x y : ℤ) (small_x : mag x < 32768) (small_y : mag y < 32768) (far : 
 
   first_point : (c m f : ℕ) (on before : Bool) → m < most → f < most →
       with_point (sum_of c m f 0 false false false false far) (point_of x y on before) ≡ sum_of c (suc m) (suc f) 1 on (not on) (both on before) (not on) far
-  unfolding with_point wrong_point cubic_of known pick
+  unfolding with_point wrong_point cubic_of pick
   first_point c m f true true h l = rw (plain_more m h, plain_more f l, plain_more 0 (omega arith), still_far, ex.number, ey.number, ex.whole, ey.whole)
   first_point c m f true false h l = rw (plain_more m h, plain_more f l, plain_more 0 (omega arith), still_far, ex.number, ey.number, ex.whole, ey.whole)
   first_point c m f false before h l = rw (plain_more m h, plain_more f l, plain_more 0 (omega arith), still_far, ex.number, ey.number, ex.whole, ey.whole)
@@ -73,7 +74,7 @@ module _ (x y : ℤ) (small_x : mag x < 32768) (small_y : mag y < 32768) (far : 
   next_point : (c m f k : ℕ) (was lead straight off on : Bool) → m < most → suc f < most → suc k < most →
       with_point (sum_of c m f (suc k) was lead straight off far) (point_of x y on (not off))
       ≡ sum_of c (suc m) (enters (both (not on) off) f) (suc (suc k)) (either was on) lead straight (not on) far
-  unfolding with_point wrong_point cubic_of known pick
+  unfolding with_point wrong_point cubic_of pick
   next_point c m f k was lead straight true true h l i =
       rw (plain_more m h, plain_more f (omega arith), plain_more (suc k) i, still_far, ex.number, ey.number, ex.whole, ey.whole, lt-ltb 0 (suc k) (omega arith), ne_eqb (suc k) 0 (λ e. omega arith))
   next_point c m f k was lead straight true false h l i =
@@ -212,7 +213,7 @@ kept_then k l = record {
   points = l.points;
 }
 
-off_kind : (on before : Bool) → eqb (kind_of on before) offcurve ≡ not on
+off_kind : (on before : Bool) → is_kind (written_kind on before) Offcurve ≡ not on
 off_kind true true = refl
 off_kind true false = refl
 off_kind false before = refl

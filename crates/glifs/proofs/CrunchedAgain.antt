@@ -19,9 +19,8 @@ use Rattle.contour.specs.Implied.{number}
 use Rattle.contour.specs.Output.{column, flag_of, flags}
 use Rattle.contour.specs.Kept.{StartsOn}
 use Rattle.crunch.proofs.Written.{comes_back}
-use Rattle.glyf.specs.Layout.{done, refuse, in16, all16}
+use Rattle.glyf.specs.Layout.{in16, all16}
 use Rattle.glyf.proofs.Codes.{and_left, and_right}
-use Rattle.glyf.proofs.Again.{done_is}
 use Rattle.glyphs.specs.Glyphs.{contours_from, together, ends_from}
 use Rattle.glyphs.specs.Separately.{Each}
 use Rattle.glyphs.proofs.Sixteen.{All16, crunched_16, both}
@@ -35,6 +34,7 @@ use Rattle.glif.specs.Scan as Scan
 use Rattle.glifwrite.specs.Contours.{is_on, end_at, start_of}
 use Rattle.glifwrite.specs.Texts.{Small}
 use Rattle.glifwrite.specs.Writes.{GivenRows, given, answer_of}
+use Rattle.glifs.specs.Numbered.{done, refuse}
 use Rattle.glifs.specs.Glifs.{given_of, first_of, read_of, zero_in}
 use Rattle.glifs.specs.Separately.{contours_of}
 use Rattle.glifs.specs.Back.{OnEach, ReadAgain, CrunchedReadAgain}
@@ -159,8 +159,8 @@ zero_16 : (n : Rooms) → Filled16 (zero_in n)
 zero_16 (rooms e x y f m) = so (are (zeros_16 x) (zeros_16 y))
 
 refuse_16 : (k : ℕ) (t : Bool) {g old : GivenRows} → Given16 g → refuse k t (done g) ≡ done old → Given16 old
-refuse_16 k true h e = let z : ◌≡◌ {A = ℕ} 0 1 = cc in absurd (omega arith)
-refuse_16 k false h e = subst Given16 (done_is e) h
+refuse_16 k true h e = absurd cc
+refuse_16 k false {g} {old} h e = let same : g ≡ old = cc in subst Given16 same h
 
 read_16 : (n : Rooms) (bytes : List ℕ) {old : GivenRows} → read_of n bytes ≡ done old → Given16 old
 read_16 n bytes e =

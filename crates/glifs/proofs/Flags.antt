@@ -8,9 +8,10 @@ use borrow.Author.Tests.{le-ltb, ne_eqb, eqb-false}
 use lib.Dec.{eqb}
 use lib.ListN.{get_or}
 use Rattle.gliftext.specs.Pick.{pick}
-use Rattle.gliftext.specs.Text.{wrong_text, texted}
+use Rattle.gliftext.specs.Text.{declared, wrong_text, texted}
 use Rattle.gliftext.specs.Utf8.{rune_class, rune_table, rune_on}
 use Rattle.gliftext.specs.declared.text.Text.{Text}
+use Rattle.gliftext.specs.declared.text.Declaration.TheVariants.{Wrong}
 use Rattle.gliftext.specs.declared.text.Point.{Point}
 use Rattle.glif.specs.Tree.{entered, left, nested, treed}
 use Rattle.glif.specs.Outline.{begun, ended, with_point, point_met, contour_met, contour_left, summed}
@@ -20,6 +21,9 @@ use Rattle.glif.specs.declared.outline.Sum.{Sum}
 use Rattle.gliftext.proofs.Picks.{or-false}
 use Rattle.glif.proofs.Stems.{Abs, fed, step, abs_of, name_at, flat}
 use Rattle.glifs.proofs.Track.{act, to, text_after, word_after, wrong_after, step_is, Fine, at, at_next}
+use Rattle.gliftext.specs.Actions.{does}
+use Rattle.gliftext.specs.declared.action.Action.{Action}
+use Rattle.gliftext.specs.declared.action.Action.TheVariants.{Opens, Empty, Closes}
 
 pub record Flags (a : Abs) : Type 0 where
   pub text : a.text.wrong ≡ false
@@ -27,11 +31,11 @@ pub record Flags (a : Abs) : Type 0 where
   pub bare : a.sum.bare ≡ false
   pub rune : eqb a.rune 10 ≡ false
 
-text_was : (t : Text) (state action b i : ℕ) → (texted t state action b i).wrong ≡ false → t.wrong ≡ false
+text_was : (t : Text) (state : ℕ) (action : Action) (b i : ℕ) → (texted t state action b i).wrong ≡ false → t.wrong ≡ false
 unfolding texted
 text_was t state action b i e = (or-false _ _ e).0
 
-text_known : (t : Text) (state action b i : ℕ) → (texted t state action b i).wrong ≡ false → eqb (texted t state action b i).said 3 ≡ false
+text_known : (t : Text) (state : ℕ) (action : Action) (b i : ℕ) → (texted t state action b i).wrong ≡ false → declared (texted t state action b i).said Wrong ≡ false
 unfolding texted wrong_text
 text_known t state action b i e = (or-false _ _ (or-false _ _ (or-false _ _ (or-false _ _ e).1).1).1).1
 
@@ -43,9 +47,9 @@ left_was : (t : Tree) → (left t).wrong ≡ false → t.wrong ≡ false
 unfolding left
 left_was t e = (or-false _ _ e).0
 
-pub tree_was : (t : Tree) (a word : ℕ) (w : Bool) → (treed t a word w).wrong ≡ false → t.wrong ≡ false
+pub tree_was : (t : Tree) (a : Action) (word : ℕ) (w : Bool) → (treed t a word w).wrong ≡ false → t.wrong ≡ false
 unfolding treed pick
-tree_was t a word w e = by (eqb a 8) (eqb a 9) (eqb a 10) (or-false (nested t a word).wrong _ e).0
+tree_was t a word w e = by (does a Opens) (does a Empty) (does a Closes) (or-false (nested t a word).wrong _ e).0
   where
     by : (x y v : Bool) → (pick x (entered t word) (pick y (left (entered t word)) (pick v (left t) t))).wrong ≡ false → t.wrong ≡ false
     by true y v h = entered_was t word h
@@ -53,7 +57,7 @@ tree_was t a word w e = by (eqb a 8) (eqb a 9) (eqb a 10) (or-false (nested t a 
     by false false true h = left_was t h
     by false false false h = h
 
-pub sum_was : (s : Sum) (t : Tree) (a word : ℕ) (p : Point) → (summed s t a word p).bare ≡ false → s.bare ≡ false
+pub sum_was : (s : Sum) (t : Tree) (a : Action) (word : ℕ) (p : Point) → (summed s t a word p).bare ≡ false → s.bare ≡ false
 unfolding summed begun ended with_point pick
 sum_was s t a word p e = by (contour_met t a word) (point_met t a word) (contour_left t a word) e
   where
@@ -108,15 +112,15 @@ module _ (bs : List ℕ) where
       let later : Flags (at bs (suc i)) = flags_back d (suc i) (subst (λ (v : ℕ). Flags (at bs v)) same g) in
       flags_was (name_at bs 0) (get_or bs i 0) (name_at bs i) (at bs i) (subst (λ (v : Abs). Flags v) (at_next bs i) later)
 
-  said_first : eqb (at bs 0).text.said 3 ≡ false
+  said_first : declared (at bs 0).text.said Wrong ≡ false
   unfolding at abs_of scanned flat
   said_first = refl
 
-  known_at : (i : ℕ) → Flags (at bs i) → eqb (at bs i).text.said 3 ≡ false
+  known_at : (i : ℕ) → Flags (at bs i) → declared (at bs i).text.said Wrong ≡ false
   known_at zero g = said_first
   known_at (suc i) g =
       let is = at_next bs i ∙ step_is (name_at bs 0) (get_or bs i 0) (name_at bs i) (at bs i) in
-      subst (λ (v : Abs). v.text.wrong ≡ false → eqb v.text.said 3 ≡ false) (sym is)
+      subst (λ (v : Abs). v.text.wrong ≡ false → declared v.text.said Wrong ≡ false) (sym is)
       (text_known (at bs i).text (to (at bs i) (get_or bs i 0)) (act (at bs i) (get_or bs i 0)) (get_or bs i 0) 0) g.text
 
   pub fine_at : (i n : ℕ) → i ≤ n → Flags (at bs n) → Fine (at bs i)

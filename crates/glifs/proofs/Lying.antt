@@ -9,7 +9,8 @@ use lib.Dec.{eqb, ltb}
 use lib.ListN.{length, get_or, length-set, replicate}
 use lib.Seq.{get_or-set_same, get_or-set_other}
 use Rattle.gliftext.specs.Pick.{pick, both, either, more}
-use Rattle.gliftext.specs.Text.{offcurve}
+use Rattle.gliftext.specs.Text.{is_kind}
+use Rattle.gliftext.specs.declared.text.Kind.TheVariants.{Offcurve}
 use Rattle.gliftext.specs.declared.text.Point.{Point}
 use Rattle.glif.specs.Tree.{on_path, treed}
 use Rattle.glif.specs.Outline.{begun, ended, with_point, point_met, contour_met, contour_left, summed, kept_point, nowhere, full_end}
@@ -27,6 +28,10 @@ use Rattle.glifs.proofs.Track.{tag_on}
 use Rattle.glifs.proofs.Flags.{tree_was, sum_was}
 use Rattle.glifs.proofs.Entered.{mark_off, mark_first}
 use Rattle.glifs.proofs.Laid.{off_at, first_at, before, one, pairs, size_of, Laid, laid_none, laid_more, laid_least, last_before}
+use Rattle.gliftext.specs.Actions.{does}
+use Rattle.gliftext.proofs.Doing.{does_true, does_false}
+use Rattle.gliftext.specs.declared.action.Action.{Action}
+use Rattle.gliftext.specs.declared.action.Action.TheVariants.{Opens, Empty, Closes}
 
 -- ---- one byte, of which only this is looked at
 
@@ -34,7 +39,7 @@ abbrev pub row_in : Pass → List (List ℕ)
 row_in (pass s names points) = points
 
 pub record Step (p p' : Pass) : Type 0 where
-  pub a : ℕ
+  pub a : Action
   pub word : ℕ
   pub w : Bool
   pub point : Point
@@ -88,7 +93,7 @@ point_grows : (s : Sum) (p : Point) → Grows s (with_point s p)
 unfolding with_point pick
 point_grows s p = record {
   points = more_least s.points;
-  full = by (both (eqb p.kind offcurve) s.off);
+  full = by (both (is_kind p.kind Offcurve) s.off);
 }
   where
     by : (t : Bool) → s.full ≤ pick t (more (more s.full)) (more s.full)
@@ -103,14 +108,14 @@ ended_grows s = record { points = omega arith; full = by (both s.lead s.off) }
     by true = more_least s.full
     by false = omega arith
 
-sum_grows : (s : Sum) (t : Tree) (a word : ℕ) (p : Point) → Grows s (summed s t a word p)
+sum_grows : (s : Sum) (t : Tree) (a : Action) (word : ℕ) (p : Point) → Grows s (summed s t a word p)
 unfolding summed
 sum_grows s t a word p =
     let b = pick_grows (contour_met t a word) s (begun s) s (begun_grows s) (grows_self s) in
     let m = pick_grows (point_met t a word) s _ _ (grows_then b (point_grows _ p)) b in
     pick_grows (contour_left t a word) s _ _ (grows_then m (ended_grows _)) m
 
-far_was : (s : Sum) (t : Tree) (a word : ℕ) (p : Point) → (summed s t a word p).far ≡ false → s.far ≡ false
+far_was : (s : Sum) (t : Tree) (a : Action) (word : ℕ) (p : Point) → (summed s t a word p).far ≡ false → s.far ≡ false
 unfolding summed begun ended with_point pick
 far_was s t a word p e = by (contour_met t a word) (point_met t a word) (contour_left t a word) e
   where
@@ -178,7 +183,7 @@ module _ (bs : List ℕ) (row₀ : List (List ℕ)) where
     abbrev st : Step (pass_at i) (pass_at (suc i))
     st = step_at_lem i
 
-    abbrev a : ℕ
+    abbrev a : Action
     a = st.a
 
     abbrev word : ℕ
@@ -194,9 +199,9 @@ module _ (bs : List ℕ) (row₀ : List (List ℕ)) where
     way_is = way_of g.fits went_is
 
     still_shallow : (tree_at (suc i)).depth ≤ 256
-    still_shallow = subst (λ (v : Tree). v.depth ≤ 256) (sym st.tree) (by (eqb a 8) refl)
+    still_shallow = subst (λ (v : Tree). v.depth ≤ 256) (sym st.tree) (by (does a Opens) refl)
       where
-        by : (x : Bool) → eqb a 8 ≡ x → (treed (tree_at i) a word st.w).depth ≤ 256
+        by : (x : Bool) → does a Opens ≡ x → (treed (tree_at i) a word st.w).depth ≤ 256
         by true e = omega (arith, depth_opens (tree_at i) word st.w a e g.shallow, opens_shallow (tree_at i) word st.w a e fine)
         by false e = omega (arith, depth_less (tree_at i) word st.w a e g.shallow, g.shallow)
 
@@ -206,20 +211,20 @@ module _ (bs : List ℕ) (row₀ : List (List ℕ)) where
     outer_sum : (tree_at i).level ≤ 2 → (tree_at (suc i)).level ≤ 2 → sum_at (suc i) ≡ sum_at i
     outer_sum l l' = st.sum ∙ quiet_sum (quiet l l') (sum_at i) st.point
 
-    not_a : (x y : ℕ) → eqb a x ≡ true → (x ≡ y → ⊥) → eqb a y ≡ false
-    not_a x y e h = ne_eqb a y (λ k. h (sym (eqb-true a x e) ∙ k))
+    not_a : (x y : Action) → does a x ≡ true → (x ≡ y → ⊥) → does a y ≡ false
+    not_a x y e h = does_false a y (λ k. h (sym (does_true a x e) ∙ k))
 
-    opens_sum : eqb a 8 ≡ true → on_path (tree_at i) word ≡ true → (tree_at i).level ≡ 2 → sum_at (suc i) ≡ begun (sum_at i)
+    opens_sum : does a Opens ≡ true → on_path (tree_at i) word ≡ true → (tree_at i).level ≡ 2 → sum_at (suc i) ≡ begun (sum_at i)
     unfolding pick
     opens_sum e o l =
         st.sum
         ∙ summed_by (sum_at i) (tree_at i) a word st.point (contour_on (tree_at i) a word (tag_on a e) l o) (point_off (tree_at i) a word (λ k. omega arith))
-        (left_open (tree_at i) a word (not_a 8 10 e (λ k. omega (arith, k))) (not_a 8 9 e (λ k. omega (arith, k))))
+        (left_open (tree_at i) a word (not_a Opens Closes e (λ k. cc)) (not_a Opens Empty e (λ k. cc)))
 
-    closes_sum : eqb a 10 ≡ true → (tree_at i).level ≡ 3 → (tree_at i).depth ≡ 3 → sum_at (suc i) ≡ ended (sum_at i)
+    closes_sum : does a Closes ≡ true → (tree_at i).level ≡ 3 → (tree_at i).depth ≡ 3 → sum_at (suc i) ≡ ended (sum_at i)
     unfolding pick
     closes_sum e l d =
-        let none = met_none (tree_at i) a word (tags_none (tree_at i) a word (not_a 10 8 e (λ k. omega (arith, k))) (not_a 10 9 e (λ k. omega (arith, k)))) in
+        let none = met_none (tree_at i) a word (tags_none (tree_at i) a word (not_a Closes Opens e (λ k. cc)) (not_a Closes Empty e (λ k. cc))) in
         st.sum ∙ summed_by (sum_at i) (tree_at i) a word st.point none.0 none.1 (left_closed (tree_at i) a word e l d)
 
     inner_sum : 2 < (tree_at i).level → 2 < (tree_at (suc i)).level → sum_at (suc i) ≡ pick (point_met (tree_at i) a word) (with_point (sum_at i) st.point) (sum_at i)
@@ -304,7 +309,7 @@ end_more ps false x h = omega arith
 
 module _ (ps : List (List ℕ)) (s : Sum) (p : Point) (o : Open ps s) (small : (with_point s p).full ≤ 65536) where
   abbrev off' : Bool
-  off' = eqb p.kind offcurve
+  off' = is_kind p.kind Offcurve
 
   full_is : (with_point s p).full ≡ s.full + 1 + one ps (both s.off off')
   unfolding with_point

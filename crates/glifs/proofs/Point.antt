@@ -11,15 +11,19 @@ use lib.Seq.{get_or-set_same, get_or-set_other}
 use Rattle.gliftext.specs.Pick.{pick, more, sum}
 use Rattle.gliftext.specs.Table.{classes, class_of, is_name, table, move_of}
 use Rattle.gliftext.specs.Words.{pushed, no_number, fed_number, narrowed}
-use Rattle.gliftext.specs.Text.{named, referred, valued, pointed, said, wrong_text, attributed, texted, no_point, offcurve}
+use Rattle.gliftext.specs.Text.{named, referred, valued, kind_of, pointed, declared, said, wrong_text, attributed, texted, no_point}
 use Rattle.gliftext.specs.Utf8.{runes, rune_class, rune_table, rune_on}
 use Rattle.gliftext.specs.declared.word.Number.{Number}
 use Rattle.gliftext.specs.declared.text.Name.{Name}
 use Rattle.gliftext.specs.declared.text.Value.{Value}
 use Rattle.gliftext.specs.declared.text.Point.{Point}
+use Rattle.gliftext.specs.declared.text.Kind.{Kind}
+use Rattle.gliftext.specs.declared.text.Kind.TheVariants.{Line, Qcurve, Offcurve}
+use Rattle.gliftext.specs.declared.text.Declaration.{Declaration}
+use Rattle.gliftext.specs.declared.text.Declaration.TheVariants.{Wrong}
 use Rattle.glif.specs.Names.{alike}
 use Rattle.glif.specs.Tree.{path_word, on_path, entered, left, text_fits, opens_tag, treed}
-use Rattle.glif.specs.Outline.{point_met, contour_met, contour_left, summed, with_point, line, qcurve}
+use Rattle.glif.specs.Outline.{point_met, contour_met, contour_left, summed, with_point}
 use Rattle.glif.specs.declared.tree.Tree.{Tree}
 use Rattle.glif.specs.declared.outline.Sum.{Sum}
 use lib.IntN.{ℤ, pos, negsuc}
@@ -29,13 +33,14 @@ use Rattle.glifwrite.specs.Texts.{kind_text, point_text}
 use Rattle.glif.proofs.Stems.{stem, Abs, Fed, fed, fed_of, seen_in, wrong_in, kept_in, place_of, point_in, moved, step, steps, steps_append, Closed, last}
 use Rattle.glif.proofs.Stems.{closed_append, closed_fed}
 use Rattle.glifs.specs.Back.{number_in, word_in}
+use Rattle.gliftext.specs.Actions.{actions, action_of}
 
 -- in a contour: glyph, outline, contour
 abbrev pub in_contour : Tree
 in_contour = record { depth = 3; level = 3; root = true; outline = true; wrong = false }
 
 -- what is remembered there, between two characters
-abbrev pub here : ℕ → Name → Name → ℕ → Value → Point → ℕ → ℕ → Sum → List ℕ → List ℕ → List (List ℕ) → List (List ℕ) → Abs
+abbrev pub here : ℕ → Name → Name → ℕ → Value → Point → Declaration → ℕ → Sum → List ℕ → List ℕ → List (List ℕ) → List (List ℕ) → Abs
 here state tag name r v p d n sm tagStem nameStem names points =
     record {
       text = record { state = state; tag = tag; name = name; refer = r; value = v; point = p; said = d; attributes = n; wrong = false };
@@ -66,10 +71,10 @@ y_stem = 121 ∷ 0 ∷ []
 abbrev type_stem : List ℕ
 type_stem = 116 ∷ 121 ∷ 112 ∷ 101 ∷ 0 ∷ []
 
-module _ (z : List ℕ) (tg nm : Name) (r : ℕ) (v : Value) (p : Point) (d n : ℕ) (sm : Sum) (ts ns : List ℕ) (names points : List (List ℕ)) (known : eqb d 3 ≡ false) (room : 5 < length names) where
+module _ (z : List ℕ) (tg nm : Name) (r : ℕ) (v : Value) (p : Point) (d : Declaration) (n : ℕ) (sm : Sum) (ts ns : List ℕ) (names points : List (List ℕ)) (known : declared d Wrong ≡ false) (room : 5 < length names) where
   opens : steps z (fed_of opening) (here 12 tg nm r v p d n sm ts ns names points)
       ≡ here 21 (at_word 482905517684) (at_word 120) r no_value no_point d 1 sm point_stem x_stem (set names 3 x_stem) points
-  unfolding steps step moved fed_of stem is_name class_of classes table move_of pick more sum texted named pushed referred valued pointed said wrong_text attributed
+  unfolding steps step moved fed_of stem is_name class_of classes table move_of actions action_of pick more sum texted named pushed referred valued pointed said wrong_text attributed
       treed summed point_met contour_met contour_left opens_tag on_path text_fits wrong_in seen_in kept_in point_in rune_on rune_class runes rune_table
   opens = rw (known, lt-leb (length names) 3 (omega arith))
 
@@ -123,12 +128,12 @@ plain_signed (negsuc n) = also minus (plain_decimal (suc (suc n)) (suc n))
 abbrev value_in : List ℕ → Value → Value
 value_in bs v = record { number = number_in bs v.number; word = word_in bs v.word }
 
-module _ (z : List ℕ) (tg nm : Name) (r : ℕ) (p : Point) (d n : ℕ) (sm : Sum) (ts ns : List ℕ) (names points : List (List ℕ)) (known : eqb d 3 ≡ false) where
+module _ (z : List ℕ) (tg nm : Name) (r : ℕ) (p : Point) (d : Declaration) (n : ℕ) (sm : Sum) (ts ns : List ℕ) (names points : List (List ℕ)) (known : declared d Wrong ≡ false) where
   abbrev reading : Value → Abs
   reading v = here 21 tg nm r v p d n sm ts ns names points
 
   one_byte : (b : ℕ) (st : List ℕ) (v : Value) → Plain b → step z (fed b st) (reading v) ≡ reading (record { number = fed_number v.number b; word = pushed v.word b })
-  unfolding step moved pick more sum texted named referred valued pointed said wrong_text attributed
+  unfolding step moved actions action_of pick more sum texted named referred valued pointed said wrong_text attributed
       treed summed point_met contour_met contour_left opens_tag on_path text_fits wrong_in seen_in kept_in point_in rune_on rune_table
   one_byte b st v q = rw (q.move, q.rune, q.small, known)
 
@@ -144,35 +149,35 @@ module _ (z : List ℕ) (tg nm : Name) (r : ℕ) (p : Point) (d n : ℕ) (sm : S
 abbrev point_word : Name
 point_word = at_word 482905517684
 
-module _ (z : List ℕ) (r : ℕ) (v : Value) (d : ℕ) (sm : Sum) (names points : List (List ℕ)) (known : eqb d 3 ≡ false) (room : 5 < length names) where
+module _ (z : List ℕ) (r : ℕ) (v : Value) (d : Declaration) (sm : Sum) (names points : List (List ℕ)) (known : declared d Wrong ≡ false) (room : 5 < length names) where
   turns : get_or names 3 z ≡ x_stem → steps z (fed_of between) (here 21 point_word (at_word 120) r v no_point d 1 sm point_stem x_stem names points)
-      ≡ here 21 point_word (at_word 121) r no_value (record { x = v.number; y = no_number; kind = offcurve }) d 2 sm point_stem y_stem (set names 4 y_stem) points
-  unfolding steps step moved fed_of stem is_name class_of classes table move_of pick more sum texted named pushed referred valued pointed said wrong_text attributed
+      ≡ here 21 point_word (at_word 121) r no_value (record { x = v.number; y = no_number; kind = Offcurve }) d 2 sm point_stem y_stem (set names 4 y_stem) points
+  unfolding steps step moved fed_of stem is_name class_of classes table move_of actions action_of pick more sum texted named pushed referred valued pointed said wrong_text attributed
       treed summed point_met contour_met contour_left opens_tag on_path text_fits wrong_in seen_in kept_in point_in rune_on rune_class runes rune_table alike
   turns e = rw (known, lt-leb (length names) 4 (omega arith), e)
 
   module _ (nx : Number) where
     abbrev before : Abs
-    before = here 21 point_word (at_word 121) r v (record { x = nx; y = no_number; kind = offcurve }) d 2 sm point_stem y_stem names points
+    before = here 21 point_word (at_word 121) r v (record { x = nx; y = no_number; kind = Offcurve }) d 2 sm point_stem y_stem names points
 
     -- `" type="`
     typed : get_or names 3 z ≡ x_stem → get_or names 4 z ≡ y_stem → steps z (fed_of (34 ∷ 32 ∷ 116 ∷ 121 ∷ 112 ∷ 101 ∷ 61 ∷ 34 ∷ [])) before
-        ≡ here 21 point_word (at_word 1954115685) r no_value (record { x = nx; y = v.number; kind = offcurve }) d 3 sm point_stem type_stem (set names 5 type_stem) points
-    unfolding steps step moved fed_of stem is_name class_of classes table move_of pick more sum texted named pushed referred valued pointed said wrong_text attributed
+        ≡ here 21 point_word (at_word 1954115685) r no_value (record { x = nx; y = v.number; kind = Offcurve }) d 3 sm point_stem type_stem (set names 5 type_stem) points
+    unfolding steps step moved fed_of stem is_name class_of classes table move_of actions action_of pick more sum texted named pushed referred valued pointed said wrong_text attributed
         treed summed point_met contour_met contour_left opens_tag on_path text_fits wrong_in seen_in kept_in point_in rune_on rune_class runes rune_table alike
     typed three four = rw (known, lt-leb (length names) 5 (omega arith), three, four)
 
     abbrev after : Name → ℕ → List ℕ → Point → Abs
     after nm n ns p = here 12 point_word nm r v p d n (with_point sm p) point_stem ns names (set points sm.points (place_of sm p))
 
-    ends_off : (b : Bool) → steps z (fed_of (closing ++ kind_text false b)) before ≡ after (at_word 121) 2 y_stem (record { x = nx; y = v.number; kind = offcurve })
-    unfolding steps step moved fed_of stem is_name class_of classes table move_of pick more sum texted named pushed referred valued pointed said wrong_text attributed
+    ends_off : (b : Bool) → steps z (fed_of (closing ++ kind_text false b)) before ≡ after (at_word 121) 2 y_stem (record { x = nx; y = v.number; kind = Offcurve })
+    unfolding steps step moved fed_of stem is_name class_of classes table move_of actions action_of pick more sum texted named pushed referred valued pointed said wrong_text attributed
         treed summed point_met contour_met contour_left opens_tag on_path entered left path_word text_fits wrong_in seen_in kept_in point_in rune_on rune_class runes rune_table alike kind_text
     ends_off b = rw known
 
-    ends_on : (ny : Number) → steps z (fed_of (34 ∷ 47 ∷ 62 ∷ [])) (here 21 point_word (at_word 1954115685) r v (record { x = nx; y = ny; kind = offcurve }) d 3 sm point_stem type_stem names points)
-        ≡ after (at_word 1954115685) 3 type_stem (record { x = nx; y = ny; kind = v.word })
-    unfolding steps step moved fed_of stem is_name class_of classes table move_of pick more sum texted named pushed referred valued pointed said wrong_text attributed
+    ends_on : (ny : Number) → steps z (fed_of (34 ∷ 47 ∷ 62 ∷ [])) (here 21 point_word (at_word 1954115685) r v (record { x = nx; y = ny; kind = Offcurve }) d 3 sm point_stem type_stem names points)
+        ≡ after (at_word 1954115685) 3 type_stem (record { x = nx; y = ny; kind = kind_of v.word })
+    unfolding steps step moved fed_of stem is_name class_of classes table move_of actions action_of pick more sum texted named pushed referred valued pointed said wrong_text attributed
         treed summed point_met contour_met contour_left opens_tag on_path entered left path_word text_fits wrong_in seen_in kept_in point_in rune_on rune_class runes rune_table alike
     ends_on ny = rw known
 
@@ -181,7 +186,7 @@ module _ (z : List ℕ) (r : ℕ) (v : Value) (d : ℕ) (sm : Sum) (names points
 pub record Ready (w : Abs) : Type 0 where
   pub state : w.text.state ≡ 12
   pub clean : w.text.wrong ≡ false
-  pub known : eqb w.text.said 3 ≡ false
+  pub known : declared w.text.said Wrong ≡ false
   pub tree : w.tree ≡ in_contour
   pub rune : w.rune ≡ 0
   pub room : 5 < length w.names
@@ -195,13 +200,13 @@ pub record Kept (z : List ℕ) (w w' : Abs) (sm : Sum) (ps : List (List ℕ)) : 
   pub sum : w'.sum ≡ sm
   pub points : w'.points ≡ ps
 
-abbrev pub kind_of : Bool → Bool → ℕ
-kind_of true true = line
-kind_of true false = qcurve
-kind_of false before = offcurve
+abbrev pub written_kind : Bool → Bool → Kind
+written_kind true true = Line
+written_kind true false = Qcurve
+written_kind false before = Offcurve
 
 abbrev pub point_of : ℤ → ℤ → Bool → Bool → Point
-point_of x y on before = record { x = number_in (signed_of x) no_number; y = number_in (signed_of y) no_number; kind = kind_of on before }
+point_of x y on before = record { x = number_in (signed_of x) no_number; y = number_in (signed_of y) no_number; kind = written_kind on before }
 
 letters : AllPlain (108 ∷ 105 ∷ 110 ∷ 101 ∷ []) × AllPlain (113 ∷ 99 ∷ 117 ∷ 114 ∷ 118 ∷ 101 ∷ [])
 unfolding move_of pick table class_of classes rune_class runes narrowed
@@ -213,12 +218,12 @@ letters = (
       (also (record { move = refl; rune = refl; small = refl }) (also (record { move = refl; rune = refl; small = refl }) none))))),
 )
 
-line_word : word_in (108 ∷ 105 ∷ 110 ∷ 101 ∷ []) 0 ≡ line
-unfolding word_in pushed pick
+line_word : kind_of (word_in (108 ∷ 105 ∷ 110 ∷ 101 ∷ []) 0) ≡ Line
+unfolding word_in pushed pick kind_of
 line_word = refl
 
-curve_word : word_in (113 ∷ 99 ∷ 117 ∷ 114 ∷ 118 ∷ 101 ∷ []) 0 ≡ qcurve
-unfolding word_in pushed pick
+curve_word : kind_of (word_in (113 ∷ 99 ∷ 117 ∷ 114 ∷ 118 ∷ 101 ∷ []) 0) ≡ Qcurve
+unfolding word_in pushed pick kind_of
 curve_word = refl
 
 abbrev typing : List ℕ
@@ -258,7 +263,7 @@ point_closed x y on before =
 run_closed : (z : List ℕ) {u : List ℕ} → Closed u → (v : List ℕ) (w : Abs) → steps z (fed_of (u ++ v)) w ≡ steps z (fed_of v) (steps z (fed_of u) w)
 run_closed z {u} c v w = ap (λ (l : List Fed). steps z l w) (closed_fed c v) ∙ steps_append z (fed_of u) (fed_of v) w
 
-module _ (z : List ℕ) (tg nm : Name) (r : ℕ) (v : Value) (p : Point) (d n : ℕ) (sm : Sum) (ts ns : List ℕ) (names points : List (List ℕ)) (known : eqb d 3 ≡ false) (room : 5 < length names) where
+module _ (z : List ℕ) (tg nm : Name) (r : ℕ) (v : Value) (p : Point) (d : Declaration) (n : ℕ) (sm : Sum) (ts ns : List ℕ) (names points : List (List ℕ)) (known : declared d Wrong ≡ false) (room : 5 < length names) where
   abbrev start : Abs
   start = here 12 tg nm r v p d n sm ts ns names points
 
@@ -288,14 +293,14 @@ module _ (z : List ℕ) (tg nm : Name) (r : ℕ) (v : Value) (p : Point) (d n : 
 
   -- both numbers read, at the quotation mark after them
   numbers : (x y : ℤ) (rest : List ℕ) → steps z (fed_of (opening ++ (signed_of x ++ (between ++ (signed_of y ++ rest))))) start
-      ≡ steps z (fed_of rest) (here 21 point_word (at_word 121) r (x_text y) (record { x = number_in (signed_of x) no_number; y = no_number; kind = offcurve }) d 2 sm point_stem y_stem named4 points)
+      ≡ steps z (fed_of rest) (here 21 point_word (at_word 121) r (x_text y) (record { x = number_in (signed_of x) no_number; y = no_number; kind = Offcurve }) d 2 sm point_stem y_stem named4 points)
   numbers x y rest =
       run_closed z opening_closed (signed_of x ++ (between ++ (signed_of y ++ rest))) start
       ∙ ap (steps z (fed_of (signed_of x ++ (between ++ (signed_of y ++ rest))))) (opens z tg nm r v p d n sm ts ns names points known room)
       ∙ bytes z point_word (at_word 120) r no_point d 1 sm point_stem x_stem named3 points known (signed_of x) (between ++ (signed_of y ++ rest)) no_value (plain_signed x)
       ∙ run_closed z between_closed (signed_of y ++ rest) _
       ∙ ap (steps z (fed_of (signed_of y ++ rest))) (turns z r (x_text x) d sm named3 points known (omega (arith, long3)) at3)
-      ∙ bytes z point_word (at_word 121) r (record { x = number_in (signed_of x) no_number; y = no_number; kind = offcurve }) d 2 sm point_stem y_stem named4 points known (signed_of y) rest no_value (plain_signed y)
+      ∙ bytes z point_word (at_word 121) r (record { x = number_in (signed_of x) no_number; y = no_number; kind = Offcurve }) d 2 sm point_stem y_stem named4 points known (signed_of y) rest no_value (plain_signed y)
 
   -- names that are put at 3 and later
   kept_here : {nm' : Name} {v' : Value} {n' : ℕ} {ns' : List ℕ} (x : Point) (sm' : Sum) (names' points' : List (List ℕ)) → length names' ≡ length names →
@@ -332,29 +337,29 @@ module _ (z : List ℕ) (tg nm : Name) (r : ℕ) (v : Value) (p : Point) (d n : 
       (kept_here (point_of x y false before) _ named4 _ long4 below4)
 
   -- a type, from its letters
-  read_on : (x y : ℤ) (word : List ℕ) (kind : ℕ) → AllPlain word → word_in word 0 ≡ kind →
+  read_on : (x y : ℤ) (word : List ℕ) (kind : Kind) → AllPlain word → kind_of (word_in word 0) ≡ kind →
       let p : Point = record { x = number_in (signed_of x) no_number; y = number_in (signed_of y) no_number; kind = kind } in
       Kept z start (steps z (fed_of (opening ++ (signed_of x ++ (between ++ (signed_of y ++ (typing ++ (word ++ ending))))))) start) (with_point sm p) (set points sm.points (place_of sm p))
   read_on x y word kind plain is =
       let p : Point = record { x = number_in (signed_of x) no_number; y = number_in (signed_of y) no_number; kind = kind } in
-      let q : ℕ → Point = λ k. record { x = number_in (signed_of x) no_number; y = number_in (signed_of y) no_number; kind = k } in
+      let q : Kind → Point = λ k. record { x = number_in (signed_of x) no_number; y = number_in (signed_of y) no_number; kind = k } in
       let nx : Number = number_in (signed_of x) no_number in
       let ny : Number = number_in (signed_of y) no_number in
       let run : steps z (fed_of (opening ++ (signed_of x ++ (between ++ (signed_of y ++ (typing ++ (word ++ ending))))))) start
-      ≡ here 12 point_word (at_word 1954115685) r (value_in word no_value) (q (word_in word 0)) d 3 (with_point sm (q (word_in word 0))) point_stem type_stem named5 (set points sm.points (place_of sm (q (word_in word 0)))) =
+      ≡ here 12 point_word (at_word 1954115685) r (value_in word no_value) (q (kind_of (word_in word 0))) d 3 (with_point sm (q (kind_of (word_in word 0)))) point_stem type_stem named5 (set points sm.points (place_of sm (q (kind_of (word_in word 0))))) =
       numbers x y (typing ++ (word ++ ending))
       ∙ run_closed z typing_closed (word ++ ending) _
       ∙ ap (steps z (fed_of (word ++ ending))) (typed z r (x_text y) d sm named4 points known (omega (arith, long4)) nx at34 at4)
-      ∙ bytes z point_word (at_word 1954115685) r (record { x = nx; y = ny; kind = offcurve }) d 3 sm point_stem type_stem named5 points known word ending no_value plain
+      ∙ bytes z point_word (at_word 1954115685) r (record { x = nx; y = ny; kind = Offcurve }) d 3 sm point_stem type_stem named5 points known word ending no_value plain
       ∙ ends_on z r (value_in word no_value) d sm named5 points known (omega (arith, long5)) nx ny in
-      let kept = kept_here {nm' = at_word 1954115685} {v' = value_in word no_value} {n' = 3} {ns' = type_stem} (q (word_in word 0)) (with_point sm (q (word_in word 0))) named5 (set points sm.points (place_of sm (q (word_in word 0)))) long5 below5 in
-      subst (λ (k : ℕ). Kept z start (steps z (fed_of (opening ++ (signed_of x ++ (between ++ (signed_of y ++ (typing ++ (word ++ ending))))))) start) (with_point sm (q k)) (set points sm.points (place_of sm (q k)))) is
-      (subst (λ (w : Abs). Kept z start w (with_point sm (q (word_in word 0))) (set points sm.points (place_of sm (q (word_in word 0))))) (sym run) kept)
+      let kept = kept_here {nm' = at_word 1954115685} {v' = value_in word no_value} {n' = 3} {ns' = type_stem} (q (kind_of (word_in word 0))) (with_point sm (q (kind_of (word_in word 0)))) named5 (set points sm.points (place_of sm (q (kind_of (word_in word 0))))) long5 below5 in
+      subst (λ (k : Kind). Kept z start (steps z (fed_of (opening ++ (signed_of x ++ (between ++ (signed_of y ++ (typing ++ (word ++ ending))))))) start) (with_point sm (q k)) (set points sm.points (place_of sm (q k)))) is
+      (subst (λ (w : Abs). Kept z start w (with_point sm (q (kind_of (word_in word 0)))) (set points sm.points (place_of sm (q (kind_of (word_in word 0)))))) (sym run) kept)
 
   read : (x y : ℤ) (on before : Bool) → Read x y on before
   unfolding point_text kind_text
-  read x y true true = read_on x y (108 ∷ 105 ∷ 110 ∷ 101 ∷ []) line letters.0 line_word
-  read x y true false = read_on x y (113 ∷ 99 ∷ 117 ∷ 114 ∷ 118 ∷ 101 ∷ []) qcurve letters.1 curve_word
+  read x y true true = read_on x y (108 ∷ 105 ∷ 110 ∷ 101 ∷ []) Line letters.0 line_word
+  read x y true false = read_on x y (113 ∷ 99 ∷ 117 ∷ 114 ∷ 118 ∷ 101 ∷ []) Qcurve letters.1 curve_word
   read x y false before = read_off x y before
 
 pub point_read : (z : List ℕ) (w : Abs) → Ready w → (x y : ℤ) (on before : Bool) →
@@ -381,10 +386,10 @@ less_moves : move_of 12 2 ≡ 15
 unfolding move_of table pick
 less_moves = refl
 
-less_here : (z : List ℕ) (b : ℕ) (st : List ℕ) (tg nm : Name) (r : ℕ) (v : Value) (p : Point) (d n : ℕ) (sm : Sum) (ts ns : List ℕ) (names points : List (List ℕ)) →
-    eqb d 3 ≡ false → class_of b ≡ 2 → rune_class b ≡ 0 →
+less_here : (z : List ℕ) (b : ℕ) (st : List ℕ) (tg nm : Name) (r : ℕ) (v : Value) (p : Point) (d : Declaration) (n : ℕ) (sm : Sum) (ts ns : List ℕ) (names points : List (List ℕ)) →
+    declared d Wrong ≡ false → class_of b ≡ 2 → rune_class b ≡ 0 →
     step z (fed b st) (here 12 tg nm r v p d n sm ts ns names points) ≡ here 15 tg nm r v p d n sm ts ns names points
-unfolding step moved pick more sum texted named referred valued pointed said wrong_text attributed
+unfolding step moved actions action_of pick more sum texted named referred valued pointed said wrong_text attributed
     treed summed point_met contour_met contour_left opens_tag on_path text_fits wrong_in seen_in kept_in point_in rune_on rune_table
 less_here z b st tg nm r v p d n sm ts ns names points known class rune = rw (class, less_moves, rune, known)
 

@@ -13,7 +13,6 @@ use Rattle.contour.specs.Output.{column, flags, front}
 use Rattle.contour.specs.Output as Output
 use Rattle.contour.specs.Implied.{number}
 use Rattle.contour.specs.Laws.{front_first}
-use Rattle.glyf.specs.Layout.{done, refused, refuse}
 use Rattle.glyphs.specs.Glyphs.{together, ends_from}
 use Rattle.gliftext.specs.Pick.{pick, most}
 use Rattle.glif.specs.Outline.{nowhere}
@@ -26,6 +25,7 @@ use Rattle.glifread.specs.declared.read.GlifReadReport.{GlifReadReport}
 use Rattle.glifwrite.specs.Contours.{is_on, end_at, start_of}
 use Rattle.glifwrite.specs.Writes.{GivenRows, given, file_in}
 use Rattle.glifwrite.specs.Texts.{written}
+use Rattle.glifs.specs.Numbered.{done, refused, refuse}
 use Rattle.glifs.specs.Glifs.{given_of, first_of, found_by, read_of, zero_in}
 use Rattle.glifs.specs.Back.{OnCurve, OnEach, explicit_each, explicit_count, NoFault, RowsReadExplicit, RowsReadWithoutFault}
 use Rattle.glifs.proofs.Contour.{on_to, Sound}

@@ -11,7 +11,6 @@ use lib.ListN.{length, take, replicate, length-replicate}
 use Rattle.gliftext.specs.Pick.{pick}
 use Rattle.glif.specs.Scan.{Judged, judged}
 use Rattle.glif.specs.declared.scan.Totals.{Totals}
-use Rattle.glyf.specs.Layout.{Outcome, done, refused, refuse}
 use Rattle.edition.specs.Edition as Edition
 use Rattle.settings.specs.declared.Settings.{Settings}
 use Rattle.glifread.specs.Enter.{no_place, Filled, filled, rows}
@@ -21,6 +20,7 @@ use Rattle.glifread.specs.Entry.{judged_in, Promise}
 use Rattle.glifread.specs.declared.read.GlifReadReport.{GlifReadReport}
 use Rattle.glifwrite.specs.Writes.{GivenRows, given}
 use Rattle.glifwrite.specs.declared.write.GlifWriteReport.{GlifWriteReport}
+use Rattle.glifs.specs.Numbered.{Outcome, done, refused, refuse}
 use Rattle.glifs.specs.Glifs.{Rooms, zero_rows, found_by, read_of, refused_by, renewed_of, crunch_glif_of}
 use Rattle.glifs.specs.Entry.{zero_kept}
 use Rattle.glifs.specs.Stands.{InRows, Writes}

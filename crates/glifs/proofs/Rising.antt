@@ -15,11 +15,12 @@ use Rattle.glif.specs.Scan.{Pass, pass, Judged, judged, totals_of}
 use Rattle.glif.proofs.Stems.{points_in}
 use Rattle.glif.specs.declared.scan.Scan.{Scan}
 use Rattle.glif.specs.declared.scan.Totals.{Totals}
-use Rattle.glyf.specs.Layout.{done, refuse, count_of, rising}
+use Rattle.glyf.specs.Layout.{count_of, rising}
 use Rattle.glifread.specs.Enter.{no_place, Rows, rows, filled, entering, enter_up_to, at_end, enter_all}
 use Rattle.glifread.specs.Reads.{refusal, numbered, report_of, Rooms, rooms, refusal_in, answer_by, enters_by}
 use Rattle.glifread.specs.Entry.{judged_in}
 use Rattle.glifwrite.specs.Writes.{GivenRows, given, scan_in}
+use Rattle.glifs.specs.Numbered.{done, refuse}
 use Rattle.glifs.specs.Separately.{ReadBelongs}
 use Rattle.glifs.specs.Glifs.{zero_in, first_of, found_by, read_of, belong}
 use Rattle.glifs.proofs.Written.{Accepted, accepted, below, file_small, judged_by_lem, found_number}

@@ -1,4 +1,5 @@
 -- Rows that are written are read back. Assumes nothing.
+use Rattle.std.specs.Prelude.{Ok}
 use Prim.Native.Nat.{ℕ, zero, suc, ◌+◌, ◌-◌, ◌%◌, ◌≤◌, ◌<◌, min}
 use native.Mathlib.Omega.{arith}
 use mathlib.Core.Bool.{Bool, true, false, true≢false}
@@ -11,8 +12,6 @@ use lib.ListN.{length, take, drop, get_or, set, replicate, length-replicate, len
 use lib.Seq.{sets, sets-eq, take_at, paste, take-paste, take_all, length-take-le, get_or-take, get_or-drop}
 use Rattle.refusals.specs.Refusals.{judged, off_neighbours}
 use Rattle.refusals.specs.Accepted as Refusals
-use Rattle.refusals.specs.declared.Judged.TheVariants.{Fine}
-use Rattle.glyf.specs.Layout.{done}
 use Rattle.glyphs.specs.Glyphs.{stretch}
 use Rattle.gliftext.specs.Utf8.{is_utf8}
 use Rattle.gliftext.specs.Pick.{pick, both, either, more, most, sum}
@@ -34,6 +33,7 @@ use Rattle.glifwrite.specs.Outside.{parts_of, put_parts}
 use Rattle.glifwrite.proofs.Outside.{outside_is_kept}
 use Rattle.gliftext.proofs.Picks.{both_true, both_is, or_left, or-false}
 use Rattle.glifwrite.specs.Texts.{put_text, written, Small}
+use Rattle.glifs.specs.Numbered.{done}
 use Rattle.glifs.specs.Glifs.{found_by, read_of}
 use Rattle.glifs.specs.Back.{LetThrough, left_at_front, RowsReadBack}
 use Rattle.glifs.proofs.Contour.{Plain, plain_sound, plain_round}
@@ -161,7 +161,7 @@ stretch_at from end j fs h = get_or-take (end - from) (drop from fs) j 0 h ∙ g
 stretch_long : (from end : ℕ) (fs : List ℕ) → end ≤ length fs → length (stretch from end fs) ≡ end - from
 stretch_long from end fs h = length-take-le (end - from) (drop from fs) (omega (arith, length-drop from fs))
 
-plain_of : (xs ys : List ℤ) (fs : List ℕ) (from end : ℕ) → from < end → end ≤ length fs → judged (stretch from end xs) (stretch from end ys) (stretch from end fs) ≡ Fine → Plain fs from end
+plain_of : (xs ys : List ℤ) (fs : List ℕ) (from end : ℕ) → from < end → end ≤ length fs → judged (stretch from end xs) (stretch from end ys) (stretch from end fs) ≡ Ok tt → Plain fs from end
 unfolding is_on
 plain_of xs ys fs from end some inside fine =
     let a = Refusals.accepted (stretch from end xs) (stretch from end ys) (stretch from end fs) fine in
@@ -380,7 +380,7 @@ points_through = record { fine = fine; bits = bits; small_x = small_x; small_y =
   where
     fine : (k : ℕ) → k < 1 →
         judged (stretch (start_of (1 ∷ []) k) (end_at (1 ∷ []) k) (pos 1 ∷ pos 3 ∷ [])) (stretch (start_of (1 ∷ []) k) (end_at (1 ∷ []) k) (negsuc 19 ∷ pos 40 ∷ []))
-        (stretch (start_of (1 ∷ []) k) (end_at (1 ∷ []) k) (1 ∷ 0 ∷ [])) ≡ Fine
+        (stretch (start_of (1 ∷ []) k) (end_at (1 ∷ []) k) (1 ∷ 0 ∷ [])) ≡ Ok tt
     fine zero h = refl
     fine (suc k) h = absurd (omega arith)
 

@@ -9,9 +9,10 @@ use lib.Dec.{eqb}
 use lib.ListN.{length, get_or, replicate, length-replicate, length-map}
 use Rattle.gliftext.specs.Pick.{pick, both, more, most}
 use Rattle.gliftext.specs.Table.{class_of, is_name, move_of}
-use Rattle.gliftext.specs.Text.{texted}
+use Rattle.gliftext.specs.Text.{declared, texted}
 use Rattle.gliftext.specs.Utf8.{rune_at}
 use Rattle.gliftext.specs.declared.text.Text.{Text}
+use Rattle.gliftext.specs.declared.text.Declaration.TheVariants.{Wrong}
 use Rattle.glif.specs.Tree.{on_path, treed, opens_tag}
 use Rattle.glif.specs.Outline.{summed, begun, ended}
 use Rattle.glif.specs.Scan.{Pass, pass, scanned}
@@ -25,11 +26,16 @@ use Rattle.gliftext.proofs.Live.{Facts, facts}
 use Rattle.glif.proofs.Like.{depth_opens, depth_less, opens_shallow}
 use Rattle.glif.proofs.Ways.{Went, went, Way, opening, closing, outer, inner, way_of, Quiet, quiet_sum, outer_quiet, Points, points_count, inner_points}
 use Rattle.glif.proofs.Ways.{root_made, root_kept, outline_next, summed_by, contour_on, point_off, left_closed, left_open, tags_none, met_none}
+use Rattle.gliftext.specs.Actions.{does}
+use Rattle.gliftext.specs.Actions.{action_of}
+use Rattle.gliftext.proofs.Doing.{does_true, does_false}
+use Rattle.gliftext.specs.declared.action.Action.{Action}
+use Rattle.gliftext.specs.declared.action.Action.TheVariants.{NameStart, Opens, Empty, Closes}
 
 -- ---- one byte, in its parts
 
-abbrev pub act : Abs → ℕ → ℕ
-act f b = move_of f.text.state (class_of b) / 64
+abbrev pub act : Abs → ℕ → Action
+act f b = action_of (move_of f.text.state (class_of b) / 64)
 
 abbrev pub to : Abs → ℕ → ℕ
 to f b = move_of f.text.state (class_of b) % 64
@@ -41,7 +47,7 @@ abbrev pub word_after : Abs → ℕ → ℕ
 word_after f b = (text_after f b).tag.word
 
 abbrev pub wrong_after : List ℕ → Abs → ℕ → List ℕ → Bool
-wrong_after z f b st = wrong_in z f.names (act f b) f.tree.depth f.text.attributes (pick (eqb (act f b) 3) st f.name)
+wrong_after z f b st = wrong_in z f.names (act f b) f.tree.depth f.text.attributes (pick (does (act f b) NameStart) st f.name)
 
 pub step_is : (z : List ℕ) (b : ℕ) (st : List ℕ) (f : Abs) → step z (fed b st) f ≡ acts z (act f b) b st (text_after f b) f
 unfolding step moved
@@ -56,10 +62,10 @@ pub record Fine (a : Abs) : Type 0 where
   pub text : a.text.wrong ≡ false
   pub tree : a.tree.wrong ≡ false
   pub bare : a.sum.bare ≡ false
-  pub known : eqb a.text.said 3 ≡ false
+  pub known : declared a.text.said Wrong ≡ false
   pub rune : eqb a.rune 10 ≡ false
 
-pub tag_on : (a : ℕ) → eqb a 8 ≡ true → opens_tag a ≡ true
+pub tag_on : (a : Action) → does a Opens ≡ true → opens_tag a ≡ true
 unfolding opens_tag pick
 tag_on a e = rw e
 
@@ -207,7 +213,7 @@ module _ (bs : List ℕ) (i : ℕ) (room : i < length bs) (few : length bs ≤ m
   abbrev f' : Abs
   f' = at bs (suc i)
 
-  abbrev a : ℕ
+  abbrev a : Action
   a = act f b
 
   pub next_is : f' ≡ acts z a b (name_at bs i) (text_after f b) f
@@ -238,9 +244,9 @@ module _ (bs : List ℕ) (i : ℕ) (room : i < length bs) (few : length bs ≤ m
   way_is = way_of t.fits went_is
 
   pub shallow_next : f'.tree.depth ≤ 256
-  shallow_next = subst (λ (v : Tree). v.depth ≤ 256) (sym tree_is) (by (eqb a 8) refl)
+  shallow_next = subst (λ (v : Tree). v.depth ≤ 256) (sym tree_is) (by (does a Opens) refl)
     where
-      by : (x : Bool) → eqb a 8 ≡ x → (treed f.tree a word wr).depth ≤ 256
+      by : (x : Bool) → does a Opens ≡ x → (treed f.tree a word wr).depth ≤ 256
       by true e = omega (arith, depth_opens f.tree word wr a e t.shallow, opens_shallow f.tree word wr a e tree_fine)
       by false e = omega (arith, depth_less f.tree word wr a e t.shallow, t.shallow)
 
@@ -250,7 +256,7 @@ module _ (bs : List ℕ) (i : ℕ) (room : i < length bs) (few : length bs ≤ m
   root_next : f.tree.root ≡ true → f'.tree.root ≡ true
   root_next h = subst (λ (v : Tree). v.root ≡ true) (sym tree_is) (root_kept f.tree a word wr t.fits t.shallow tree_fine h)
 
-  root_opens : eqb a 8 ≡ true → f'.tree.root ≡ true
+  root_opens : does a Opens ≡ true → f'.tree.root ≡ true
   root_opens e = subst (λ (v : Tree). v.root ≡ true) (sym tree_is) (root_made f.tree a word wr t.fits t.shallow tree_fine e)
 
   pub quiet_is : f.tree.level ≤ 2 → f'.tree.level ≤ 2 → Quiet f.tree a word
@@ -290,30 +296,30 @@ module _ (bs : List ℕ) (i : ℕ) (room : i < length bs) (few : length bs ≤ m
   pub closes_now : f.tree.level ≡ 3 → f'.tree.level ≡ 2 → closes bs i ≡ true
   closes_now e g = both_is _ _ (eq-eqb f.tree.level 3 e) (eq-eqb f'.tree.level 2 g)
 
-  other : (x y : ℕ) → eqb a x ≡ true → (x ≡ y → ⊥) → eqb a y ≡ false
-  other x y e h = ne_eqb a y (λ g. h (sym (eqb-true a x e) ∙ g))
+  other : (x y : Action) → does a x ≡ true → (x ≡ y → ⊥) → does a y ≡ false
+  other x y e h = does_false a y (λ g. h (sym (does_true a x e) ∙ g))
 
   -- a contour opens
-  pub opened : eqb a 8 ≡ true → on_path f.tree word ≡ true → f.tree.level ≡ 2 → f'.sum ≡ begun f.sum
+  pub opened : does a Opens ≡ true → on_path f.tree word ≡ true → f.tree.level ≡ 2 → f'.sum ≡ begun f.sum
   unfolding pick
   opened e o l =
       sum_is
       ∙ summed_by f.sum f.tree a word (text_after f b).point
       (contour_on f.tree a word (tag_on a e) l o)
       (point_off f.tree a word (λ g. omega arith))
-      (left_open f.tree a word (other 8 10 e (λ g. omega (arith, g))) (other 8 9 e (λ g. omega (arith, g))))
+      (left_open f.tree a word (other Opens Closes e (λ g. cc)) (other Opens Empty e (λ g. cc)))
 
   -- a contour closes
-  pub closed_sum : eqb a 10 ≡ true → f.tree.level ≡ 3 → f.tree.depth ≡ 3 → f'.sum ≡ ended f.sum
+  pub closed_sum : does a Closes ≡ true → f.tree.level ≡ 3 → f.tree.depth ≡ 3 → f'.sum ≡ ended f.sum
   unfolding pick
   closed_sum e l d =
-      let none = met_none f.tree a word (tags_none f.tree a word (other 10 8 e (λ g. omega (arith, g))) (other 10 9 e (λ g. omega (arith, g)))) in
+      let none = met_none f.tree a word (tags_none f.tree a word (other Closes Opens e (λ g. cc)) (other Closes Empty e (λ g. cc))) in
       sum_is ∙ summed_by f.sum f.tree a word (text_after f b).point none.0 none.1 (left_closed f.tree a word e l d)
 
-  byte_greater : eqb a 8 ≡ true → is_name b ≡ false
+  byte_greater : does a Opens ≡ true → is_name b ≡ false
   byte_greater e = greater b (facts_are.opens_gt e)
 
-  good_more : eqb a 8 ≡ true → Good bs (t.ps ++ own t.from (more i) ∷ contour t.k ∷ [])
+  good_more : does a Opens ≡ true → Good bs (t.ps ++ own t.from (more i) ∷ contour t.k ∷ [])
   good_more e =
       let one : more i ≡ suc i = plain_more i (omega arith) in
       let same : more i - 1 ≡ i = omega arith in

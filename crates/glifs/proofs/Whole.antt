@@ -11,9 +11,11 @@ use lib.ListN.{length, take, drop, get_or, set, length-drop}
 use lib.Seq.{get_or-drop, take-suc, get_or-set_other}
 use Rattle.gliftext.specs.Pick.{pick, both, either, more, sum, most}
 use Rattle.gliftext.specs.Table.{classes, class_of, is_name, move_of}
-use Rattle.gliftext.specs.Text.{texted, said}
+use Rattle.gliftext.specs.Text.{declared, texted, said}
 use Rattle.gliftext.specs.Utf8.{runes, rune_class, rune_table, rune_on}
 use Rattle.gliftext.specs.declared.text.Text.{Text}
+use Rattle.gliftext.specs.declared.text.Declaration.{Declaration}
+use Rattle.gliftext.specs.declared.text.Declaration.TheVariants.{Wrong}
 use Rattle.gliftext.specs.declared.text.Point.{Point}
 use Rattle.glif.specs.Tree.{on_path}
 use Rattle.glif.specs.Outline.{summed, begun, ended, point_met, contour_met}
@@ -28,7 +30,7 @@ use Rattle.glifwrite.specs.Texts.{put_text, contour_text, Small, pieces_text}
 use Rattle.glifwrite.proofs.Texts.{text_append, range_text, contour_text_lem}
 use Rattle.glif.proofs.Stems.{Abs, Fed, fed, no_fed, fed_of, fed_length, fed_at_lem, fed_drop, fed_cut, kept_in, point_in, moved, step, steps, steps_append}
 use Rattle.glif.proofs.Stems.{one_step, name_at}
-use Rattle.gliftext.proofs.Live.{within, live_tag, live_name, live_value, live_refer, in_end, Facts}
+use Rattle.gliftext.proofs.Live.{declares, live_tag, live_name, live_value, live_refer, in_end, Facts}
 use Rattle.glif.proofs.Like.{live_names, Like, like_step, tag_word}
 use Rattle.glifs.proofs.Point.{in_contour, Ready, Kept, standing, less_read}
 use Rattle.glifs.proofs.Contour.{contour_sealed, placed, full_to, on_to, full_round, Sound, full_few, sum_to, contour_read}
@@ -38,6 +40,10 @@ use Rattle.glifs.proofs.Track.{act, to, word_after, state_is, Fine, tag_on, at, 
 use Rattle.glifs.proofs.Track.{Tracked, next_is, facts_are, went_is, way_is, quiet_is, goes, opens_not, opens_not', closes_not, closes_not'}
 use Rattle.glifs.proofs.Track.{opens_now, closes_now, tracked_next, tracked_start}
 use Rattle.glifs.proofs.Flags.{Flags, fine_at}
+use Rattle.gliftext.specs.Actions.{does, action_of}
+use Rattle.gliftext.proofs.Doing.{does_true, does_false}
+use Rattle.gliftext.specs.declared.action.Action.{Action}
+use Rattle.gliftext.specs.declared.action.Action.TheVariants.{Quote, Opens, Empty, Closes, Said, Declared, Declares, Target}
 
 -- ---- pieces as texts
 
@@ -238,10 +244,10 @@ module _ (z : List ℕ) (b : ℕ) (st : List ℕ) (f v : Abs) (like : Like z f v
   m = move_of f.text.state (class_of b)
 
   abbrev word_v : ℕ
-  word_v = (texted v.text (m % 64) (m / 64) b 0).tag.word
+  word_v = (texted v.text (m % 64) (action_of (m / 64)) b 0).tag.word
 
   abbrev point_v : Point
-  point_v = (texted v.text (m % 64) (m / 64) b 0).point
+  point_v = (texted v.text (m % 64) (action_of (m / 64)) b 0).point
 
   step_like : step z (fed b st) v ≡ moved z m b st v
   unfolding step
@@ -255,7 +261,7 @@ module _ (z : List ℕ) (b : ℕ) (st : List ℕ) (f v : Abs) (like : Like z f v
   unfolding moved
   row_like = ap (λ (x : Abs). x.points) step_like ∙ ap (λ (x : Tree). point_in v.points (point_met x (act f b) word_v) v.sum point_v) (sym like.tree)
 
-  word_like : either (eqb (act f b) 8) (eqb (act f b) 9) ≡ true → word_after f b ≡ word_v
+  word_like : either (does (act f b) Opens) (does (act f b) Empty) ≡ true → word_after f b ≡ word_v
   word_like = tag_word z b (class_of b) (act f b) (to f b) st f v like (Rattle.gliftext.proofs.Live.facts f.text.state (class_of b))
 
   row_none : point_met f.tree (act f b) word_v ≡ false → (step z (fed b st) v).points ≡ v.points
@@ -385,14 +391,15 @@ no_end_tag : either (eqb 12 15) (in_end 12) ≡ true → ⊥
 unfolding pick
 no_end_tag h = false≢true h
 
-said_still : (d a name word : ℕ) → within 20 23 a ≡ false → said d a name word ≡ d
+said_still : (d : Declaration) (a : Action) (name word : ℕ) → declares a ≡ false → said d a name word ≡ d
 unfolding said pick
-said_still d a name word h = rw (not_in 21 (omega arith) (omega arith), not_in 22 (omega arith) (omega arith), not_in 23 (omega arith) (omega arith))
-  where
-    not_in : (x : ℕ) → 20 ≤ x → x ≤ 23 → eqb a x ≡ false
-    not_in x l u = ne_eqb a x (λ g. true≢false (sym (rw (le-leb 20 a (omega arith), le-leb a 23 (omega arith))) ∙ h))
+said_still d a name word h =
+    let x = or-false (does a Said) (either (does a Declared) (either (does a Declares) (does a Target))) h in
+    let y = or-false (does a Declared) (either (does a Declares) (does a Target)) x.1 in
+    let w = or-false (does a Declares) (does a Target) y.1 in
+    rw (y.0, w.0, w.1)
 
-text_said : (t : Text) (state action b i : ℕ) → within 20 23 action ≡ false → (texted t state action b i).said ≡ t.said
+text_said : (t : Text) (state : ℕ) (action : Action) (b i : ℕ) → declares action ≡ false → (texted t state action b i).said ≡ t.said
 unfolding texted
 text_said t state action b i h = said_still t.said action _ _ h
 
@@ -405,9 +412,9 @@ sum_above x y h = by (leb x (18446744073709551615 - y))
     by true = omega arith
     by false = omega arith
 
-kept_below : (names : List (List ℕ)) (a depth n : ℕ) (tag name z : List ℕ) (j : ℕ) → 3 ≤ depth → j < 3 → get_or (kept_in names a depth n tag name) j z ≡ get_or names j z
+kept_below : (names : List (List ℕ)) (a : Action) (depth n : ℕ) (tag name z : List ℕ) (j : ℕ) → 3 ≤ depth → j < 3 → get_or (kept_in names a depth n tag name) j z ≡ get_or names j z
 unfolding kept_in pick
-kept_below names a depth n tag name z j deep h = by (eqb a 8) (eqb a 5)
+kept_below names a depth n tag name z j deep h = by (does a Opens) (does a Quote)
   where
     by : (x y : Bool) → get_or (pick x (set names depth tag) (pick y (set names (sum depth n) name) names)) j z ≡ get_or names j z
     by true y = get_or-set_other names depth j tag z (λ e. omega arith)
@@ -442,7 +449,7 @@ module _ (bs ends : List ℕ) (xs ys : List ℤ) (fs : List ℕ) (few : length b
   abbrev b : ℕ
   b = get_or bs i 0
 
-  abbrev a : ℕ
+  abbrev a : Action
   a = act f b
 
   abbrev word : ℕ
@@ -487,7 +494,7 @@ module _ (bs ends : List ℕ) (xs ys : List ℤ) (fs : List ℕ) (few : length b
       λ j. record { depth = d j; level = l j; root = root j; outline = outline j; wrong = fine.tree j }
 
   module _ (sx : Small xs) (sy : Small ys) (sound : Sound fs (start_of ends t.k) (end_at ends t.k)) (full : full_at ends fs t.k ≤ 131072) (short : end_at ends t.k ≤ 65536) (in_ends : t.k < length ends)
-      (e : eqb a 8 ≡ true) (on : on_path f.tree word ≡ true) (l : f.tree.level ≡ 2) (l' : f'.tree.level ≡ 3) (d' : f'.tree.depth ≡ 3)
+      (e : does a Opens ≡ true) (on : on_path f.tree word ≡ true) (l : f.tree.level ≡ 2) (l' : f'.tree.level ≡ 3) (d' : f'.tree.depth ≡ 3)
       (o : Outer bs ends xs ys fs w₀ i t.from t.k t.ps) where
     abbrev w : Abs
     w = run_of bs (given ends xs ys fs) w₀ t.ps
@@ -501,14 +508,14 @@ module _ (bs ends : List ℕ) (xs ys : List ℤ) (fs : List ℕ) (few : length b
     like' : Like z f' v'
     like' = like_next o.like
 
-    other : (y : ℕ) → (8 ≡ y → ⊥) → eqb a y ≡ false
-    other y h = ne_eqb a y (λ g. h (sym (eqb-true a 8 e) ∙ g))
+    other : (y : Action) → (Opens ≡ y → ⊥) → does a y ≡ false
+    other y h = does_false a y (λ g. h (sym (does_true a Opens e) ∙ g))
 
     abbrev wv : ℕ
     wv = word_v z b (name_at bs i) f v o.like
 
     on_v : on_path f.tree wv ≡ true
-    on_v = sym (ap (on_path f.tree) (word_like z b (name_at bs i) f v o.like (in_left (eqb a 8) (eqb a 9) e))) ∙ on
+    on_v = sym (ap (on_path f.tree) (word_like z b (name_at bs i) f v o.like (in_left (does a Opens) (does a Empty) e))) ∙ on
 
     no_point_lem : point_met f.tree a wv ≡ false
     no_point_lem = point_off f.tree a wv (λ g. omega arith)
@@ -518,20 +525,20 @@ module _ (bs ends : List ℕ) (xs ys : List ℤ) (fs : List ℕ) (few : length b
     sum_opens =
         sum_like z b (name_at bs i) f v o.like
         ∙ summed_by v.sum f.tree a wv (point_v z b (name_at bs i) f v o.like) (contour_on f.tree a wv (tag_on a e) l on_v) no_point_lem
-        (left_open f.tree a wv (other 10 (λ g. omega (arith, g))) (other 9 (λ g. omega (arith, g))))
+        (left_open f.tree a wv (other Closes (λ g. cc)) (other Empty (λ g. cc)))
         ∙ begun_counted ends fs t.k v.sum o.counted
 
     row_opens : v'.points ≡ row_to bs ends xs ys fs w₀.points t.k
     row_opens = row_none z b (name_at bs i) f v o.like no_point_lem ∙ o.row
 
     twelve : f'.text.state ≡ 12
-    twelve = state_next ∙ eqb-true (to f b) 12 (facts_here.tags_end (in_left (eqb a 8) _ e))
+    twelve = state_next ∙ eqb-true (to f b) 12 (facts_here.tags_end (in_left (does a Opens) _ e))
 
     ready : Ready v'
     ready = record {
       state = sym like'.state ∙ twelve;
       clean = sym like'.wrong ∙ fine.text;
-      known = sym (ap (λ (k : ℕ). eqb k 3) like'.said) ∙ fine.known;
+      known = sym (ap (λ (k : Declaration). declared k Wrong) like'.said) ∙ fine.known;
       tree = sym like'.tree ∙ in_contour_lem l' d';
       rune = sym like'.rune ∙ rune_next (in_right (eqb (class_of b) 2) (eqb (class_of b) 3) (facts_here.opens_gt e));
       room = omega (arith, like'.long, names_at bs (suc i));
@@ -580,8 +587,8 @@ module _ (bs ends : List ℕ) (xs ys : List ℤ) (fs : List ℕ) (few : length b
 
   -- ---- a contour closes
 
-  not_a : (x y : ℕ) → eqb a x ≡ true → (x ≡ y → ⊥) → eqb a y ≡ false
-  not_a x y e h = ne_eqb a y (λ g. h (sym (eqb-true a x e) ∙ g))
+  not_a : (x y : Action) → does a x ≡ true → (x ≡ y → ⊥) → does a y ≡ false
+  not_a x y e h = does_false a y (λ g. h (sym (does_true a x e) ∙ g))
 
   tag_kept : {n : ℕ} → f'.text.state ≡ n → eqb n 15 ≡ false → (i' tag : ℕ) → pick (eqb f'.text.state 15) i' tag ≡ tag
   unfolding pick
@@ -589,7 +596,7 @@ module _ (bs ends : List ℕ) (xs ys : List ℤ) (fs : List ℕ) (few : length b
 
   module _ (w : Abs) (sound : (k : ℕ) → k < length ends → Sound fs (start_of ends k) (end_at ends k)) (short : (k : ℕ) → end_at ends k ≤ 65536)
       (n : Inner bs ends xs ys fs i t.tag t.k w₀.points w)
-      (e : eqb a 10 ≡ true) (l : f.tree.level ≡ 3) (d : f.tree.depth ≡ 3) where
+      (e : does a Closes ≡ true) (l : f.tree.level ≡ 3) (d : f.tree.depth ≡ 3) where
     ending : Ending bs i t.tag w
     ending = n.leaves (in_right (eqb f.text.state 15) (in_end f.text.state) (facts_here.closes_in e)) d
 
@@ -600,7 +607,7 @@ module _ (bs ends : List ℕ) (xs ys : List ℤ) (fs : List ℕ) (few : length b
     wu = word_v z b (name_at bs i) f u ending.like
 
     none : (contour_met f.tree a wu ≡ false) × (point_met f.tree a wu ≡ false)
-    none = met_none f.tree a wu (tags_none f.tree a wu (not_a 10 8 e (λ g. omega (arith, g))) (not_a 10 9 e (λ g. omega (arith, g))))
+    none = met_none f.tree a wu (tags_none f.tree a wu (not_a Closes Opens e (λ g. cc)) (not_a Closes Empty e (λ g. cc)))
 
     sum_closes : (step z (fed_at bs i) u).sum ≡ ended (sum_in ends fs n.c (end_at ends n.c - start_of ends n.c))
     unfolding pick
@@ -637,11 +644,11 @@ module _ (bs ends : List ℕ) (xs ys : List ℤ) (fs : List ℕ) (few : length b
     abbrev t' : Tracked bs (suc i)
     t' = tracked_next bs i room few t fine
 
-    not_back : within 20 23 a ≡ false
-    not_back = by (within 20 23 a) refl
+    not_back : declares a ≡ false
+    not_back = by (declares a) refl
       where
-        by : (x : Bool) → within 20 23 a ≡ x → within 20 23 a ≡ false
-        by true h = absurd (true≢false (sym n.past ∙ not-true _ (facts_here.no_return (in_left (within 20 23 a) _ h))))
+        by : (x : Bool) → declares a ≡ x → declares a ≡ false
+        by true h = absurd (true≢false (sym n.past ∙ not-true _ (facts_here.no_return (in_left (declares a) _ h))))
         by false h = h
 
     said_next : f'.text.said ≡ w.text.said
@@ -664,7 +671,7 @@ module _ (bs ends : List ℕ) (xs ys : List ℤ) (fs : List ℕ) (few : length b
       where
         by : (x : Bool) → ltb 11 (to f b) ≡ x → ltb 11 f'.text.state ≡ true
         by true h = ap (ltb 11) state_next ∙ h
-        by false h = absurd (true≢false (sym n.past ∙ not-true _ (facts_here.no_return (in_right (within 20 23 a) _ (ap not h)))))
+        by false h = absurd (true≢false (sym n.past ∙ not-true _ (facts_here.no_return (in_right (declares a) _ (ap not h)))))
 
     -- at the `<` of a tag
     fresh : eqb (to f b) 15 ≡ true → f'.tree.depth ≡ 3 → Ending bs (suc i) i w
@@ -704,7 +711,7 @@ module _ (bs ends : List ℕ) (xs ys : List ℤ) (fs : List ℕ) (few : length b
     -- further in an end tag
     further : eqb (to f b) 15 ≡ false → in_end (to f b) ≡ true → f'.tree.depth ≡ 3 → Ending bs (suc i) t.tag w
     further e h d' =
-        let tags : either (eqb a 8) (either (eqb a 9) (eqb a 10)) ≡ false = by (either (eqb a 8) (either (eqb a 9) (eqb a 10))) refl in
+        let tags : either (does a Opens) (either (does a Empty) (does a Closes)) ≡ false = by (either (does a Opens) (either (does a Empty) (does a Closes))) refl in
         let not-8 = (or-false _ _ tags).0 in
         let not-9 = (or-false _ _ (or-false _ _ tags).1).0 in
         let not-10 = (or-false _ _ (or-false _ _ tags).1).1 in
@@ -721,7 +728,7 @@ module _ (bs ends : List ℕ) (xs ys : List ℤ) (fs : List ℕ) (few : length b
           row = ap (λ (v : Abs). v.points) run ∙ quiet.1 ∙ old.row;
         }
       where
-        by : (x : Bool) → either (eqb a 8) (either (eqb a 9) (eqb a 10)) ≡ x → either (eqb a 8) (either (eqb a 9) (eqb a 10)) ≡ false
+        by : (x : Bool) → either (does a Opens) (either (does a Empty) (does a Closes)) ≡ x → either (does a Opens) (either (does a Empty) (does a Closes)) ≡ false
         by true g = absurd (no_end_tag (in_right (eqb 12 15) (in_end 12) (subst (λ (s : ℕ). in_end s ≡ true) (eqb-true (to f b) 12 (facts_here.tags_end g)) h)))
         by false g = g
 
@@ -729,7 +736,7 @@ module _ (bs ends : List ℕ) (xs ys : List ℤ) (fs : List ℕ) (few : length b
         was true g = or_left _ _ (facts_here.end_from_lem h) (ap not g)
         was false g = absurd (true≢false (sym n.past ∙ g))
 
-        still_deep : eqb a 8 ≡ false → eqb a 9 ≡ false → eqb a 10 ≡ false → Went f.tree f'.tree a (on_path f.tree word) → f.tree.depth ≡ 3
+        still_deep : does a Opens ≡ false → does a Empty ≡ false → does a Closes ≡ false → Went f.tree f'.tree a (on_path f.tree word) → f.tree.depth ≡ 3
         still_deep x y v (down_on p q r s u) = absurd (true≢false (sym p ∙ x))
         still_deep x y v (down p q r s) = absurd (true≢false (sym p ∙ x))
         still_deep x y v (aside p q r) = absurd (true≢false (sym p ∙ y))
@@ -806,7 +813,7 @@ module _ (bs ends : List ℕ) (xs ys : List ℤ) (fs : List ℕ) (few : length b
             }
         by (closing e l d l' d') =
             let w = run_of bs (given ends xs ys fs) w₀ t.ps in
-            let twelve : f'.text.state ≡ 12 = state_next ∙ eqb-true (to f b) 12 (facts_here.tags_end (in_right (eqb a 8) _ (in_right (eqb a 9) _ e))) in
+            let twelve : f'.text.state ≡ 12 = state_next ∙ eqb-true (to f b) 12 (facts_here.tags_end (in_right (does a Opens) _ (in_right (does a Empty) _ e))) in
             let old : pick (eqb f'.text.state 15) i t.tag ≡ t.tag = tag_kept twelve refl i t.tag in
             let is : track_to bs (suc i) ≡ track t.tag t.tag t.k t.ps =
             closed_track l l' old in

@@ -1,17 +1,16 @@
 -- What is written is read back: a coordinate, a type, all rows that 1 to 5 let through, and all rows in which each contour has an on-curve point. The
 -- statements; proofs are in proofs/Back.antt, proofs/RoundTrip.antt and proofs/ReadExplicit.antt. Definitions only.
-use Rattle.std.specs.Prelude.{ℕ, ◌≤◌, ◌<◌, true, false, List, [], ◌∷◌, map, ◌≡◌, ℤ, length, take, get_or}
+use Rattle.std.specs.Prelude.{ℕ, ◌≤◌, ◌<◌, true, false, List, [], ◌∷◌, map, ◌≡◌, ℤ, length, take, get_or, Ok}
 use Rattle.std.specs.Int.Signed.{mag}
 use Rattle.refusals.specs.Refusals.{judged}
-use Rattle.refusals.specs.declared.Judged.TheVariants.{Fine}
 use Rattle.lines.specs.Text as Text
 use Rattle.gliftext.specs.Pick.{most}
 use Rattle.gliftext.specs.Words.{pushed, no_number, fed_number}
+use Rattle.gliftext.specs.Text.{line, qcurve}
 use Rattle.gliftext.specs.declared.word.Number.{Number}
-use Rattle.glif.specs.Outline.{is_number, is_far, offset_of, line, qcurve}
+use Rattle.glif.specs.Outline.{is_number, is_far, offset_of}
 use Rattle.contour.specs.Points.{Points}
 use Rattle.explicit.specs.Explicit.{explicit_of}
-use Rattle.glyf.specs.Layout.{Outcome, done, refused}
 use Rattle.glyphs.specs.Glyphs.{stretch, contours_from, together}
 use Rattle.glifread.specs.Enter.{signed_of}
 use Rattle.glifread.specs.Reads.{rooms, scratch_room}
@@ -20,6 +19,7 @@ use Rattle.glifwrite.specs.Contours.{is_on, end_at, start_of}
 use Rattle.glifwrite.specs.Writes.{GivenRows, given, answer_of, left_in}
 use Rattle.glifwrite.specs.Texts.{Small}
 use Rattle.settings.specs.declared.Settings.{Settings}
+use Rattle.glifs.specs.Numbered.{Outcome, done, refused}
 use Rattle.glifs.specs.Glifs.{Rooms, read_of, given_of, crunch_glif_of}
 use Rattle.glifs.specs.Stands.{InRows}
 
@@ -52,7 +52,7 @@ TypesReadBack = (word_in (108 ∷ 105 ∷ 110 ∷ 101 ∷ []) 0 ≡ line) × (wo
 -- refusals 1 to 5 let each contour of the rows through, flags are 0 or 1, and coordinates and ends have 16 bits
 pub record LetThrough (ends : List ℕ) (xs ys : List ℤ) (fs : List ℕ) : Type 0 where
   pub fine : (k : ℕ) → k < length ends →
-      judged (stretch (start_of ends k) (end_at ends k) xs) (stretch (start_of ends k) (end_at ends k) ys) (stretch (start_of ends k) (end_at ends k) fs) ≡ Fine
+      judged (stretch (start_of ends k) (end_at ends k) xs) (stretch (start_of ends k) (end_at ends k) ys) (stretch (start_of ends k) (end_at ends k) fs) ≡ Ok tt
   pub bits : (i : ℕ) → get_or fs i 0 < 2
   pub small_x : Small xs
   pub small_y : Small ys

@@ -6,11 +6,11 @@ use Rattle.rows.specs.Rows.{point_zero}
 use Rattle.settings.specs.declared.Settings.{Settings}
 use Rattle.edition.specs.Scratch.{cleared}
 use Rattle.edition.specs.Laws.{same_cleared}
-use Rattle.glyf.specs.Layout.{Outcome, done, refused}
 use Rattle.glifread.specs.Reads as Reads
 use Rattle.glifwrite.specs.Writes.{GivenRows, answer_of, left_in}
 use Rattle.glifwrite.specs.Determine as Written
 use Rattle.glifwrite.specs.declared.write.GlifWriteReport.{GlifWriteReport}
+use Rattle.glifs.specs.Numbered.{Outcome, done, refused}
 use Rattle.glifs.specs.Glifs.{Rooms, crunch_glif_of, shown_of, left_of}
 use Rattle.glifs.specs.Entry.{Rows, LentRows, rooms_of, whole_of, zero_kept, Promise}
 

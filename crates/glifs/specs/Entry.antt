@@ -7,12 +7,12 @@ use Rattle.settings.specs.declared.Settings.{Settings}
 use Rattle.contour.specs.Points.{Points}
 use Rattle.edition.specs.Scratch.{Scratch, cleared}
 use Rattle.edition.specs.Scratch as Scratch
-use Rattle.glyf.specs.Layout.{Outcome}
 use Rattle.glifread.specs.Enter.{no_place}
 use Rattle.glifread.specs.Reads.{Kept, kept, scratch_room}
 use Rattle.glifread.specs.Reads as Reads
 use Rattle.glifwrite.specs.Writes.{GivenRows}
 use Rattle.glifwrite.specs.declared.write.GlifWriteReport.{GlifWriteReport}
+use Rattle.glifs.specs.Numbered.{Outcome}
 use Rattle.glifs.specs.Glifs.{Rooms, zero_in, crunch_glif_of, shown_of, left_of}
 
 -- the row of bytes out, the rows that a file is read into, the rows that a run is worked in, and the row for points

@@ -5,8 +5,8 @@ use Rattle.settings.specs.declared.Settings.{Settings}
 use Rattle.contour.specs.Points.{Points}
 use Rattle.contour.specs.Output.{column, flags}
 use Rattle.edition.specs.Edition as Edition
-use Rattle.glyf.specs.Layout.{Outcome, done, refused, refuse, count_of, rising}
-use Rattle.glyphs.specs.Glyphs.{and_then, contours_from, least_of, crunch_rows, together, ends_from}
+use Rattle.glyf.specs.Layout.{count_of, rising}
+use Rattle.glyphs.specs.Glyphs.{contours_from, least_of, crunch_rows, together, ends_from}
 use Rattle.glifread.specs.Enter.{Filled, filled, rows}
 use Rattle.glifread.specs.Reads.{rooms, answer_by, enters_by}
 use Rattle.glifread.specs.Reads as Reads
@@ -14,6 +14,7 @@ use Rattle.glifread.specs.Entry.{judged_in}
 use Rattle.glifread.specs.declared.read.GlifReadReport.{GlifReadReport}
 use Rattle.glifwrite.specs.Writes.{GivenRows, given, answer_of, left_in}
 use Rattle.glifwrite.specs.declared.write.GlifWriteReport.{GlifWriteReport}
+use Rattle.glifs.specs.Numbered.{Outcome, done, refused, refuse, and_then, by_number}
 
 -- ---- reading, into rows that are zero
 
@@ -47,7 +48,7 @@ given_of contours = let ps = together contours in given (ends_from 0 contours) (
 abbrev pub renewed_of : Edition.Rooms → Settings → (xs ys flags points : ℕ) → GivenRows → Outcome GivenRows
 renewed_of work settings nx ny nf np (given ends xs ys fs) =
     refuse 1 (not (belong ends (length xs)))
-    (and_then (crunch_rows work settings (least_of nx ny nf np) (contours_from 0 ends xs ys fs)) (λ contours. done (given_of contours)))
+    (and_then (by_number (crunch_rows work settings (least_of nx ny nf np) (contours_from 0 ends xs ys fs))) (λ contours. done (given_of contours)))
 
 -- ---- the whole
 

@@ -1,8 +1,8 @@
 -- What the steps leave in the rows. Definitions only.
 use Rattle.std.specs.Prelude.{ℕ, ◌≤◌, List, ◌≡◌, length}
-use Rattle.glyf.specs.Layout.{Outcome}
 use Rattle.glifwrite.specs.Writes.{GivenRows}
 use Rattle.glifwrite.specs.declared.write.GlifWriteReport.{GlifWriteReport}
+use Rattle.glifs.specs.Numbered.{Outcome}
 use Rattle.glifs.specs.Glifs.{shown_of, left_of}
 
 -- so many contours and points have places in rows of these lengths

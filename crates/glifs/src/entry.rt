@@ -11,7 +11,6 @@ ghost use Rattle.glifs.specs.Entry.{rows, whole_of, Promise};
 
 use crate::lent::{belongs, clear_rows};
 use glifwrite::GlifWriteReport;
-use glyphs::Gathered;
 use settings::Settings;
 
 fn refused(number: u32) -> GlifWriteReport
@@ -48,8 +47,8 @@ fn crunch_read(
     match glyphs::crunch_rows(
         contours, count, settings, ends, xs, ys, flags, samples, breaks, answers, links, points,
     ) {
-        Gathered::Refused(k) => refused(k as u32),
-        Gathered::Points(n) => glifwrite::write_glif(
+        Err(k) => refused(k.number() as u32),
+        Ok(n) => glifwrite::write_glif(
             bytes,
             &ends[..contours],
             &xs[..n],

@@ -8,8 +8,11 @@ use borrow.Author.Tests.{ltb-true}
 use lib.Dec.{eqb, ltb, leb}
 use lib.ListN.{length, get_or}
 use Rattle.gliftext.specs.Pick.{pick, both, either}
+use Rattle.gliftext.specs.Actions.{does, actions, action_of}
 use Rattle.gliftext.specs.Table.{table, move_of}
 use Rattle.gliftext.proofs.Picks.{both_true}
+use Rattle.gliftext.specs.declared.action.Action.{Action}
+use Rattle.gliftext.specs.declared.action.Action.TheVariants.{Pass, Tag, NameStart, Quote, Attribute, Opens, Empty, Closes, Section, Reference, TextReference, Named, Numbered, Said, Declared, Declares, Target}
 
 abbrev pub within : ℕ → ℕ → ℕ → Bool
 within a b k = both (leb a k) (leb k b)
@@ -35,38 +38,42 @@ implies a b = pick a b true
 abbrev pub in_end : ℕ → Bool
 in_end s = within 25 27 s
 
+-- the declaration is read
+abbrev pub declares : Action → Bool
+declares a = either (does a Said) (either (does a Declared) (either (does a Declares) (does a Target)))
+
 -- ---- what holds of each cell of the table: the state, the class, the action, the next state
 
-abbrev pub sets_live : ℕ → ℕ → ℕ → Bool
+abbrev pub sets_live : ℕ → Action → ℕ → Bool
 sets_live s a t =
-    both (both (implies (live_tag t) (either (eqb a 1) (live_tag s))) (implies (live_name t) (either (eqb a 3) (live_name s))))
-    (both (implies (live_value t) (either (either (eqb a 5) (eqb a 20)) (live_value s)))
-    (implies (live_refer t) (either (either (eqb a 13) (eqb a 14)) (live_refer s))))
+    both (both (implies (live_tag t) (either (does a Tag) (live_tag s))) (implies (live_name t) (either (does a NameStart) (live_name s))))
+    (both (implies (live_value t) (either (either (does a Quote) (does a Said)) (live_value s)))
+    (implies (live_refer t) (either (either (does a Reference) (does a TextReference)) (live_refer s))))
 
-abbrev pub reads_live : ℕ → ℕ → Bool
+abbrev pub reads_live : ℕ → Action → Bool
 reads_live s a =
     both
-    (both (implies (either (either (eqb a 5) (eqb a 7)) (either (eqb a 8) (eqb a 9))) (live_tag s))
-    (implies (either (either (eqb a 5) (eqb a 7)) (either (either (eqb a 10) (eqb a 12)) (either (eqb a 21) (eqb a 23)))) (live_name s)))
-    (both (implies (either (eqb a 7) (eqb a 21)) (live_value s)) (implies (either (eqb a 18) (eqb a 19)) (live_refer s)))
+    (both (implies (either (either (does a Quote) (does a Attribute)) (either (does a Opens) (does a Empty))) (live_tag s))
+    (implies (either (either (does a Quote) (does a Attribute)) (either (either (does a Closes) (does a Section)) (either (does a Declared) (does a Target)))) (live_name s)))
+    (both (implies (either (does a Attribute) (does a Declared)) (live_value s)) (implies (either (does a Named) (does a Numbered)) (live_refer s)))
 
-abbrev pub ends_well : ℕ → ℕ → ℕ → ℕ → Bool
+abbrev pub ends_well : ℕ → ℕ → Action → ℕ → Bool
 ends_well s c a t =
     both
-    (both (both (implies (eqb a 8) (eqb c 3)) (implies (either (eqb a 8) (either (eqb a 9) (eqb a 10))) (eqb t 12)))
-    (both (implies (eqb a 10) (in_end s)) (implies (either (within 20 23 a) (not (ltb 11 t))) (not (ltb 11 s)))))
+    (both (both (implies (does a Opens) (eqb c 3)) (implies (either (does a Opens) (either (does a Empty) (does a Closes))) (eqb t 12)))
+    (both (implies (does a Closes) (in_end s)) (implies (either (declares a) (not (ltb 11 t))) (not (ltb 11 s)))))
     (both (implies (in_end t) (either (either (eqb s 15) (in_end s)) (not (ltb 11 s))))
-    (implies (eqb t 15) (both (within 12 14 s) (both (eqb c 2) (eqb a 0)))))
+    (implies (eqb t 15) (both (within 12 14 s) (both (eqb c 2) (does a Pass)))))
 
 unfoldable pub cell_fine : ℕ → ℕ → ℕ → Bool
-cell_fine s c m = both (sets_live s (m / 64) (m % 64)) (both (reads_live s (m / 64)) (ends_well s c (m / 64) (m % 64)))
+cell_fine s c m = both (sets_live s (action_of (m / 64)) (m % 64)) (both (reads_live s (action_of (m / 64))) (ends_well s c (action_of (m / 64)) (m % 64)))
 
 unfoldable cells_fine : List ℕ → ℕ → Bool
 cells_fine [] i = true
 cells_fine (m ∷ ms) i = both (cell_fine (i / 23) (i % 23) m) (cells_fine ms (suc i))
 
 all_fine : cells_fine table 0 ≡ true
-unfolding cells_fine cell_fine table pick
+unfolding cells_fine cell_fine table action_of actions pick
 all_fine = refl
 
 cell_fine_lem : (ms : List ℕ) (i j : ℕ) → cells_fine ms i ≡ true → j < length ms → cell_fine ((i + j) / 23) ((i + j) % 23) (get_or ms j 0) ≡ true
@@ -91,7 +98,7 @@ inside s c h k =
 
 -- 61 is bad, with no action
 outside : (s c : ℕ) → cell_fine s c 61 ≡ true
-unfolding cell_fine pick
+unfolding cell_fine action_of actions pick
 outside s c = refl
 
 pub moves_fine : (s c : ℕ) → cell_fine s c (move_of s c) ≡ true
@@ -105,28 +112,28 @@ moves_fine s c = by (ltb s 62) (ltb c 23) refl refl
 
 -- ---- the same, taken apart
 
-pub record Facts (s c a t : ℕ) : Type 0 where
-  pub sets_tag : live_tag t ≡ true → either (eqb a 1) (live_tag s) ≡ true
-  pub sets_name : live_name t ≡ true → either (eqb a 3) (live_name s) ≡ true
-  pub sets_value : live_value t ≡ true → either (either (eqb a 5) (eqb a 20)) (live_value s) ≡ true
-  pub sets_refer : live_refer t ≡ true → either (either (eqb a 13) (eqb a 14)) (live_refer s) ≡ true
-  pub reads_tag : either (either (eqb a 5) (eqb a 7)) (either (eqb a 8) (eqb a 9)) ≡ true → live_tag s ≡ true
-  pub reads_name : either (either (eqb a 5) (eqb a 7)) (either (either (eqb a 10) (eqb a 12)) (either (eqb a 21) (eqb a 23))) ≡ true → live_name s ≡ true
-  pub reads_value : either (eqb a 7) (eqb a 21) ≡ true → live_value s ≡ true
-  pub reads_refer : either (eqb a 18) (eqb a 19) ≡ true → live_refer s ≡ true
-  pub opens_gt : eqb a 8 ≡ true → eqb c 3 ≡ true
-  pub tags_end : either (eqb a 8) (either (eqb a 9) (eqb a 10)) ≡ true → eqb t 12 ≡ true
-  pub closes_in : eqb a 10 ≡ true → in_end s ≡ true
-  pub no_return : either (within 20 23 a) (not (ltb 11 t)) ≡ true → not (ltb 11 s) ≡ true
+pub record Facts (s c : ℕ) (a : Action) (t : ℕ) : Type 0 where
+  pub sets_tag : live_tag t ≡ true → either (does a Tag) (live_tag s) ≡ true
+  pub sets_name : live_name t ≡ true → either (does a NameStart) (live_name s) ≡ true
+  pub sets_value : live_value t ≡ true → either (either (does a Quote) (does a Said)) (live_value s) ≡ true
+  pub sets_refer : live_refer t ≡ true → either (either (does a Reference) (does a TextReference)) (live_refer s) ≡ true
+  pub reads_tag : either (either (does a Quote) (does a Attribute)) (either (does a Opens) (does a Empty)) ≡ true → live_tag s ≡ true
+  pub reads_name : either (either (does a Quote) (does a Attribute)) (either (either (does a Closes) (does a Section)) (either (does a Declared) (does a Target))) ≡ true → live_name s ≡ true
+  pub reads_value : either (does a Attribute) (does a Declared) ≡ true → live_value s ≡ true
+  pub reads_refer : either (does a Named) (does a Numbered) ≡ true → live_refer s ≡ true
+  pub opens_gt : does a Opens ≡ true → eqb c 3 ≡ true
+  pub tags_end : either (does a Opens) (either (does a Empty) (does a Closes)) ≡ true → eqb t 12 ≡ true
+  pub closes_in : does a Closes ≡ true → in_end s ≡ true
+  pub no_return : either (declares a) (not (ltb 11 t)) ≡ true → not (ltb 11 s) ≡ true
   pub end_from_lem : in_end t ≡ true → either (either (eqb s 15) (in_end s)) (not (ltb 11 s)) ≡ true
-  pub less_from : eqb t 15 ≡ true → both (within 12 14 s) (both (eqb c 2) (eqb a 0)) ≡ true
+  pub less_from : eqb t 15 ≡ true → both (within 12 14 s) (both (eqb c 2) (does a Pass)) ≡ true
 
 implied : (a b : Bool) → implies a b ≡ true → a ≡ true → b ≡ true
 unfolding pick
 implied true b e h = e
 implied false b e h = absurd (false≢true h)
 
-facts_by : (s c m : ℕ) → cell_fine s c m ≡ true → Facts s c (m / 64) (m % 64)
+facts_by : (s c m : ℕ) → cell_fine s c m ≡ true → Facts s c (action_of (m / 64)) (m % 64)
 unfolding cell_fine
 facts_by s c m e =
     let x = both_true _ _ e in
@@ -159,5 +166,5 @@ facts_by s c m e =
       less_from = implied _ _ r₁.1;
     }
 
-pub facts : (s c : ℕ) → Facts s c (move_of s c / 64) (move_of s c % 64)
+pub facts : (s c : ℕ) → Facts s c (action_of (move_of s c / 64)) (move_of s c % 64)
 facts s c = facts_by s c (move_of s c) (moves_fine s c)

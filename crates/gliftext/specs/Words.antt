@@ -1,7 +1,9 @@
 -- Words of at most eight bytes as one number; numbers in attributes; the characters that references stand for. Definitions only.
-use Rattle.std.specs.Prelude.{ℕ, ◌+◌, ◌-◌, ◌*◌, Bool, false, eqb, ltb}
+use Rattle.std.specs.Prelude.{ℕ, ◌+◌, ◌-◌, ◌*◌, Bool, true, false, not, eqb, ltb}
 use Rattle.gliftext.specs.Pick.{pick, both, either}
 use Rattle.gliftext.specs.declared.word.Number.{Number}
+use Rattle.gliftext.specs.declared.word.Progress.{Progress}
+use Rattle.gliftext.specs.declared.word.Progress.TheVariants.{Nothing, Sign, Whole, Dot, Part, Broken}
 
 -- the bytes of a word are digits to the base 256; a longer word is none that is looked for
 unfoldable pub pushed : ℕ → ℕ → ℕ
@@ -18,22 +20,47 @@ grown base n b = pick (ltb n 1114112) (n * base + digit_of b) n
 -- ---- a number: an optional sign, digits, and perhaps a point and digits
 
 abbrev pub no_number : Number
-no_number = record { state = 0; size = 0; minus = false; part = false }
+no_number = record { state = Nothing; size = 0; minus = false; part = false }
 
--- 0 nothing, 1 a sign, 2 whole digits, 3 a point, 4 digits after it, 5 no number
-abbrev pub state_fed : ℕ → Bool → Bool → Bool → ℕ
+-- no point stands before
+abbrev pub before_point : Progress → Bool
+before_point Nothing = true
+before_point Sign = true
+before_point Whole = true
+before_point _ = false
+
+-- whole digits, digits after the point, or no number
+abbrev pub after_digit : Progress → Progress
+after_digit Dot = Part
+after_digit Part = Part
+after_digit Broken = Broken
+after_digit _ = Whole
+
+abbrev pub after_sign : Progress → Progress
+after_sign Nothing = Sign
+after_sign _ = Broken
+
+abbrev pub after_point : Progress → Progress
+after_point Whole = Dot
+after_point _ = Broken
+
+-- a number ends there
+abbrev pub digit_last : Progress → Bool
+digit_last Whole = true
+digit_last Part = true
+digit_last _ = false
+
+abbrev pub state_fed : Progress → Bool → Bool → Bool → Progress
 state_fed state digit sign point =
-    pick digit (pick (ltb state 3) 2 (pick (ltb state 5) 4 5))
-    (pick sign (pick (eqb state 0) 1 5)
-    (pick point (pick (eqb state 2) 3 5) 5))
+    pick digit (after_digit state) (pick sign (after_sign state) (pick point (after_point state) Broken))
 
 unfoldable pub fed_number : Number → ℕ → Number
 fed_number n b =
     record {
       state = state_fed n.state (both (ltb 47 b) (ltb b 58)) (either (eqb b 43) (eqb b 45)) (eqb b 46);
-      size = pick (both (both (ltb 47 b) (ltb b 58)) (ltb n.state 3)) (grown 10 n.size b) n.size;
+      size = pick (both (both (ltb 47 b) (ltb b 58)) (before_point n.state)) (grown 10 n.size b) n.size;
       minus = either n.minus (eqb b 45);
-      part = either n.part (both (both (both (ltb 47 b) (ltb b 58)) (ltb 2 n.state)) (ltb 48 b));
+      part = either n.part (both (both (both (ltb 47 b) (ltb b 58)) (not (before_point n.state))) (ltb 48 b));
     }
 
 -- ---- references

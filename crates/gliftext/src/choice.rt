@@ -2,13 +2,7 @@
 ghost use Rattle.std.specs.Prelude.{◌≡◌, ◌-◌};
 ghost use Rattle.gliftext.specs.Pick.{pick, both, either, more, sum};
 
-pub fn pick(c: bool, a: usize, b: usize) -> usize
-    ensures { result ≡ pick c a b }
-{
-    if c { a } else { b }
-}
-
-pub fn choose(c: bool, a: bool, b: bool) -> bool
+pub fn pick<T: Copy>(c: bool, a: T, b: T) -> T
     ensures { result ≡ pick c a b }
 {
     if c { a } else { b }
@@ -17,13 +11,13 @@ pub fn choose(c: bool, a: bool, b: bool) -> bool
 pub fn both(a: bool, b: bool) -> bool
     ensures { result ≡ both a b }
 {
-    choose(a, b, false)
+    pick(a, b, false)
 }
 
 pub fn either(a: bool, b: bool) -> bool
     ensures { result ≡ either a b }
 {
-    choose(a, true, b)
+    pick(a, true, b)
 }
 
 // None below zero.

@@ -1,8 +1,12 @@
 // The tables of docs/GLIF.md as numbers: a byte's class, and the next state and action of a state and a class;
 // and the same for UTF-8. Past a table's end stands what is wrong.
 ghost use Rattle.std.specs.Prelude.{◌≡◌};
+ghost use Rattle.gliftext.specs.Actions.{action_of};
 ghost use Rattle.gliftext.specs.Table.{class_of, move_of};
 ghost use Rattle.gliftext.specs.Utf8.{rune_class, rune_on};
+
+use crate::action::Action;
+use crate::row::at;
 
 const CLASSES: [u8; 256] = [
     0, 0, 0, 0, 0, 0, 0, 0, 0, 1, 1, 0, 0, 1, 0, 0, 0, 0, 0, 0, 0, 0, 0, 0, 0, 0, 0, 0, 0, 0, 0, 0,
@@ -107,6 +111,34 @@ const RUNE_TABLE: [u8; 165] = [
     10, 10, 10, 10, 10, 10, 10, 10, 10, 10, 10, 10,
 ];
 
+// The numbers of actions in the table are places here.
+const ACTIONS: [Action; 24] = [
+    Action::Pass,
+    Action::Tag,
+    Action::TagOn,
+    Action::NameStart,
+    Action::NameOn,
+    Action::Quote,
+    Action::Char,
+    Action::Attribute,
+    Action::Opens,
+    Action::Empty,
+    Action::Closes,
+    Action::Content,
+    Action::Section,
+    Action::Reference,
+    Action::TextReference,
+    Action::LetterOf,
+    Action::Decimal,
+    Action::Hexadecimal,
+    Action::Named,
+    Action::Numbered,
+    Action::Said,
+    Action::Declared,
+    Action::Declares,
+    Action::Target,
+];
+
 fn wide8(v: u8) -> usize
     ensures { result ≡ v }
 {
@@ -125,7 +157,14 @@ pub fn class_of(b: u8) -> usize
     wide8(CLASSES[b as usize])
 }
 
-// The next state and the action, as action * 64 + state.
+pub fn action_of(n: usize) -> Action
+    ensures { result ≡ action_of n }
+{
+    at(&ACTIONS, n, Action::Pass)
+}
+
+// The next state and the action's number, as action * 64 + state. States and classes are rows and columns of the
+// table, and stay numbers.
 pub fn move_of(state: usize, class: usize) -> usize
     ensures { result ≡ move_of state class }
 {

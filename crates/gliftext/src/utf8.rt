@@ -8,10 +8,8 @@ pub fn is_utf8(bytes: &[u8]) -> bool
     ensures { result ≡ is_utf8 bytes.now }
 {
     let mut state = 0;
-    let mut i = 0;
-    while i < bytes.len() {
-        state = rune_on(state, rune_class(bytes[i]));
-        i += 1;
+    for &b in bytes {
+        state = rune_on(state, rune_class(b));
     }
     state == 0
 }

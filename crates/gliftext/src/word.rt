@@ -38,11 +38,66 @@ pub fn grow(base: usize, n: usize, b: u8) -> usize
     if n < 1114112 { n * base + digit(b) } else { n }
 }
 
-// How far the number is read (0 nothing, 1 a sign, 2 whole digits, 3 a point, 4 digits after it, 5 no number),
-// its size before the point, whether it is below zero, and whether there is a digit but 0 after the point.
-#[derive(Clone, Copy)]
+// How far a number is read: nothing of it, a sign, whole digits, a point, digits after it; or it is no number.
+#[derive(Clone, Copy, Debug, PartialEq, Eq)]
+pub enum Progress {
+    Nothing,
+    Sign,
+    Whole,
+    Dot,
+    Part,
+    Broken,
+}
+
+impl Progress {
+    ghost use Rattle.gliftext.specs.Words.{digit_last, before_point, after_digit, after_sign, after_point};
+
+    pub fn digit_last(self) -> bool
+        ensures { result ≡ digit_last self }
+    {
+        matches!(self, Progress::Whole | Progress::Part)
+    }
+
+    fn before_point(self) -> bool
+        ensures { result ≡ before_point self }
+    {
+        matches!(self, Progress::Nothing | Progress::Sign | Progress::Whole)
+    }
+
+    fn after_digit(self) -> Progress
+        ensures { result ≡ after_digit self }
+    {
+        match self {
+            Progress::Nothing | Progress::Sign | Progress::Whole => Progress::Whole,
+            Progress::Dot | Progress::Part => Progress::Part,
+            Progress::Broken => Progress::Broken,
+        }
+    }
+
+    fn after_sign(self) -> Progress
+        ensures { result ≡ after_sign self }
+    {
+        match self {
+            Progress::Nothing => Progress::Sign,
+            _ => Progress::Broken,
+        }
+    }
+
+    fn after_point(self) -> Progress
+        ensures { result ≡ after_point self }
+    {
+        match self {
+            Progress::Whole => Progress::Dot,
+            _ => Progress::Broken,
+        }
+    }
+}
+
+// How far the number is read, its size before the point, whether it is below zero, and whether there is a digit
+// but 0 after the point.
+#[derive(Clone, Copy, Debug, PartialEq, Eq)]
 pub struct Number {
-    pub state: usize,
+    pub state: Progress,
     pub size: usize,
     pub minus: bool,
     pub part: bool,
@@ -52,23 +107,21 @@ pub fn no_number() -> Number
     ensures { result ≡ no_number }
 {
     Number {
-        state: 0,
+        state: Progress::Nothing,
         size: 0,
         minus: false,
         part: false,
     }
 }
 
-fn state_fed(state: usize, digit: bool, sign: bool, point: bool) -> usize
+fn state_fed(state: Progress, digit: bool, sign: bool, point: bool) -> Progress
     ensures { result ≡ state_fed state digit sign point }
 {
-    let after_digit = pick(state < 3, 2, pick(state < 5, 4, 5));
-    let after_sign = pick(state == 0, 1, 5);
-    let after_point = pick(state == 2, 3, 5);
+    let other = pick(point, state.after_point(), Progress::Broken);
     pick(
         digit,
-        after_digit,
-        pick(sign, after_sign, pick(point, after_point, 5)),
+        state.after_digit(),
+        pick(sign, state.after_sign(), other),
     )
 }
 
@@ -76,12 +129,12 @@ pub fn feed_number(n: Number, b: u8) -> Number
     ensures { result ≡ fed_number n b }
 {
     let d = both(47 < b, b < 58);
-    let whole = n.state < 3;
+    let whole = n.state.before_point();
     Number {
         state: state_fed(n.state, d, either(b == 43, b == 45), b == 46),
         size: pick(both(d, whole), grow(10, n.size, b), n.size),
         minus: either(n.minus, b == 45),
-        part: either(n.part, both(both(d, 2 < n.state), 48 < b)),
+        part: either(n.part, both(both(d, !whole), 48 < b)),
     }
 }
 

@@ -2,12 +2,13 @@
 use Rattle.std.specs.Prelude.{ℕ, List, [], ◌∷◌, ◌≡◌, refl, pos, negsuc, replicate}
 use Rattle.gliftext.specs.Pick.{pick, more, sum}
 use Rattle.gliftext.specs.Words.{pushed, digit_of, grown, fed_number, named_char, is_char, narrowed}
+use Rattle.gliftext.specs.Actions.{actions, action_of}
 use Rattle.gliftext.specs.Table.{classes, class_of, is_name, table, move_of}
 use Rattle.gliftext.specs.Utf8.{runes, rune_class, rune_table, rune_on, rune_at, is_utf8}
-use Rattle.gliftext.specs.Text.{named, referred, valued, pointed, said, wrong_text, attributed, texted}
+use Rattle.gliftext.specs.Text.{named, referred, valued, kind_of, pointed, said, wrong_text, attributed, texted}
 use Rattle.glif.specs.Tree.{path_word, on_path, entered, left, text_fits, opens_tag, treed}
 use Rattle.glif.specs.Names.{alike, same_name, seen_to, repeated, unclosed, wrong_names, kept_names}
-use Rattle.glif.specs.Outline.{is_number, is_far, offset_of, known, cubic_of, begun, ended}
+use Rattle.glif.specs.Outline.{is_number, is_far, offset_of, cubic_of, begun, ended}
 use Rattle.glif.specs.Outline.{wrong_point, with_point, point_met, contour_met, contour_left, summed, mark_of, kept_point}
 use Rattle.glif.specs.Scan.{turned, scanned, totals_of, judged_of}
 use Rattle.glif.specs.Scan as scan
@@ -39,18 +40,18 @@ written =
 
 -- into a row of as many places as it takes
 pub writes_points : left_in file points 110 (replicate 110 0) ≡ written
-unfolding pick more sum pushed digit_of grown fed_number named_char is_char narrowed classes class_of is_name table move_of runes rune_class
-    rune_table rune_on rune_at is_utf8 named referred valued pointed said wrong_text attributed texted path_word on_path entered left text_fits opens_tag
-    treed alike same_name seen_to repeated unclosed wrong_names kept_names is_number is_far offset_of known cubic_of begun ended wrong_point with_point
+unfolding pick more sum pushed digit_of grown fed_number named_char is_char narrowed classes class_of is_name table move_of actions action_of runes rune_class
+    rune_table rune_on rune_at is_utf8 named referred valued kind_of pointed said wrong_text attributed texted path_word on_path entered left text_fits opens_tag
+    treed alike same_name seen_to repeated unclosed wrong_names kept_names is_number is_far offset_of cubic_of begun ended wrong_point with_point
     point_met contour_met contour_left summed mark_of kept_point turned scanned totals_of judged_of scan.number_of decimal_in decimal_of signed_of put_byte
     put_range put_number put_kind put_point is_on end_at start_of put_place put_to empty_to some_empty even rows_refused copy_on copy_to write_all number_of
     report_of
 writes_points = refl
 
 pub reports_bytes : answer_of file points 110 ≡ record { number = 0; bytes = 110 }
-unfolding pick more sum pushed digit_of grown fed_number named_char is_char narrowed classes class_of is_name table move_of runes rune_class
-    rune_table rune_on rune_at is_utf8 named referred valued pointed said wrong_text attributed texted path_word on_path entered left text_fits opens_tag
-    treed alike same_name seen_to repeated unclosed wrong_names kept_names is_number is_far offset_of known cubic_of begun ended wrong_point with_point
+unfolding pick more sum pushed digit_of grown fed_number named_char is_char narrowed classes class_of is_name table move_of actions action_of runes rune_class
+    rune_table rune_on rune_at is_utf8 named referred valued kind_of pointed said wrong_text attributed texted path_word on_path entered left text_fits opens_tag
+    treed alike same_name seen_to repeated unclosed wrong_names kept_names is_number is_far offset_of cubic_of begun ended wrong_point with_point
     point_met contour_met contour_left summed mark_of kept_point turned scanned totals_of judged_of scan.number_of decimal_in decimal_of signed_of put_byte
     put_range put_number put_kind put_point is_on end_at start_of put_place put_to empty_to some_empty even rows_refused copy_on copy_to write_all number_of
     report_of
@@ -58,9 +59,9 @@ reports_bytes = refl
 
 -- one place less: 9
 pub refuses_short : answer_of file points 109 ≡ record { number = 9; bytes = 0 }
-unfolding pick more sum pushed digit_of grown fed_number named_char is_char narrowed classes class_of is_name table move_of runes rune_class
-    rune_table rune_on rune_at is_utf8 named referred valued pointed said wrong_text attributed texted path_word on_path entered left text_fits opens_tag
-    treed alike same_name seen_to repeated unclosed wrong_names kept_names is_number is_far offset_of known cubic_of begun ended wrong_point with_point
+unfolding pick more sum pushed digit_of grown fed_number named_char is_char narrowed classes class_of is_name table move_of actions action_of runes rune_class
+    rune_table rune_on rune_at is_utf8 named referred valued kind_of pointed said wrong_text attributed texted path_word on_path entered left text_fits opens_tag
+    treed alike same_name seen_to repeated unclosed wrong_names kept_names is_number is_far offset_of cubic_of begun ended wrong_point with_point
     point_met contour_met contour_left summed mark_of kept_point turned scanned totals_of judged_of scan.number_of decimal_in decimal_of signed_of put_byte
     put_range put_number put_kind put_point is_on end_at start_of put_place put_to empty_to some_empty even rows_refused copy_on copy_to write_all number_of
     report_of

@@ -1,16 +1,10 @@
 // The points of a contour, and what is asked of the rows.
-ghost use Rattle.std.specs.Prelude.{◌≡◌, ◌-◌, pos, get_or};
+ghost use Rattle.std.specs.Prelude.{◌≡◌, ◌-◌};
 ghost use Rattle.glifwrite.specs.Puts.{put};
 ghost use Rattle.glifwrite.specs.Contours.{is_on, end_at, start_of, put_place, put_to, some_empty};
 
 use crate::put::put_point;
-use gliftext::{either, less, pick, plus};
-
-fn coordinate(row: &[i16], i: usize) -> i16
-    ensures { result ≡ get_or row.now i (pos 0) }
-{
-    if i < row.len() { row[i] } else { 0 }
-}
+use gliftext::{at, either, less, pick, plus};
 
 fn is_on(flags: &[u8], i: usize) -> bool
     ensures { result ≡ is_on flags.now i }
@@ -22,18 +16,12 @@ fn is_on(flags: &[u8], i: usize) -> bool
     }
 }
 
-pub fn wide(v: u16) -> usize
-    ensures { result ≡ v }
-{
-    v as usize
-}
-
 // The place after contour k's last point.
 pub fn end_at(ends: &[u16], k: usize) -> usize
     ensures { result ≡ end_at ends.now k }
 {
     if k < ends.len() {
-        plus(wide(ends[k]), 1)
+        plus(usize::from(ends[k]), 1)
     } else {
         0
     }
@@ -63,8 +51,8 @@ fn put_place(
     let last = pick(i == from, less(to, 1), less(i, 1));
     let before = is_on(flags, last);
     put_point(
-        coordinate(xs, i),
-        coordinate(ys, i),
+        gliftext::at(xs, i, 0),
+        gliftext::at(ys, i, 0),
         is_on(flags, i),
         before,
         out,
@@ -84,12 +72,9 @@ pub fn put_contour(
     ensures { put result out.new
         ≡ put_to xs.now ys.now flags.now from to (to - from) (put at out.old) }
 {
-    let n = less(to, from);
     let mut a = at;
-    let mut k = 0;
-    while k < n {
+    for k in 0..less(to, from) {
         a = put_place(xs, ys, flags, from, to, plus(from, k), out, a);
-        k += 1;
     }
     a
 }
@@ -99,10 +84,8 @@ pub fn some_empty(ends: &[u16]) -> bool
     ensures { result ≡ some_empty ends.now }
 {
     let mut found = false;
-    let mut k = 0;
-    while k < ends.len() {
+    for k in 0..ends.len() {
         found = either(found, end_at(ends, k) <= start_of(ends, k));
-        k += 1;
     }
     found
 }

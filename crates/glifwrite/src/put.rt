@@ -1,36 +1,19 @@
 // Bytes put into a row from a place on. Each function gives the next place; what lies past the end of the row
 // is not stored but counted, so that the same functions measure a file and write it.
-ghost use Rattle.std.specs.Prelude.{◌≡◌, ◌-◌, get_or, set};
+ghost use Rattle.std.specs.Prelude.{◌≡◌, ◌-◌};
 ghost use Rattle.glifwrite.specs.Puts.{put, put_range, put_number, put_kind, put_point};
 
-use gliftext::{less, more, pick, plus};
+use gliftext::{less, more, pick, plus, store};
 use lines::put_signed;
-
-fn byte_at(bytes: &[u8], i: usize) -> u8
-    ensures { result ≡ get_or bytes.now i 0 }
-{
-    if i < bytes.len() { bytes[i] } else { 0 }
-}
-
-fn store(row: &mut [u8], i: usize, v: u8)
-    ensures { row.new ≡ set row.old i v }
-{
-    if i < row.len() {
-        row[i] = v;
-    }
-}
 
 // The bytes from one place to another.
 pub fn put_range(bytes: &[u8], from: usize, to: usize, out: &mut [u8], at: usize) -> usize
     ensures { put result out.new ≡ put_range bytes.now from (to - from) (put at out.old) }
 {
-    let n = less(to, from);
     let mut a = at;
-    let mut k = 0;
-    while k < n {
-        store(out, a, byte_at(bytes, plus(from, k)));
+    for k in 0..less(to, from) {
+        store(out, a, gliftext::at(bytes, plus(from, k), 0));
         a = more(a);
-        k += 1;
     }
     a
 }

@@ -12,7 +12,7 @@ use gliftext::{both, either, less, more, pick};
 
 // The file from `from` on is still to be copied; the last `<` stands at `tag`; the next contour is number k;
 // the next place of the output.
-#[derive(Clone, Copy)]
+#[derive(Clone, Copy, Debug, PartialEq, Eq)]
 pub struct Copy {
     pub from: usize,
     pub tag: usize,
@@ -83,12 +83,10 @@ fn write_all(
     let mut none = [[0; 3]; 1];
     let mut s = fresh_scan();
     let mut c = no_copy();
-    let mut i = 0;
-    while i < n {
+    for i in 0..n {
         let t = turn(bytes, i, s, &mut names, &mut none);
         c = copy_on(bytes, ends, xs, ys, flags, i, s, t, c, out);
         s = t;
-        i += 1;
     }
     put_range(bytes, c.from, n, out, c.at)
 }
@@ -117,7 +115,7 @@ fn refuse(number: usize, contours: usize, ends: &[u16], xs: usize, ys: usize, fl
 
 // The number of a refusal, or 0; how many bytes were written.
 #[repr(C)]
-#[derive(Clone, Copy)]
+#[derive(Clone, Copy, Debug, PartialEq, Eq)]
 pub struct GlifWriteReport {
     pub number: u32,
     pub bytes: usize,

@@ -7,6 +7,7 @@ use mathlib.Core.Path.{◌≡◌, refl, ap, ◌∙◌}
 use lib.Dec.{ltb}
 use lib.IntN.{pos, neg_ℤ}
 use lib.ListN.{length, drop}
+use Rattle.refusals.specs.declared.refusal.Refusal.TheVariants.{CutShort}
 use Rattle.glyf.specs.Layout.{Glyph, Outcome, done, refused, Taken, taken, cut, next, byte, word, several, signed, bit, flagged, flags_of, difference_by, differences, Parts, count_of, parts_of, judged_parts, simple_only, headed, described}
 use Rattle.glyf.specs.After.{AfterIsNotLookedAt, FilledRowSays}
 use Rattle.glyf.proofs.Back.{written_read_back}
@@ -85,15 +86,15 @@ module _ (more : List ℕ) where
       next_same (differences 2 16 fs b₅) _ _ (differences_same 2 16 fs b₅) (λ dxs b₆.
       next_same (differences 4 32 fs b₆) _ _ (differences_same 4 32 fs b₆) (λ dys b₇ g. refl)))))))
 
-  judged_same : (t t' : Taken Parts) → Same t t' → (judged_parts t ≡ refused 12 → ⊥) → judged_parts t' ≡ judged_parts t
+  judged_same : (t t' : Taken Parts) → Same t t' → (judged_parts t ≡ refused CutShort → ⊥) → judged_parts t' ≡ judged_parts t
   judged_same cut t' e n = absurd (n refl)
   judged_same (taken p rest) t' e n = ap judged_parts (e refl)
 
-  simple_same : (b : Bool) (n : ℕ) (bs : List ℕ) → (simple_only b n bs ≡ refused 12 → ⊥) → simple_only b n (bs ++ more) ≡ simple_only b n bs
+  simple_same : (b : Bool) (n : ℕ) (bs : List ℕ) → (simple_only b n bs ≡ refused CutShort → ⊥) → simple_only b n (bs ++ more) ≡ simple_only b n bs
   simple_same true n bs h = judged_same (parts_of n bs) (parts_of n (bs ++ more)) (parts_same n bs) h
   simple_same false n bs h = refl
 
-  headed_same : (t t' : Taken ℕ) → Same t t' → (headed t ≡ refused 12 → ⊥) → headed t' ≡ headed t
+  headed_same : (t t' : Taken ℕ) → Same t t' → (headed t ≡ refused CutShort → ⊥) → headed t' ≡ headed t
   headed_same cut t' e h = absurd (h refl)
   headed_same (taken n bs) t' e h = ap headed (e refl) ∙ simple_same (ltb n 32768) n bs h
 
@@ -103,7 +104,7 @@ after_is_not_looked_at bytes more h = headed_same more (word bytes) (word (bytes
 
 -- ---- the row that a glyph was written into
 
-done_not : {o : Outcome Glyph} {g : Glyph} → o ≡ done g → o ≡ refused 12 → ⊥
+done_not : {o : Outcome Glyph} {g : Glyph} → o ≡ done g → o ≡ refused CutShort → ⊥
 done_not e h = let z : ◌≡◌ {A = ℕ} 0 1 = cc in omega arith
 
 pub filled_row_says : FilledRowSays

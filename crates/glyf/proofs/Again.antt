@@ -1,5 +1,6 @@
 -- What was read is written again and says the same; and the box of what is written. Assumes nothing.
 use Rattle.std.specs.Prelude.{◌+ℤ◌}
+use Rattle.refusals.specs.declared.refusal.Refusal.TheVariants.{EndsNotRising, TooLarge}
 use Prim.Native.Nat.{ℕ, zero, suc, ◌+◌, ◌-◌, ◌*◌, ◌%◌, ◌≤◌, ◌<◌}
 use mathlib.Core.Bool.{Bool, true, false, not, ◌&&◌}
 use mathlib.Core.List.{List, [], ◌∷◌, map}
@@ -242,7 +243,7 @@ module _ (g : Glyph) where
   judged_read n (taken p end) h fits e = by (rising p.ends) refl (all16 (sums (pos 0) p.dxs)) refl (all16 (sums (pos 0) p.dys)) refl e
     where
       by : (a : Bool) → rising p.ends ≡ a → (b : Bool) → all16 (sums (pos 0) p.dxs) ≡ b → (c : Bool) → all16 (sums (pos 0) p.dys) ≡ c →
-          refuse 13 (not a) (refuse 14 (not (b && c)) (done (read_glyph p))) ≡ done g → Readable g
+          refuse EndsNotRising (not a) (refuse TooLarge (not (b && c)) (done (read_glyph p))) ≡ done g → Readable g
       by true q true r true s e =
           let is : read_glyph p ≡ g = done_is e in
           rw (← is) (readable n p h (fits p end refl) q r s)
@@ -291,7 +292,7 @@ module _ (g : Glyph) (r : Readable g) where
         le-ltb (length g.flags) (count_of g.ends) (omega (arith, w.count)),
         w.rise,
       )
-      (ap (λ (v : Glyph). refuse 14 (too_large v) (fitting room (bytes_of v))) all_taken_lem ∙ ap (λ (t : Bool). refuse 14 t (fitting room (bytes_of g))) not_large)
+      (ap (λ (v : Glyph). refuse TooLarge (too_large v) (fitting room (bytes_of v))) all_taken_lem ∙ ap (λ (t : Bool). refuse TooLarge t (fitting room (bytes_of g))) not_large)
 
 pub read_written_again : ReadWrittenAgain
 read_written_again bytes g h e =

@@ -10,6 +10,7 @@ use lib.Dec.{eqb, ltb}
 use lib.IntN.{ℤ, pos, ◌+ℤ◌, ◌-ℤ◌, +ℤ_comm, -ℤ-+ℤ_cancel, +ℤ-neg_ℤ_cancel}
 use lib.ListN.{length, take}
 use lib.Seq.{length-take-le}
+use Rattle.refusals.specs.declared.refusal.Refusal.TheVariants.{UnevenRows, OutputTooShort, CutShort, EndsNotRising, TooLarge}
 use Rattle.glyf.specs.Layout.{Glyph, done, refuse, taken, byte, several, is_on, flags_of, differences}
 use Rattle.glyf.specs.Layout.{count_of, parts_of, sums, in16, all16, rising, described, word_bytes, signed_bytes, joined}
 use Rattle.glyf.specs.Layout.{box_of, steps, code_of, coded_flags, packed_flags, bytes_of, trimmed, rows_differ, too_large, written_of}
@@ -193,7 +194,7 @@ written room g bytes e = by (rows_differ g) refl (ltb (length g.flags) (count_of
   where
     by : (a : Bool) → rows_differ g ≡ a → (b : Bool) → ltb (length g.flags) (count_of g.ends) ≡ b → (c : Bool) → rising g.ends ≡ c →
         (d : Bool) → too_large (trimmed g) ≡ d → (f : Bool) →
-        refuse 1 a (refuse 12 b (refuse 13 (not c) (refuse 14 d (refuse 9 f (done (bytes_of (trimmed g))))))) ≡ done bytes → Written room g bytes
+        refuse UnevenRows a (refuse CutShort b (refuse EndsNotRising (not c) (refuse TooLarge d (refuse OutputTooShort f (done (bytes_of (trimmed g))))))) ≡ done bytes → Written room g bytes
     by false p false q true s false t false e = record { like = p; enough = q; rise = s; small = t; is = cc }
     by true p b q c s d t f e = absurd (let z : ◌≡◌ {A = ℕ} 0 1 = cc in omega arith)
     by false p true q c s d t f e = absurd (let z : ◌≡◌ {A = ℕ} 0 1 = cc in omega arith)

@@ -7,6 +7,7 @@ use native.Mathlib.Omega.{arith}
 use lib.Dec.{ltb}
 use lib.IntN.{ℤ, pos}
 use lib.ListN.{length, length-map}
+use Rattle.refusals.specs.declared.refusal.Refusal.TheVariants.{OutputTooShort, EndsNotRising, TooLarge}
 use Rattle.glyf.specs.Layout.{Glyph, Outcome, done, refused, refuse, Taken, taken, cut, next, byte, word, several, bit, is_on, flagged, flags_of}
 use Rattle.glyf.specs.Layout.{difference_by, differences, Parts, count_of, parts_of, sums, all16, rising, glyph_of, judged_parts, simple_only, headed}
 use Rattle.glyf.specs.Layout.{described, Rooms, too_small, roomy, read_of}
@@ -84,7 +85,7 @@ module _ (g : Glyph) where
   judged_sound cut counted e = absurd (let z : ◌≡◌ {A = ℕ} 0 1 = cc in omega arith)
   judged_sound (taken p end) counted e = by (rising p.ends) refl (all16 (sums (pos 0) p.dxs) && all16 (sums (pos 0) p.dys)) e
     where
-      by : (a : Bool) → rising p.ends ≡ a → (b : Bool) → refuse 13 (not a) (refuse 14 (not b) (done (glyph_of p))) ≡ done g → Sound g
+      by : (a : Bool) → rising p.ends ≡ a → (b : Bool) → refuse EndsNotRising (not a) (refuse TooLarge (not b) (done (glyph_of p))) ≡ done g → Sound g
       by true q true e = let is : glyph_of p ≡ g = done_is e in rw (← is) (parts_sound p q (counted p end refl))
       by false q b e = absurd (let z : ◌≡◌ {A = ℕ} 0 1 = cc in omega arith)
       by true q false e = absurd (let z : ◌≡◌ {A = ℕ} 0 1 = cc in omega arith)
@@ -105,7 +106,7 @@ module _ (g : Glyph) where
   roomy_done r (refused k) e = absurd (let z : ◌≡◌ {A = ℕ} 0 1 = cc in omega arith)
   roomy_done r (done h) e = by (too_small r h) e
     where
-      by : (b : Bool) → refuse 9 b (done h) ≡ done g → done h ≡ done g
+      by : (b : Bool) → refuse OutputTooShort b (done h) ≡ done g → done h ≡ done g
       by true e = absurd (let z : ◌≡◌ {A = ℕ} 0 1 = cc in omega arith)
       by false e = e
 

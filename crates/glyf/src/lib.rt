@@ -25,12 +25,10 @@ pub fn count_of(ends: &[u16]) -> usize
 pub fn ends_rise(ends: &[u16]) -> bool
     ensures { result ≡ rising ends.now }
 {
-    let mut i = 1;
-    while i < ends.len() {
+    for i in 1..ends.len() {
         if ends[i] <= ends[i - 1] {
             return false;
         }
-        i += 1;
     }
     true
 }

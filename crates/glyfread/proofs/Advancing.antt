@@ -1,6 +1,7 @@
 -- One point of a walk, and the points after it. Assumes nothing.
+use Rattle.std.specs.Prelude.{Option, Some, None}
 use Prim.Native.Nat.{ℕ, suc, ◌+◌, ◌-◌, ◌≤◌, ◌<◌}
-use mathlib.Core.Bool.{Bool, true, false, ◌&&◌}
+use mathlib.Core.Bool.{Bool, true, false, cond, ◌&&◌}
 use mathlib.Core.List.{List, [], ◌∷◌}
 use mathlib.Core.Path.{◌≡◌, refl, sym, ◌∙◌}
 use native.Mathlib.Omega.{arith}
@@ -14,28 +15,24 @@ use mir.Syntax.{w16, w32}
 use mir.Val.{SFits, to_z, of_z}
 use mir.Facts.{to_z-of_z}
 use Rattle.glyf.specs.Layout.{bit, signed, in16, all16, Taken, taken, cut, next, flags_of, difference_by, differences, sums}
-use Rattle.glyfread.specs.Steps.{next_flag, delta_if, short_at, long_at, delta_at, word_at, moved_if, moved_to}
+use Rattle.glyfread.specs.Steps.{next_flag, short_at, long_at, delta_at, word_at, moved_if, moved_to}
 use Rattle.glyfread.specs.Walks.{Coords, coords, up_to, ahead, fits, in_front, Advanced}
 use Rattle.glyfread.specs.declared.walk.Walk.{Walk}
-use Rattle.glyfread.specs.declared.walk.Flag.TheVariants as F
 use Rattle.glyfread.specs.declared.walk.Delta.{Delta}
-use Rattle.glyfread.specs.declared.walk.Delta.TheVariants as D
-use Rattle.glyfread.specs.declared.walk.Moved.{Moved}
-use Rattle.glyfread.specs.declared.walk.Moved.TheVariants as M
 use Rattle.glyfread.proofs.Walking.{flag_step}
 
 -- ---- a difference at a place
 
-abbrev on_delta : List ℕ → Delta → Taken ℤ
-on_delta bs (D.Is d a) = taken d (drop a bs)
-on_delta bs D.Cut = cut
+abbrev on_delta : List ℕ → Option Delta → Taken ℤ
+on_delta bs (Some d) = taken d.value (drop d.at bs)
+on_delta bs None = cut
 
 short_step : (bs : List ℕ) (at : ℕ) (same : Bool) → difference_by true same (drop at bs) ≡ on_delta bs (short_at bs at same)
 unfolding short_at
 short_step bs at same = by (leb (length bs) at) refl same
   where
-    by : (t : Bool) → leb (length bs) at ≡ t → (s : Bool) → difference_by true s (drop at bs) ≡ on_delta bs (delta_if t D.Cut
-        (delta_if s (D.Is (pos (get_or bs at 0)) (at + 1)) (D.Is (neg_ℤ (pos (get_or bs at 0))) (at + 1))))
+    by : (t : Bool) → leb (length bs) at ≡ t → (s : Bool) → difference_by true s (drop at bs) ≡ on_delta bs (cond t None
+        (cond s (Some (record { value = pos (get_or bs at 0); at = at + 1 })) (Some (record { value = neg_ℤ (pos (get_or bs at 0)); at = at + 1 }))))
     by true h true = rw (drop_of_length-le bs (leb-true (length bs) at h))
     by true h false = rw (drop_of_length-le bs (leb-true (length bs) at h))
     by false h true = rw (drop-cons bs at 0 (leb-false (length bs) at h), add-one)
@@ -52,7 +49,7 @@ word_step bs at = by (leb (length bs) at) refl
     two = omega arith
 
     after : at < length bs → (t : Bool) → leb (length bs) (at + 1) ≡ t → difference_by false false (get_or bs at 0 ∷ drop (suc at) bs) ≡
-        on_delta bs (delta_if t D.Cut (D.Is (signed (word_at bs at)) (at + 2)))
+        on_delta bs (cond t None (Some (record { value = signed (word_at bs at); at = at + 2 })))
     after k true h =
         let past = leb-true (length bs) (at + 1) h in
         let out : length bs ≤ suc at = omega arith in
@@ -62,8 +59,8 @@ word_step bs at = by (leb (length bs) at) refl
         let in-it : suc at < length bs = omega arith in
         rw (drop-cons bs (suc at) 0 in-it, one, two)
 
-    by : (t : Bool) → leb (length bs) at ≡ t → difference_by false false (drop at bs) ≡ on_delta bs (delta_if t D.Cut
-        (delta_if (leb (length bs) (at + 1)) D.Cut (D.Is (signed (word_at bs at)) (at + 2))))
+    by : (t : Bool) → leb (length bs) at ≡ t → difference_by false false (drop at bs) ≡ on_delta bs (cond t None
+        (cond (leb (length bs) (at + 1)) None (Some (record { value = signed (word_at bs at); at = at + 2 }))))
     by true h = rw (drop_of_length-le bs (leb-true (length bs) at h))
     by false h = rw (drop-cons bs at 0 (leb-false (length bs) at h)) (after (leb-false (length bs) at h) (leb (length bs) (at + 1)) refl)
 
@@ -75,27 +72,27 @@ delta_step bs at false false = word_step bs at
 
 -- ---- a coordinate moved
 
-moved_by : (t : Bool) (z x : ℤ) → moved_if t z ≡ M.To x → (x ≡ z) × (t ≡ true)
+moved_by : (t : Bool) (z x : ℤ) → moved_if t z ≡ Some x → (x ≡ z) × (t ≡ true)
 moved_by true z x e = ((cc), refl)
 moved_by false z x e = ((cc), (cc))
 
-moved_out : (t : Bool) (z : ℤ) → moved_if t z ≡ M.Outside → t ≡ false
+moved_out : (t : Bool) (z : ℤ) → moved_if t z ≡ None → t ≡ false
 moved_out true z e = cc
 moved_out false z e = refl
 
-module _ {a b : ℤ} {r : Moved} (fa : SFits w16 a) (fb : SFits w32 b) (is : r ≡ moved_to (to_z w16 (of_z w16 a) +ℤ to_z w32 (of_z w32 b))) where
+module _ {a b : ℤ} {r : Option ℤ} (fa : SFits w16 a) (fb : SFits w32 b) (is : r ≡ moved_to (to_z w16 (of_z w16 a) +ℤ to_z w32 (of_z w32 b))) where
   plain : r ≡ moved_to (a +ℤ b)
   plain = is ∙ (λ k. moved_to (to_z-of_z fa k +ℤ to_z-of_z fb k))
 
-  pub sum_of : {x : ℤ} → r ≡ M.To x → x ≡ a +ℤ b
+  pub sum_of : {x : ℤ} → r ≡ Some x → x ≡ a +ℤ b
   unfolding moved_to
   sum_of {x} e = (moved_by (in16 (a +ℤ b)) (a +ℤ b) x (sym plain ∙ e)).0
 
-  pub sum_in_lem : {x : ℤ} → r ≡ M.To x → in16 (a +ℤ b) ≡ true
+  pub sum_in_lem : {x : ℤ} → r ≡ Some x → in16 (a +ℤ b) ≡ true
   unfolding moved_to
   sum_in_lem {x} e = (moved_by (in16 (a +ℤ b)) (a +ℤ b) x (sym plain ∙ e)).1
 
-  pub sum_out : r ≡ M.Outside → in16 (a +ℤ b) ≡ false
+  pub sum_out : r ≡ None → in16 (a +ℤ b) ≡ false
   unfolding moved_to
   sum_out e = moved_out (in16 (a +ℤ b)) (a +ℤ b) (sym plain ∙ e)
 
@@ -115,11 +112,11 @@ and-false true = refl
 and-false false = refl
 
 module _ (bs : List ℕ) (w : Walk) where
-  pub no_flag : next_flag bs w.flags w.due w.flag ≡ F.Cut → (n : ℕ) → fits (ahead (suc n) bs w) ≡ false
+  pub no_flag : next_flag bs w.flags w.due w.flag ≡ None → (n : ℕ) → fits (ahead (suc n) bs w) ≡ false
   unfolding ahead fits
   no_flag e n = rw (flag_step n bs w.flags w.due w.flag, e)
 
-  module _ {a d g : ℕ} (flag : next_flag bs w.flags w.due w.flag ≡ F.Is a d g) where
+  module _ {a d g : ℕ} (flag : next_flag bs w.flags w.due w.flag ≡ Some (record { at = a; due = d; flag = g })) where
     -- the points after the flag
     abbrev opened : List ℕ → Taken Coords
     opened fs =
@@ -135,18 +132,18 @@ module _ (bs : List ℕ) (w : Walk) where
     outside : (n : ℕ) → ((fs : List ℕ) → fits (opened fs) ≡ false) → fits (ahead (suc n) bs w) ≡ false
     outside n h = rw (opens n) (fits_next (flags_of n d g (drop a bs)) (λ fs r. opened fs) (λ fs r. h fs))
 
-    x_taken : {b₁ b₂ : Bool} {r : Delta} → r ≡ delta_at bs w.xs b₁ b₂ → b₁ ≡ bit 2 g → b₂ ≡ bit 16 g → difference_by (bit 2 g) (bit 16 g) (drop w.xs bs) ≡ on_delta bs r
+    x_taken : {b₁ b₂ : Bool} {r : Option Delta} → r ≡ delta_at bs w.xs b₁ b₂ → b₁ ≡ bit 2 g → b₂ ≡ bit 16 g → difference_by (bit 2 g) (bit 16 g) (drop w.xs bs) ≡ on_delta bs r
     x_taken e p q = rw (e, p, q) (delta_step bs w.xs (bit 2 g) (bit 16 g))
 
-    y_taken : {b₁ b₂ : Bool} {r : Delta} → r ≡ delta_at bs w.ys b₁ b₂ → b₁ ≡ bit 4 g → b₂ ≡ bit 32 g → difference_by (bit 4 g) (bit 32 g) (drop w.ys bs) ≡ on_delta bs r
+    y_taken : {b₁ b₂ : Bool} {r : Option Delta} → r ≡ delta_at bs w.ys b₁ b₂ → b₁ ≡ bit 4 g → b₂ ≡ bit 32 g → difference_by (bit 4 g) (bit 32 g) (drop w.ys bs) ≡ on_delta bs r
     y_taken e p q = rw (e, p, q) (delta_step bs w.ys (bit 4 g) (bit 32 g))
 
-    module _ {b₁ b₂ : Bool} {r : Delta} (er : r ≡ delta_at bs w.xs b₁ b₂) (p₁ : b₁ ≡ bit 2 g) (p₂ : b₂ ≡ bit 16 g) where
-      pub no_x : r ≡ D.Cut → (n : ℕ) → fits (ahead (suc n) bs w) ≡ false
+    module _ {b₁ b₂ : Bool} {r : Option Delta} (er : r ≡ delta_at bs w.xs b₁ b₂) (p₁ : b₁ ≡ bit 2 g) (p₂ : b₂ ≡ bit 16 g) where
+      pub no_x : r ≡ None → (n : ℕ) → fits (ahead (suc n) bs w) ≡ false
       unfolding differences fits
       no_x e n = outside n (λ fs. rw (x_taken er p₁ p₂, e))
 
-      module _ {dx : ℤ} {xa : ℕ} (ex : r ≡ D.Is dx xa) where
+      module _ {dx : ℤ} {xa : ℕ} (ex : r ≡ Some (record { value = dx; at = xa })) where
         abbrev opened_x : List ℕ → List ℤ → Taken Coords
         opened_x fs dxs = up_to w.x w.y (g ∷ fs) (dx ∷ dxs) (differences 4 32 (g ∷ fs) (drop w.ys bs))
 
@@ -163,12 +160,12 @@ module _ (bs : List ℕ) (w : Walk) where
         out_x e n = outside_x n (λ fs dxs. fits_next (differences 4 32 (g ∷ fs) (drop w.ys bs))
             (λ dys end. taken (coords (g ∷ fs) (sums w.x (dx ∷ dxs)) (sums w.y dys)) end) (λ dys end. rw e))
 
-        module _ {b₃ b₄ : Bool} {s : Delta} (es : s ≡ delta_at bs w.ys b₃ b₄) (p₃ : b₃ ≡ bit 4 g) (p₄ : b₄ ≡ bit 32 g) where
-          pub no_y : s ≡ D.Cut → (n : ℕ) → fits (ahead (suc n) bs w) ≡ false
+        module _ {b₃ b₄ : Bool} {s : Option Delta} (es : s ≡ delta_at bs w.ys b₃ b₄) (p₃ : b₃ ≡ bit 4 g) (p₄ : b₄ ≡ bit 32 g) where
+          pub no_y : s ≡ None → (n : ℕ) → fits (ahead (suc n) bs w) ≡ false
           unfolding differences fits
           no_y e n = outside_x n (λ fs dxs. rw (y_taken es p₃ p₄, e))
 
-          module _ {dy : ℤ} {ya : ℕ} (ey : s ≡ D.Is dy ya) where
+          module _ {dy : ℤ} {ya : ℕ} (ey : s ≡ Some (record { value = dy; at = ya })) where
             abbrev opened_y : List ℕ → List ℤ → List ℤ → List ℕ → Taken Coords
             opened_y fs dxs dys end = taken (coords (g ∷ fs) (sums w.x (dx ∷ dxs)) (sums w.y (dy ∷ dys))) end
 

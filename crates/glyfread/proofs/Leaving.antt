@@ -1,4 +1,7 @@
 -- What reading leaves in the rows. Assumes nothing.
+use Rattle.std.specs.Prelude.{Result, Ok, Err}
+use Rattle.refusals.specs.declared.refusal.Refusal.TheVariants.{OutputTooShort}
+use Rattle.refusals.specs.declared.refusal.Refusal.{Refusal}
 use Prim.Native.Nat.{ℕ, ◌≤◌}
 use mathlib.Core.Bool.{Bool, true, false, ◌||◌}
 use mathlib.Core.List.{List}
@@ -15,21 +18,20 @@ use Rattle.glyfread.specs.Walks.{start_at, ahead, xs_in, ys_in, on_in, Roomy}
 use Rattle.glyfread.specs.Reads.{points_at, glyph_at, Judged, lacking, answer_of}
 use Rattle.glyfread.specs.declared.read.Places.{Places}
 use Rattle.glyfread.specs.declared.walk.Walk.{Walk}
-use Rattle.glyfread.specs.declared.read.Read.{Read}
-use Rattle.glyfread.specs.declared.read.Read.TheVariants as R
+use Rattle.glyfread.specs.declared.read.Counts.{Counts}
 use Rattle.glyfread.proofs.Words.{length_words, length_part}
 use Rattle.glyfread.proofs.Parts.{points_counted}
 
 module _ (bs : List ℕ) (w : Glyph) where
   -- the answer and the rows, of what is read
-  pub record Leaves (r : Read) (v : Glyph) : Type 0 where
+  pub record Leaves (r : Result Counts Refusal) (v : Glyph) : Type 0 where
     pub answer : r ≡ answer_of (read_of (rooms_of w) bs)
     pub left : v ≡ left_by laid_in (read_of (rooms_of w) bs) w
 
-  unread : (k : ℕ) → read_of (rooms_of w) bs ≡ refused k → Leaves (R.Refused k) w
+  unread : (k : Refusal) → read_of (rooms_of w) bs ≡ refused k → Leaves (Err k) w
   unread k e = record { answer = sym (ap answer_of e); left = sym (ap (λ (o : Outcome Glyph). left_by laid_in o w) e) }
 
-  pub leaves_all : (k : ℕ) → described bs ≡ refused k → Leaves (R.Refused k) w
+  pub leaves_all : (k : Refusal) → described bs ≡ refused k → Leaves (Err k) w
   unfolding read_of
   leaves_all k e = unread k (rw e)
 
@@ -47,20 +49,20 @@ module _ (bs : List ℕ) (w : Glyph) where
     small : too_small (rooms_of w) (glyph_at bs p) ≡ b
     small = rw (ends_are, code_is, points_are) (sym room)
 
-    says : read_of (rooms_of w) bs ≡ refuse 9 b (done (glyph_at bs p))
+    says : read_of (rooms_of w) bs ≡ refuse OutputTooShort b (done (glyph_at bs p))
     unfolding read_of
-    says = ap (roomy (rooms_of w)) j.says ∙ ap (λ (t : Bool). refuse 9 t (done (glyph_at bs p))) small
+    says = ap (roomy (rooms_of w)) j.says ∙ ap (λ (t : Bool). refuse OutputTooShort t (done (glyph_at bs p))) small
 
-    pub leaves_short : b ≡ true → Leaves (R.Refused 9) w
-    leaves_short e = unread 9 (says ∙ rw e)
+    pub leaves_short : b ≡ true → Leaves (Err OutputTooShort) w
+    leaves_short e = unread OutputTooShort (says ∙ rw e)
 
     pub leaves_filled : b ≡ false → {v : Walk} → v ≡ start_at p.flags p.xs p.ys →
         {es is : List ℕ} {xs ys : List ℤ} {fs : List ℕ} → es ≡ laid (words_at bs 10 p.contours) w.ends →
         is ≡ laid (take p.size (drop p.code bs)) w.instructions → xs ≡ laid (xs_in (ahead p.points bs v)) w.xs →
         ys ≡ laid (ys_in (ahead p.points bs v)) w.ys → fs ≡ laid (on_in (ahead p.points bs v)) w.flags →
-        Leaves (R.Glyph p.contours p.points p.size) (glyph es xs ys fs is)
+        Leaves (Ok (record { contours = p.contours; points = p.points; instructions = p.size })) (glyph es xs ys fs is)
     leaves_filled e from {es} {is} {xs} {ys} {fs} a b' c d f =
-        let whole = says ∙ ap (λ (t : Bool). refuse 9 t (done (glyph_at bs p))) e in
+        let whole = says ∙ ap (λ (t : Bool). refuse OutputTooShort t (done (glyph_at bs p))) e in
         let x : xs ≡ laid (xs_in (points_at bs p)) w.xs = c ∙ ap (λ (v : Walk). laid (xs_in (ahead p.points bs v)) w.xs) from in
         let y : ys ≡ laid (ys_in (points_at bs p)) w.ys = d ∙ ap (λ (v : Walk). laid (ys_in (ahead p.points bs v)) w.ys) from in
         let o : fs ≡ laid (on_in (points_at bs p)) w.flags = f ∙ ap (λ (v : Walk). laid (on_in (ahead p.points bs v)) w.flags) from in

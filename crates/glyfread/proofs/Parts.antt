@@ -1,4 +1,5 @@
 -- The parts of a description, by their places. Assumes nothing.
+use Rattle.std.specs.Prelude.{Some, None}
 use Prim.Native.Nat.{ℕ, zero, suc, ◌+◌, ◌-◌, ◌*◌, ◌≤◌, ◌<◌}
 use mathlib.Core.Bool.{Bool, true, false}
 use mathlib.Core.List.{List, [], ◌∷◌}
@@ -10,6 +11,7 @@ use lib.Dec.{leb}
 use lib.IntN.{ℤ, pos}
 use lib.ListN.{length, get_or, take, drop, drop_of_length-le}
 use lib.Seq.{drop-cons}
+use Rattle.refusals.specs.declared.refusal.Refusal.TheVariants.{CutShort, Composite}
 use Rattle.glyf.specs.Layout.{Taken, taken, cut, next, byte, word, several, flagged, flags_of, bit}
 use Rattle.glyf.specs.Layout.{difference_by, differences, signed, count_of, Parts, parts_of, judged_parts, described, refused, sums}
 use Rattle.glyfread.specs.Steps.{word_at, words_at, width_of, widths, scan_on, scan_of}
@@ -17,10 +19,10 @@ use Rattle.glyfread.specs.Walks.{Coords, coords, up_to, start_at, ahead, fits, o
 use Rattle.glyf.specs.Layout.{is_on}
 use mathlib.Core.Bool.{false≢true}
 use lib.ListN.{length-map}
+use Rattle.glyfread.specs.declared.walk.Scan.{Scan}
 use Rattle.glyfread.specs.declared.walk.Walk.{Walk}
 use Rattle.glyfread.specs.declared.read.Places.{Places}
 use Rattle.glyfread.specs.Reads.{Headed, points_at, Stands}
-use Rattle.glyfread.specs.declared.walk.Scan.TheVariants as S
 use lib.IntN.{neg_ℤ}
 use borrow.Author.Tests.{lt-ltb, le-ltb}
 
@@ -139,17 +141,20 @@ flags_suffix (suc n) zero f (b ∷ bs) = flag_suffix (bit 8 b) n b bs (λ due cs
 data Flagged (bs : List ℕ) (t : Taken (List ℕ)) (xa wx wy : ℕ) : Type 0 where
   flags_there : (fs : List ℕ) → t ≡ taken fs (drop xa bs) → wx ≡ widths 2 16 fs → wy ≡ widths 4 32 fs → xa ≤ length bs → Flagged bs t xa wx wy
 
-scanned : (bs : List ℕ) (at : ℕ) (t : Taken (List ℕ)) {xa wx wy : ℕ} → SuffixOf (drop at bs) t → S.Is xa wx wy ≡ scan_of (length bs) t → Flagged bs t xa wx wy
+same_scan : {s t : Scan} → Some s ≡ Some t → s ≡ t
+same_scan e = cc
+
+scanned : (bs : List ℕ) (at : ℕ) (t : Taken (List ℕ)) {xa wx wy : ℕ} → SuffixOf (drop at bs) t → Some (record { xs = xa; wide_x = wx; wide_y = wy }) ≡ scan_of (length bs) t → Flagged bs t xa wx wy
 unfolding scan_on
 scanned bs at (taken fs rest) {xa} {wx} {wy} s e =
     let whole = drop_suffix at bs s in
-    let place : xa ≡ length bs - length rest = cc in
-    let x : wx ≡ 0 + widths 2 16 fs = cc in
-    let y : wy ≡ 0 + widths 4 32 fs = cc in
+    let place : xa ≡ length bs - length rest = ap (λ (s : Scan). s.xs) (same_scan e) in
+    let x : wx ≡ 0 + widths 2 16 fs = ap (λ (s : Scan). s.wide_x) (same_scan e) in
+    let y : wy ≡ 0 + widths 4 32 fs = ap (λ (s : Scan). s.wide_y) (same_scan e) in
     flags_there fs (rw place (ap (taken fs) (sym whole.is))) (omega arith) (omega arith) (omega arith)
 scanned bs at cut s e = absurd (let z : ◌≡◌ {A = ℕ} 0 1 = cc in omega arith)
 
-scan_none : (n : ℕ) (t : Taken (List ℕ)) → S.Cut ≡ scan_of n t → t ≡ cut
+scan_none : (n : ℕ) (t : Taken (List ℕ)) → None ≡ scan_of n t → t ≡ cut
 unfolding scan_on
 scan_none n (taken fs rest) e = absurd (let z : ◌≡◌ {A = ℕ} 0 1 = cc in omega arith)
 scan_none n cut e = refl
@@ -201,12 +206,12 @@ diffed short same (f ∷ fs) bs at h = go (one_diff bs at h (bit short f) (bit s
 -- ---- the head
 
 module _ (bs : List ℕ) where
-  pub too_short : length bs < 2 → described bs ≡ refused 12
+  pub too_short : length bs < 2 → described bs ≡ refused CutShort
   unfolding described
   too_short h = rw (word_cut bs 0 h)
 
   module _ (two : 2 ≤ length bs) where
-    pub composite : 32768 ≤ word_at bs 0 → described bs ≡ refused 15
+    pub composite : 32768 ≤ word_at bs 0 → described bs ≡ refused Composite
     unfolding described
     composite h = rw (word_taken bs 0 two, le-ltb (word_at bs 0) 32768 h)
 
@@ -279,24 +284,24 @@ module _ (bs : List ℕ) (n code size : ℕ) (head : Headed bs n code size) wher
   says = says_parts ∙ ap judged_parts head_parts
 
   module _ {points : ℕ} (count : points ≡ count_of es) where
-    pub no_flags : S.Cut ≡ scan_of (length bs) (flags_of points 0 0 (drop (code + size) bs)) → described bs ≡ refused 12
+    pub no_flags : None ≡ scan_of (length bs) (flags_of points 0 0 (drop (code + size) bs)) → described bs ≡ refused CutShort
     no_flags e = says ∙ rw (← count, scan_none (length bs) (flags_of points 0 0 (drop (code + size) bs)) e)
 
-    module _ {xa wx wy : ℕ} (e : S.Is xa wx wy ≡ scan_of (length bs) (flags_of points 0 0 (drop (code + size) bs))) where
+    module _ {xa wx wy : ℕ} (e : Some (record { xs = xa; wide_x = wx; wide_y = wy }) ≡ scan_of (length bs) (flags_of points 0 0 (drop (code + size) bs))) where
       found : Flagged bs (flags_of points 0 0 (drop (code + size) bs)) xa wx wy
       found = scanned bs (code + size) (flags_of points 0 0 (drop (code + size) bs)) (flags_suffix points 0 0 (drop (code + size) bs)) e
 
-      pub no_points_lem : length bs < xa + wx + wy → described bs ≡ refused 12
+      pub no_points_lem : length bs < xa + wx + wy → described bs ≡ refused CutShort
       no_points_lem short = says ∙ by found
         where
-          by : Flagged bs (flags_of points 0 0 (drop (code + size) bs)) xa wx wy → judged_parts (after es is (drop (code + size) bs)) ≡ refused 12
+          by : Flagged bs (flags_of points 0 0 (drop (code + size) bs)) xa wx wy → judged_parts (after es is (drop (code + size) bs)) ≡ refused CutShort
           by (flags_there fs q px py inside) = on_x (diffed 2 16 fs bs xa inside)
             where
-              on_x : Diffed bs xa (widths 2 16 fs) (differences 2 16 fs (drop xa bs)) → judged_parts (after es is (drop (code + size) bs)) ≡ refused 12
+              on_x : Diffed bs xa (widths 2 16 fs) (differences 2 16 fs (drop xa bs)) → judged_parts (after es is (drop (code + size) bs)) ≡ refused CutShort
               on_x (cut_off c l) = rw (← count, q, c)
               on_x (there dxs c l) = on_y (diffed 4 32 fs bs (xa + widths 2 16 fs) l)
                 where
-                  on_y : Diffed bs (xa + widths 2 16 fs) (widths 4 32 fs) (differences 4 32 fs (drop (xa + widths 2 16 fs) bs)) → judged_parts (after es is (drop (code + size) bs)) ≡ refused 12
+                  on_y : Diffed bs (xa + widths 2 16 fs) (widths 4 32 fs) (differences 4 32 fs (drop (xa + widths 2 16 fs) bs)) → judged_parts (after es is (drop (code + size) bs)) ≡ refused CutShort
                   on_y (cut_off d m) = rw (← count, q, c, d)
                   on_y (there dys d m) = absurd (omega arith)
 
@@ -328,18 +333,18 @@ module _ (bs : List ℕ) (two : 2 ≤ length bs) {v n : ℕ} (e : v ≡ word_at 
   first_is : n ≡ word_at bs 0
   first_is = d ∙ e
 
-  pub composite_at : 32768 ≤ n → described bs ≡ refused 15
+  pub composite_at : 32768 ≤ n → described bs ≡ refused Composite
   composite_at h = let f = first_is in composite bs two (omega arith)
 
   module _ (simple : n < 32768) where
     as_parts : described bs ≡ judged_parts (parts_of n (drop 2 bs))
     as_parts = let f = first_is in rw f (simple_one bs two (omega arith))
 
-    pub cut_head : length bs < 10 + 2 * n + 2 → described bs ≡ refused 12
+    pub cut_head : length bs < 10 + 2 * n + 2 → described bs ≡ refused CutShort
     cut_head h = as_parts ∙ ap judged_parts (no_head bs two n (omega arith))
 
     module _ (h : 10 + 2 * n + 2 ≤ length bs) {u size : ℕ} (p : u ≡ word_at bs (10 + 2 * n)) (q : size ≡ u) where
-      pub cut_code : length bs < 10 + 2 * n + 2 + size → described bs ≡ refused 12
+      pub cut_code : length bs < 10 + 2 * n + 2 + size → described bs ≡ refused CutShort
       cut_code k =
           let s : size ≡ word_at bs (10 + 2 * n) = q ∙ p in
           as_parts ∙ ap judged_parts (no_code bs two n (omega arith) (omega arith))

@@ -1,18 +1,19 @@
 -- Signed numbers at the widths of the code. Assumes nothing.
+use Rattle.std.specs.Prelude.{Some, None, Result, Ok, Err, OkIff}
+use Rattle.std.specs.Result.{result_ok}
 use Prim.Native.Nat.{ℕ, zero, suc, ◌-◌, ◌^◌, ◌≤◌, ◌<◌}
-use mathlib.Core.Bool.{Bool, true, false, cond, false≢true}
+use mathlib.Core.Bool.{Bool, true, false, cond, ◌&&◌}
 use mathlib.Core.Path.{◌≡◌, refl, ap, ◌∙◌}
 use native.Mathlib.Omega.{arith}
-use borrow.Author.Tests.{lt-ltb, le-ltb, le-leb, lt-leb, ltb-true, ltb-false}
-use lib.Dec.{ltb}
+use borrow.Author.Tests.{lt-ltb, le-ltb, le-leb, ltb-false, leb-true}
+use lib.Dec.{ltb, leb}
 use lib.IntN.{ℤ, pos, negsuc, neg_ℤ, ◌+ℤ◌, ◌-ℤ◌, +ℤ_idl}
-use lib.Signed.{mag, lt_z}
+use lib.Signed.{mag}
 use mir.Syntax.{w16, w32, w64}
 use mir.Val.{SFits, to_z, of_z}
 use mir.Facts.{to_z_pos, to_z-of_z, sfits_widen}
 use Rattle.glyf.specs.Layout.{signed_if, signed}
-use Rattle.glyfread.specs.Steps.{moved_to}
-use Rattle.glyfread.specs.declared.walk.Moved.TheVariants as M
+use Rattle.glyfread.specs.Steps.{moved_if, moved_to}
 
 -- ---- a word in two's complement
 
@@ -90,24 +91,24 @@ mag_sum (pos a) (negsuc b) h k = mag_either (ltb a (suc b)) (suc b - suc a) (a -
 mag_sum (negsuc a) (pos b) h k = mag_either (ltb b (suc a)) (suc a - suc b) (b - suc a) (2 ^ 32) (omega arith) (omega arith)
 mag_sum (negsuc a) (negsuc b) h k = omega arith
 
-too_low : (z : ℤ) → lt_z z (negsuc 32767) ≡ true → M.Outside ≡ moved_to z
+-- a number of 16 bits stays, another goes outside
+stays_in : (z : ℤ) → SFits w16 z → Some z ≡ moved_to z
 unfolding moved_to
-too_low (pos n) h = absurd (false≢true h)
-too_low (negsuc n) h = rw (lt-leb n 32767 (ltb-true 32767 n h))
+stays_in (pos n) f = rw (le-leb n 32767 (omega (arith, f.sfits)))
+stays_in (negsuc n) f = rw (le-leb n 32767 (omega (arith, f.sfits)))
 
-too_high : (z : ℤ) → lt_z (pos 32767) z ≡ true → M.Outside ≡ moved_to z
+goes_out : (z : ℤ) → (SFits w16 z → ⊥) → None ≡ moved_to z
 unfolding moved_to
-too_high (pos n) h = rw (lt-leb n 32767 (ltb-true 32767 n h))
-too_high (negsuc n) h = absurd (false≢true h)
-
-near : (z : ℤ) → lt_z z (negsuc 32767) ≡ false → lt_z (pos 32767) z ≡ false → mag z < 2 ^ 15
-near (pos n) k h = omega (arith, ltb-false 32767 n h)
-near (negsuc n) k h = omega (arith, ltb-false 32767 n k)
-
-inside : (z : ℤ) → lt_z z (negsuc 32767) ≡ false → lt_z (pos 32767) z ≡ false → M.To z ≡ moved_to z
-unfolding moved_to
-inside (pos n) k h = rw (le-leb n 32767 (ltb-false 32767 n h))
-inside (negsuc n) k h = rw (le-leb n 32767 (ltb-false 32767 n k))
+goes_out (pos n) f = by (leb n 32767) refl
+  where
+    by : (t : Bool) → leb n 32767 ≡ t → None ≡ moved_if t (pos n)
+    by true e = let inside = leb-true n 32767 e in absurd (f (record { sfits = omega arith }))
+    by false e = refl
+goes_out (negsuc n) f = by (leb n 32767) refl
+  where
+    by : (t : Bool) → leb n 32767 ≡ t → None ≡ moved_if (t && true) (negsuc n)
+    by true e = let inside = leb-true n 32767 e in absurd (f (record { sfits = omega arith }))
+    by false e = refl
 
 abbrev in64 : ℤ → ℤ
 in64 z = to_z w64 (of_z w64 z)
@@ -131,15 +132,7 @@ module _ {a b : ℤ} (fa : SFits w16 a) (fb : SFits w32 b) where
   sum_is : in64 added ≡ a +ℤ b
   sum_is = to_z-of_z added_fits ∙ added_is
 
-  pub falls : lt_z (in64 added) (negsuc 32767) ≡ true → M.Outside ≡ moved_to (a +ℤ b)
-  falls h = too_low (a +ℤ b) (rw sum_is at h)
-
-  pub rises : lt_z (pos 32767) (in64 added) ≡ true → M.Outside ≡ moved_to (a +ℤ b)
-  rises h = too_high (a +ℤ b) (rw sum_is at h)
-
-  module _ (k : lt_z (in64 added) (negsuc 32767) ≡ false) (h : lt_z (pos 32767) (in64 added) ≡ false) where
-    pub stays_fits : SFits w16 (in64 added)
-    stays_fits = rw sum_is (record { sfits = near (a +ℤ b) (rw sum_is at k) (rw sum_is at h) })
-
-    pub stays : M.To (to_z w16 (of_z w16 (in64 added))) ≡ moved_to (a +ℤ b)
-    stays = ap M.To (to_z-of_z stays_fits ∙ sum_is) ∙ inside (a +ℤ b) (rw sum_is at k) (rw sum_is at h)
+  -- a sum cut to 16 bits where it has them
+  pub moved_is : {E : Type 0} (r : Result ℤ E) → OkIff r (SFits w16 (in64 added)) (in64 added) → result_ok r ≡ moved_to (a +ℤ b)
+  moved_is (Ok x) h = rw (h.1, sum_is) (stays_in (a +ℤ b) (rw sum_is at h.0))
+  moved_is (Err e) h = goes_out (a +ℤ b) (λ f. h (rw sum_is f))

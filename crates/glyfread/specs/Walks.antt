@@ -1,9 +1,7 @@
 -- The points from a place of a walk on. Definitions only.
-use Rattle.std.specs.Prelude.{ℕ, suc, ◌≤◌, Bool, true, false, ◌&&◌, List, [], ◌∷◌, map, ◌≡◌, ℤ, pos, length, drop}
+use Rattle.std.specs.Prelude.{ℕ, suc, ◌≤◌, Bool, true, false, ◌&&◌, List, [], ◌∷◌, map, ◌≡◌, ℤ, pos, length, drop, Option, Some, None}
 use Rattle.glyf.specs.Layout.{in16, all16, Taken, taken, cut, next, flags_of, differences, sums, is_on, laid}
 use Rattle.glyfread.specs.declared.walk.Walk.{Walk}
-use Rattle.glyfread.specs.declared.walk.Step.{Step}
-use Rattle.glyfread.specs.declared.walk.Step.TheVariants as P
 
 -- flags, x and y of points
 pub data Coords : Type 0 where
@@ -50,9 +48,9 @@ pub record Advanced (bs : List ℕ) (w v : Walk) : Type 0 where
   pub y_fits : in16 v.y ≡ true
   pub onward : (n : ℕ) → ahead (suc n) bs w ≡ in_front v (ahead n bs v)
 
-abbrev pub Advances : List ℕ → Walk → Step → Type 0
-Advances bs w (P.To v) = Advanced bs w v
-Advances bs w P.Outside = (n : ℕ) → fits (ahead (suc n) bs w) ≡ false
+abbrev pub Advances : List ℕ → Walk → Option Walk → Type 0
+Advances bs w (Some v) = Advanced bs w v
+Advances bs w None = (n : ℕ) → fits (ahead (suc n) bs w) ≡ false
 
 pub record Roomy (n xs ys fs : ℕ) : Type 0 where
   pub for_xs : n ≤ xs

@@ -5,4 +5,4 @@ mod read;
 mod row;
 mod walk;
 
-pub use crate::read::{Read, read_glyph};
+pub use crate::read::{Counts, read_glyph};

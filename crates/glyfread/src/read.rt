@@ -8,17 +8,19 @@ ghost use Rattle.glyfread.specs.Entry.{filled, Promise};
 use crate::row::{copy_bytes, copy_words, word_at, words_rise};
 use crate::walk::{Scan, fill_points, points_fit, scan_flags, start};
 use glyf::wide;
+use refusals::Refusal;
 
-// How many contours, points and instruction bytes, or the number of a refusal.
-#[derive(Clone, Copy)]
-pub enum Read {
-    Glyph(usize, usize, usize),
-    Refused(u8),
+// How many contours, points and instruction bytes.
+#[derive(Clone, Copy, Debug, PartialEq, Eq)]
+pub struct Counts {
+    pub contours: usize,
+    pub points: usize,
+    pub instructions: usize,
 }
 
 // How many contours and points; the instructions' place and how many; the places of flags, x and y
 // differences.
-#[derive(Clone, Copy)]
+#[derive(Clone, Copy, Debug, PartialEq, Eq)]
 pub struct Places {
     pub contours: usize,
     pub points: usize,
@@ -27,12 +29,6 @@ pub struct Places {
     pub flags: usize,
     pub xs: usize,
     pub ys: usize,
-}
-
-#[derive(Clone, Copy)]
-pub enum Located {
-    At(Places),
-    Refused(u8),
 }
 
 fn points_of(bytes: &[u8], contours: usize) -> usize
@@ -47,20 +43,20 @@ fn points_of(bytes: &[u8], contours: usize) -> usize
 }
 
 // The points' parts, after the instructions.
-fn locate_points(bytes: &[u8], contours: usize, code: usize, size: usize) -> Located
+fn locate_points(bytes: &[u8], contours: usize, code: usize, size: usize) -> Result<Places, Refusal>
     requires { Headed bytes.now contours code size }
     ensures { Finds bytes.now result }
 {
     let points = points_of(bytes, contours);
     let flags = code + size;
-    let Scan::Is(xs, wide_x, wide_y) = scan_flags(bytes, flags, points) else {
-        return Located::Refused(12);
+    let Some(Scan { xs, wide_x, wide_y }) = scan_flags(bytes, flags, points) else {
+        return Err(Refusal::CutShort);
     };
     let ys = xs + wide_x;
     if bytes.len() < ys + wide_y {
-        return Located::Refused(12);
+        return Err(Refusal::CutShort);
     }
-    Located::At(Places {
+    Ok(Places {
         contours,
         points,
         code,
@@ -72,68 +68,54 @@ fn locate_points(bytes: &[u8], contours: usize, code: usize, size: usize) -> Loc
 }
 
 // 15 and 12.
-fn locate(bytes: &[u8]) -> Located
+fn locate(bytes: &[u8]) -> Result<Places, Refusal>
     ensures { Finds bytes.now result }
 {
     if bytes.len() < 2 {
-        return Located::Refused(12);
+        return Err(Refusal::CutShort);
     }
     let contours = wide(word_at(bytes, 0));
     if 32768 <= contours {
-        return Located::Refused(15);
+        return Err(Refusal::Composite);
     }
     let tail = 10 + 2 * contours;
     if bytes.len() < tail + 2 {
-        return Located::Refused(12);
+        return Err(Refusal::CutShort);
     }
     let size = wide(word_at(bytes, tail));
     if bytes.len() < tail + 2 + size {
-        return Located::Refused(12);
+        return Err(Refusal::CutShort);
     }
     locate_points(bytes, contours, tail + 2, size)
 }
 
 // 13, then 14, of a description that is whole.
-fn judge_at(bytes: &[u8], p: Places) -> Located
+fn judge_at(bytes: &[u8], p: Places) -> Result<Places, Refusal>
     requires { Stands bytes.now p }
     ensures { Judges bytes.now result }
 {
-    if words_rise(bytes, 10, p.contours) {
-        if points_fit(bytes, start(p.flags, p.xs, p.ys), p.points) {
-            return Located::At(p);
-        }
-        return Located::Refused(14);
+    if !words_rise(bytes, 10, p.contours) {
+        return Err(Refusal::EndsNotRising);
     }
-    Located::Refused(13)
+    if !points_fit(bytes, start(p.flags, p.xs, p.ys), p.points) {
+        return Err(Refusal::TooLarge);
+    }
+    Ok(p)
 }
 
 // 15, 12, 13, 14.
-fn judge(bytes: &[u8]) -> Located
+fn judge(bytes: &[u8]) -> Result<Places, Refusal>
     ensures { Judges bytes.now result }
 {
-    match locate(bytes) {
-        Located::Refused(k) => Located::Refused(k),
-        Located::At(p) => judge_at(bytes, p),
-    }
+    let p = locate(bytes)?;
+    judge_at(bytes, p)
 }
 
 // Whether a row is too short for what is to be filled in.
 fn lacks_room(p: Places, ends: usize, code: usize, xs: usize, ys: usize, flags: usize) -> bool
     ensures { result ≡ lacking p ends code xs ys flags }
 {
-    if ends < p.contours {
-        return true;
-    }
-    if code < p.size {
-        return true;
-    }
-    if xs < p.points {
-        return true;
-    }
-    if ys < p.points {
-        return true;
-    }
-    flags < p.points
+    ends < p.contours || code < p.size || xs < p.points || ys < p.points || flags < p.points
 }
 
 pub fn read_glyph(
@@ -143,26 +125,26 @@ pub fn read_glyph(
     ys: &mut [i16],
     flags: &mut [u8],
     instructions: &mut [u8],
-) -> Read
+) -> Result<Counts, Refusal>
     ensures { Promise bytes.now (filled ends xs ys flags instructions) result }
 {
-    match judge(bytes) {
-        Located::Refused(k) => Read::Refused(k),
-        Located::At(p) => {
-            if lacks_room(
-                p,
-                ends.len(),
-                instructions.len(),
-                xs.len(),
-                ys.len(),
-                flags.len(),
-            ) {
-                return Read::Refused(9);
-            }
-            copy_words(bytes, 10, ends, p.contours);
-            copy_bytes(bytes, p.code, instructions, p.size);
-            fill_points(bytes, start(p.flags, p.xs, p.ys), p.points, xs, ys, flags);
-            Read::Glyph(p.contours, p.points, p.size)
-        }
+    let p = judge(bytes)?;
+    if lacks_room(
+        p,
+        ends.len(),
+        instructions.len(),
+        xs.len(),
+        ys.len(),
+        flags.len(),
+    ) {
+        return Err(Refusal::OutputTooShort);
     }
+    copy_words(bytes, 10, ends, p.contours);
+    copy_bytes(bytes, p.code, instructions, p.size);
+    fill_points(bytes, start(p.flags, p.xs, p.ys), p.points, xs, ys, flags);
+    Ok(Counts {
+        contours: p.contours,
+        points: p.points,
+        instructions: p.size,
+    })
 }

@@ -7,7 +7,7 @@ ghost use Rattle.glyf.specs.Layout.{laid};
 pub fn word_of(high: u8, low: u8) -> u16
     ensures { result ≡ high * 256 + low }
 {
-    (high as u16) * 256 + (low as u16)
+    u16::from_be_bytes([high, low])
 }
 
 pub fn word_at(bytes: &[u8], at: usize) -> u16
@@ -37,13 +37,11 @@ pub fn words_rise(bytes: &[u8], from: usize, n: usize) -> bool
     requires { from + 2 * n ≤ length bytes.now }
     ensures { result ≡ rising (words_at bytes.now from n) }
 {
-    let mut i = 1;
-    while i < n {
+    for i in 1..n {
         let at = from + 2 * i;
         if word_at(bytes, at) <= word_at(bytes, at - 2) {
             return false;
         }
-        i += 1;
     }
     true
 }
@@ -52,10 +50,8 @@ pub fn copy_words(bytes: &[u8], from: usize, row: &mut [u16], n: usize)
     requires { (from + 2 * n ≤ length bytes.now) × (n ≤ length row.old) }
     ensures { row.new ≡ laid (words_at bytes.now from n) row.old }
 {
-    let mut i = 0;
-    while i < n {
+    for i in 0..n {
         row[i] = word_at(bytes, from + 2 * i);
-        i += 1;
     }
 }
 
@@ -64,23 +60,11 @@ pub fn copy_bytes(bytes: &[u8], from: usize, row: &mut [u8], n: usize)
     requires { (from + n ≤ length bytes.now) × (n ≤ length row.old) }
     ensures { row.new ≡ laid (take n (drop from bytes.now)) row.old }
 {
-    let mut i = 0;
-    while i < n {
-        row[i] = bytes[from + i];
-        i += 1;
-    }
+    row[..n].copy_from_slice(&bytes[from..from + n]);
 }
 
 // A place of a row; past its end nothing is stored.
-pub fn store_i16(row: &mut [i16], i: usize, v: i16)
-    ensures { row.new ≡ set row.old i v }
-{
-    if i < row.len() {
-        row[i] = v;
-    }
-}
-
-pub fn store_u8(row: &mut [u8], i: usize, v: u8)
+pub fn store<T: Copy>(row: &mut [T], i: usize, v: T)
     ensures { row.new ≡ set row.old i v }
 {
     if i < row.len() {

@@ -6,34 +6,47 @@ ghost use Rattle.glyfread.specs.Walks.{start_at, Advances, ahead, fits, Roomy, W
 ghost use Rattle.glyfread.specs.Steps.{next_flag, width_of, short_at, long_at, delta_at, moved_to, scan_of, FlagWithin, ScanWithin};
 ghost use Rattle.glyf.specs.Layout.{laid};
 
-use crate::row::{bit_of, signed_of, store_i16, store_u8, word_at};
+use crate::row::{bit_of, signed_of, store, word_at};
 
 // The next flag: the place after it, how often it is due after this, and the flag.
-#[derive(Clone, Copy)]
-pub enum Flag {
-    Is(usize, u8, u8),
-    Cut,
+#[derive(Clone, Copy, Debug, PartialEq, Eq)]
+pub struct Flag {
+    pub at: usize,
+    pub due: u8,
+    pub flag: u8,
 }
 
-fn next_flag(bytes: &[u8], at: usize, due: u8, flag: u8) -> Flag
+fn next_flag(bytes: &[u8], at: usize, due: u8, flag: u8) -> Option<Flag>
     ensures flag_within { at ≤ length bytes.now → FlagWithin (length bytes.now) result }
     ensures value { result ≡ next_flag bytes.now at due flag }
 {
     if 0 < due {
-        return Flag::Is(at, due - 1, flag);
+        return Some(Flag {
+            at,
+            due: due - 1,
+            flag,
+        });
     }
     if bytes.len() <= at {
-        return Flag::Cut;
+        return None;
     }
     let f = bytes[at];
     let next = at + 1;
     if bit_of(f, 8) {
         if bytes.len() <= next {
-            return Flag::Cut;
+            return None;
         }
-        return Flag::Is(next + 1, bytes[next], f);
+        return Some(Flag {
+            at: next + 1,
+            due: bytes[next],
+            flag: f,
+        });
     }
-    Flag::Is(next, 0, f)
+    Some(Flag {
+        at: next,
+        due: 0,
+        flag: f,
+    })
 }
 
 // How many bytes a difference takes.
@@ -51,10 +64,10 @@ fn width(short: bool, same: bool) -> usize
 }
 
 // One difference, and the place after it.
-#[derive(Clone, Copy)]
-pub enum Delta {
-    Is(i32, usize),
-    Cut,
+#[derive(Clone, Copy, Debug, PartialEq, Eq)]
+pub struct Delta {
+    pub value: i32,
+    pub at: usize,
 }
 
 fn up(b: u8) -> i32
@@ -69,34 +82,43 @@ fn down(b: u8) -> i32
     -(b as i32)
 }
 
-fn short_at(bytes: &[u8], at: usize, same: bool) -> Delta
+fn short_at(bytes: &[u8], at: usize, same: bool) -> Option<Delta>
     ensures { result ≡ short_at bytes.now at same }
 {
     if bytes.len() <= at {
-        return Delta::Cut;
+        return None;
     }
     if same {
-        return Delta::Is(up(bytes[at]), at + 1);
+        return Some(Delta {
+            value: up(bytes[at]),
+            at: at + 1,
+        });
     }
-    Delta::Is(down(bytes[at]), at + 1)
+    Some(Delta {
+        value: down(bytes[at]),
+        at: at + 1,
+    })
 }
 
-fn long_at(bytes: &[u8], at: usize, same: bool) -> Delta
+fn long_at(bytes: &[u8], at: usize, same: bool) -> Option<Delta>
     ensures { result ≡ long_at bytes.now at same }
 {
     if same {
-        return Delta::Is(0, at);
+        return Some(Delta { value: 0, at });
     }
     if bytes.len() <= at {
-        return Delta::Cut;
+        return None;
     }
     if bytes.len() <= at + 1 {
-        return Delta::Cut;
+        return None;
     }
-    Delta::Is(signed_of(word_at(bytes, at)), at + 2)
+    Some(Delta {
+        value: signed_of(word_at(bytes, at)),
+        at: at + 2,
+    })
 }
 
-fn delta_at(bytes: &[u8], at: usize, short: bool, same: bool) -> Delta
+fn delta_at(bytes: &[u8], at: usize, short: bool, same: bool) -> Option<Delta>
     ensures { result ≡ delta_at bytes.now at short same }
 {
     if short {
@@ -105,34 +127,22 @@ fn delta_at(bytes: &[u8], at: usize, short: bool, same: bool) -> Delta
     long_at(bytes, at, same)
 }
 
-// A coordinate moved by a difference, in 16 bits or not.
-#[derive(Clone, Copy)]
-pub enum Moved {
-    To(i16),
-    Outside,
-}
-
-fn move_by(z: i16, d: i32) -> Moved
+// A coordinate moved by a difference, where it stays in 16 bits.
+fn move_by(z: i16, d: i32) -> Option<i16>
     ensures { result ≡ moved_to (z +ℤ d) }
 {
-    let s = (z as i64) + (d as i64);
-    if s < -32768 {
-        return Moved::Outside;
-    }
-    if 32767 < s {
-        return Moved::Outside;
-    }
-    Moved::To(s as i16)
+    i16::try_from((z as i64) + (d as i64)).ok()
 }
 
 // The flags of so many points: where they end, and how many bytes x and y differences take after them.
-#[derive(Clone, Copy)]
-pub enum Scan {
-    Is(usize, usize, usize),
-    Cut,
+#[derive(Clone, Copy, Debug, PartialEq, Eq)]
+pub struct Scan {
+    pub xs: usize,
+    pub wide_x: usize,
+    pub wide_y: usize,
 }
 
-pub fn scan_flags(bytes: &[u8], from: usize, count: usize) -> Scan
+pub fn scan_flags(bytes: &[u8], from: usize, count: usize) -> Option<Scan>
     requires { (from ≤ length bytes.now) × (count ≤ 65536) }
     ensures scan_within { ScanWithin (length bytes.now) result }
     ensures value { result ≡ scan_of (length bytes.now) (flags_of count 0 0 (drop from bytes.now)) }
@@ -142,24 +152,24 @@ pub fn scan_flags(bytes: &[u8], from: usize, count: usize) -> Scan
     let mut flag = 0;
     let mut wide_x = 0;
     let mut wide_y = 0;
-    let mut i = 0;
-    while i < count {
-        let Flag::Is(a, d, f) = next_flag(bytes, at, due, flag) else {
-            return Scan::Cut;
-        };
-        wide_x += width(bit_of(f, 2), bit_of(f, 16));
-        wide_y += width(bit_of(f, 4), bit_of(f, 32));
-        at = a;
-        due = d;
-        flag = f;
-        i += 1;
+    for _i in 0..count {
+        let next = next_flag(bytes, at, due, flag)?;
+        wide_x += width(bit_of(next.flag, 2), bit_of(next.flag, 16));
+        wide_y += width(bit_of(next.flag, 4), bit_of(next.flag, 32));
+        at = next.at;
+        due = next.due;
+        flag = next.flag;
     }
-    Scan::Is(at, wide_x, wide_y)
+    Some(Scan {
+        xs: at,
+        wide_x,
+        wide_y,
+    })
 }
 
 // Where the walk stands after a point: the places in flags, x and y differences, how often the flag is due,
 // and the point.
-#[derive(Clone, Copy)]
+#[derive(Clone, Copy, Debug, PartialEq, Eq)]
 pub struct Walk {
     pub flags: usize,
     pub xs: usize,
@@ -168,12 +178,6 @@ pub struct Walk {
     pub flag: u8,
     pub x: i16,
     pub y: i16,
-}
-
-#[derive(Clone, Copy)]
-pub enum Step {
-    To(Walk),
-    Outside,
 }
 
 pub fn start(flags: usize, xs: usize, ys: usize) -> Walk
@@ -191,30 +195,20 @@ pub fn start(flags: usize, xs: usize, ys: usize) -> Walk
 }
 
 // One point further. A coordinate outside 16 bits and a walk that is cut short are not told apart.
-fn advance(bytes: &[u8], w: Walk) -> Step
+fn advance(bytes: &[u8], w: Walk) -> Option<Walk>
     ensures { Advances bytes.now w result }
 {
-    let Flag::Is(flags, due, flag) = next_flag(bytes, w.flags, w.due, w.flag) else {
-        return Step::Outside;
-    };
-    let Delta::Is(dx, xs) = delta_at(bytes, w.xs, bit_of(flag, 2), bit_of(flag, 16)) else {
-        return Step::Outside;
-    };
-    let Delta::Is(dy, ys) = delta_at(bytes, w.ys, bit_of(flag, 4), bit_of(flag, 32)) else {
-        return Step::Outside;
-    };
-    let Moved::To(x) = move_by(w.x, dx) else {
-        return Step::Outside;
-    };
-    let Moved::To(y) = move_by(w.y, dy) else {
-        return Step::Outside;
-    };
-    Step::To(Walk {
-        flags,
-        xs,
-        ys,
-        due,
-        flag,
+    let next = next_flag(bytes, w.flags, w.due, w.flag)?;
+    let dx = delta_at(bytes, w.xs, bit_of(next.flag, 2), bit_of(next.flag, 16))?;
+    let dy = delta_at(bytes, w.ys, bit_of(next.flag, 4), bit_of(next.flag, 32))?;
+    let x = move_by(w.x, dx.value)?;
+    let y = move_by(w.y, dy.value)?;
+    Some(Walk {
+        flags: next.at,
+        xs: dx.at,
+        ys: dy.at,
+        due: next.due,
+        flag: next.flag,
         x,
         y,
     })
@@ -234,16 +228,14 @@ fn walk_points(
         xs.old ys.old flags.old xs.new ys.new flags.new }
 {
     let mut w = from;
-    let mut i = 0;
-    while i < count {
-        let Step::To(v) = advance(bytes, w) else {
+    for i in 0..count {
+        let Some(v) = advance(bytes, w) else {
             return false;
         };
-        store_i16(xs, i, v.x);
-        store_i16(ys, i, v.y);
-        store_u8(flags, i, v.flag % 2);
+        store(xs, i, v.x);
+        store(ys, i, v.y);
+        store(flags, i, v.flag % 2);
         w = v;
-        i += 1;
     }
     true
 }

@@ -1,4 +1,5 @@
 -- What the proofs of the functions share.
+mod Orders
 mod Putting
 mod Taking
 mod Coding

@@ -1,14 +1,12 @@
 -- The greatest of a row and the least, and signed words. Assumes nothing.
 use Prim.Native.Nat.{ℕ, suc, ◌+◌, ◌-◌, ◌≤◌, ◌<◌}
-use mathlib.Core.Bool.{Bool, true, false, not}
+use mathlib.Core.Bool.{Bool, true, false}
 use mathlib.Core.List.{List, [], ◌∷◌, map}
 use mathlib.Core.Path.{◌≡◌, refl, ◌∙◌}
 use native.Mathlib.Omega.{arith}
 use native.Mathlib.Numerals.{add-one}
-use borrow.Author.Tests.{ltb-true, ltb-false, le-leb, lt-leb}
-use lib.Dec.{leb, ltb, leb-zero}
+use lib.Dec.{leb-zero}
 use lib.IntN.{ℤ, pos, negsuc, ◌-ℤ◌, +ℤ_idr}
-use lib.Signed.{lt_z, le_z}
 use lib.ListN.{length, get_or, drop, drop_of_length-le}
 use lib.Seq.{drop-cons}
 use Rattle.glyf.specs.Layout.{unsigned, signed_bytes, box_of, least, greatest, least_from, greatest_from, joined}
@@ -16,39 +14,20 @@ use Rattle.glyfwrite.specs.Differences.{difference_of, long_by}
 use Rattle.glyfwrite.specs.Outermost.{further, outermost_from, outermost}
 use Rattle.glyfwrite.specs.Puts.{Put}
 use Rattle.glyfwrite.specs.declared.difference.Difference.{Difference}
+use Rattle.std.specs.Int.{int_max, int_min}
+use Rattle.glyfwrite.proofs.Orders.{max_is, min_is}
 use Rattle.glyfwrite.proofs.Putting.{then}
-
-leb_not : (m n : ℕ) → leb m n ≡ not (ltb n m)
-leb_not m n = by (ltb n m) refl
-  where
-    by : (t : Bool) → ltb n m ≡ t → leb m n ≡ not t
-    by true e = lt-leb m n (ltb-true n m e)
-    by false e = le-leb m n (ltb-false n m e)
-
-le_not : (a b : ℤ) → le_z a b ≡ not (lt_z b a)
-le_not (pos m) (pos n) = leb_not m n
-le_not (pos m) (negsuc n) = refl
-le_not (negsuc m) (pos n) = refl
-le_not (negsuc m) (negsuc n) = leb_not n m
 
 -- ---- the further of two
 
 module _ {high : Bool} (z x : ℤ) where
-  pub passed_up : high ≡ true → lt_z z x ≡ true → x ≡ further high z x
+  pub greater_is : high ≡ true → int_max z x ≡ further high z x
   unfolding further
-  passed_up e h = rw (e, le_not x z, h)
+  greater_is e = rw e (max_is z x)
 
-  pub stays_up : high ≡ true → lt_z z x ≡ false → z ≡ further high z x
+  pub lesser_is : high ≡ false → int_min z x ≡ further high z x
   unfolding further
-  stays_up e h = rw (e, le_not x z, h)
-
-  pub passed_down : high ≡ false → lt_z x z ≡ true → x ≡ further high z x
-  unfolding further
-  passed_down e h = rw (e, le_not z x, h)
-
-  pub stays_down : high ≡ false → lt_z x z ≡ false → z ≡ further high z x
-  unfolding further
-  stays_down e h = rw (e, le_not z x, h)
+  lesser_is e = rw e (min_is z x)
 
 -- ---- a row
 

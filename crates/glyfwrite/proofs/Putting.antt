@@ -55,9 +55,12 @@ all {out₀} {text} {out} {rest} {from} {at} g e = g.whole out at (rw e (nothing
 
 -- ---- words and rows
 
-pub word_put : (v : ℕ) {high low m r at : ℕ} {out mid out' : List ℕ} → high ≡ v / 256 → low ≡ v % 256 → Put out at (high ∷ []) mid m → Put mid m (low ∷ []) out' r →
-    Put out at (word_bytes v) out' r
-word_put v {high} {low} {m} {r} {at} {out} {mid} {out'} h l p q = rw (← h, ← l) (then p q)
+-- the two bytes of a word, as std gives them
+pub word_put : (v : ℕ) → v < 65536 → {bytes : List ℕ} {m r at : ℕ} {out mid out' : List ℕ} → bytes ≡ v / 256 % 256 ∷ v % 256 ∷ [] →
+    Put out at (get_or bytes 0 0 ∷ []) mid m → Put mid m (get_or bytes 1 0 ∷ []) out' r → Put out at (word_bytes v) out' r
+word_put v h {bytes} e p q =
+    let high : v / 256 % 256 ≡ v / 256 = omega arith in
+    rw (e, high) at (then p q)
 
 module _ (row : List ℕ) (i : ℕ) (h : i < length row) where
   pub next_byte : drop i row ≡ (get_or row i 0 ∷ []) ++ drop (i + 1) row

@@ -1,4 +1,7 @@
 -- The parts of a description put together, and rows judged. Assumes nothing.
+use Rattle.std.specs.Prelude.{Result, Ok, Err}
+use Rattle.refusals.specs.declared.refusal.Refusal.TheVariants.{UnevenRows, OutputTooShort, CutShort, EndsNotRising, TooLarge}
+use Rattle.refusals.specs.declared.refusal.Refusal.{Refusal}
 use Prim.Native.Nat.{ℕ, suc, ◌≤◌, ◌<◌}
 use mathlib.Core.Bool.{Bool, true, false, not, ◌||◌}
 use mathlib.Core.List.{List, [], ◌∷◌, ◌++◌, append_assoc}
@@ -13,8 +16,6 @@ use lib.Seq.{sets, sets-eq, length-take-le}
 use Rattle.glyf.specs.Layout.{Glyph, Outcome, refused, laid, left_by, glyph, bytes_of, count_of, trimmed, rising, too_large, fitting, written_of, all16, steps}
 use Rattle.glyfwrite.specs.Puts.{Put}
 use Rattle.glyfwrite.specs.Writes.{head_text, code_text, points_text, Counted, Fine, Writes, answer_of}
-use Rattle.glyfwrite.specs.declared.write.Wrote.{Wrote}
-use Rattle.glyfwrite.specs.declared.write.Wrote.TheVariants as W
 use Rattle.glyfwrite.proofs.Putting.{then}
 
 -- ---- the parts together
@@ -41,16 +42,16 @@ module _ (bytes out : List ℕ) {mid : List ℕ} {n : ℕ} (p : Put [] 0 bytes m
   count : n ≡ length bytes
   count = omega (arith, p.next)
 
-  pub no_room : length (mid ++ out) < n → Writes (fitting (length out) bytes) out (mid ++ out) (W.Refused 9)
+  pub no_room : length (mid ++ out) < n → Writes (fitting (length out) bytes) out (mid ++ out) (Err OutputTooShort)
   no_room h =
       let k : length out < length bytes = rw (still, count) at h in
       rw (still, lt-ltb (length out) (length bytes) k) (record { answer = refl; left = refl })
 
-  pub with_room : n ≤ length (mid ++ out) → {out' : List ℕ} {r : ℕ} → Put (mid ++ out) 0 bytes out' r → Writes (fitting (length out) bytes) out out' (W.Bytes n)
+  pub with_room : n ≤ length (mid ++ out) → {out' : List ℕ} {r : ℕ} → Put (mid ++ out) 0 bytes out' r → Writes (fitting (length out) bytes) out out' (Ok n)
   with_room h {out'} q =
       let k : length bytes ≤ length out = rw (still, count) at h in
       let put : out' ≡ sets out 0 bytes = q.held ∙ ap (λ (l : List ℕ). sets l 0 bytes) still in
-      rw (le-ltb (length out) (length bytes) k) (record { answer = ap W.Bytes count; left = put ∙ sets-eq bytes out 0 (omega arith) ∙ rw (zero-add (length bytes)) })
+      rw (le-ltb (length out) (length bytes) k) (record { answer = ap Ok count; left = put ∙ sets-eq bytes out 0 (omega arith) ∙ rw (zero-add (length bytes)) })
 
 -- ---- 14
 
@@ -93,26 +94,26 @@ module _ (es : List ℕ) (xs ys : List ℤ) (fs is : List ℕ) where
   abbrev g : Glyph
   g = glyph es xs ys fs is
 
-  pub unlike_y : (length xs ≡ length ys → ⊥) → (room : ℕ) → written_of room g ≡ refused 1
+  pub unlike_y : (length xs ≡ length ys → ⊥) → (room : ℕ) → written_of room g ≡ refused UnevenRows
   unfolding written_of
   unlike_y n room = rw (ne_eqb (length xs) (length ys) n)
 
-  pub unlike_f : (length xs ≡ length fs → ⊥) → (room : ℕ) → written_of room g ≡ refused 1
+  pub unlike_f : (length xs ≡ length fs → ⊥) → (room : ℕ) → written_of room g ≡ refused UnevenRows
   unfolding written_of
   unlike_f n room = rw (ne_eqb (length xs) (length fs) n, or-true)
 
   module _ (ey : length xs ≡ length ys) (ef : length xs ≡ length fs) {n : ℕ} (en : n ≡ count_of es) where
-    pub too_few : length fs < n → (room : ℕ) → written_of room g ≡ refused 12
+    pub too_few : length fs < n → (room : ℕ) → written_of room g ≡ refused CutShort
     unfolding written_of
     too_few h room = rw (eq-eqb (length xs) (length ys) ey, eq-eqb (length xs) (length fs) ef, ← en, lt-ltb (length fs) n h)
 
     module _ (enough : n ≤ length fs) {b : Bool} (eb : b ≡ rising es) where
-      pub falling : b ≡ false → (room : ℕ) → written_of room g ≡ refused 13
+      pub falling : b ≡ false → (room : ℕ) → written_of room g ≡ refused EndsNotRising
       unfolding written_of
       falling e room = rw (eq-eqb (length xs) (length ys) ey, eq-eqb (length xs) (length fs) ef, ← en, le-ltb (length fs) n enough, ← eb, e)
 
       module _ (rise : b ≡ true) {t : Bool} (et : t ≡ too_large (glyph es (take n xs) (take n ys) [] is)) where
-        pub large : t ≡ true → (room : ℕ) → written_of room g ≡ refused 14
+        pub large : t ≡ true → (room : ℕ) → written_of room g ≡ refused TooLarge
         unfolding written_of
         large e room = rw (eq-eqb (length xs) (length ys) ey, eq-eqb (length xs) (length fs) ef, ← en, le-ltb (length fs) n enough, ← eb, rise, ← et, e)
 
@@ -150,12 +151,12 @@ module _ {es : List ℕ} {xs ys : List ℤ} {fs is : List ℕ} {n : ℕ} (f : Fi
   pub fits_as : (room : ℕ) → fitting room (bytes_of (glyph es (take n xs) (take n ys) (take n fs) is)) ≡ written_of room (glyph es xs ys fs is)
   fits_as room = sym (f.says room ∙ rw (← f.count))
 
-module _ {out out' : List ℕ} {r : Wrote} {o p : Outcome (List ℕ)} (wr : Writes o out out' r) (e : o ≡ p) where
+module _ {out out' : List ℕ} {r : Result ℕ Refusal} {o p : Outcome (List ℕ)} (wr : Writes o out out' r) (e : o ≡ p) where
   pub answers : r ≡ answer_of p
   answers = wr.answer ∙ ap answer_of e
 
   pub leaves : out' ≡ left_by laid p out
   leaves = wr.left ∙ ap (λ (q : Outcome (List ℕ)). left_by laid q out) e
 
-pub unwritten : (out : List ℕ) (k : ℕ) → Writes (refused k) out out (W.Refused k)
+pub unwritten : (out : List ℕ) (k : Refusal) → Writes (refused k) out out (Err k)
 unwritten out k = record { answer = refl; left = refl }

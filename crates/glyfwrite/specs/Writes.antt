@@ -1,11 +1,8 @@
 -- What judging rows says, the texts of the parts, and what writing leaves in the row of bytes. Definitions only.
-use Rattle.std.specs.Prelude.{ℕ, ◌≤◌, List, ◌++◌, map, ◌≡◌, ℤ, pos, length}
+use Rattle.std.specs.Prelude.{ℕ, ◌≤◌, List, ◌++◌, map, ◌≡◌, ℤ, pos, length, Result, Ok, Err}
+use Rattle.refusals.specs.declared.refusal.Refusal.{Refusal}
 use Rattle.glyf.specs.Layout.{Glyph, Outcome, done, refused, left_by, laid, count_of, trimmed, fitting, bytes_of, written_of, word_bytes, signed_bytes, box_of, joined}
 use Rattle.glyf.specs.Layout.{packed_flags, coded_flags, steps, code_of}
-use Rattle.glyfwrite.specs.declared.write.Judged.{Judged}
-use Rattle.glyfwrite.specs.declared.write.Judged.TheVariants as J
-use Rattle.glyfwrite.specs.declared.write.Wrote.{Wrote}
-use Rattle.glyfwrite.specs.declared.write.Wrote.TheVariants as W
 
 -- ---- the texts of the parts
 
@@ -40,17 +37,17 @@ pub record Fine (g : Glyph) (n : ℕ) : Type 0 where
   pub few_ends : length g.ends ≤ 32767
   pub few_bytes : length g.instructions ≤ 65535
 
-abbrev pub Judges : Glyph → Judged → Type 0
-Judges g (J.Fine n) = Fine g n
-Judges g (J.Refused k) = (room : ℕ) → written_of room g ≡ refused k
+abbrev pub Judges : Glyph → Result ℕ Refusal → Type 0
+Judges g (Ok n) = Fine g n
+Judges g (Err k) = (room : ℕ) → written_of room g ≡ refused k
 
 -- ---- the answer and the row of bytes
 
-abbrev pub answer_of : Outcome (List ℕ) → Wrote
-answer_of (done bytes) = W.Bytes (length bytes)
-answer_of (refused k) = W.Refused k
+abbrev pub answer_of : Outcome (List ℕ) → Result ℕ Refusal
+answer_of (done bytes) = Ok (length bytes)
+answer_of (refused k) = Err k
 
 -- the bytes at the front of the row; where refused it is not changed
-pub record Writes (o : Outcome (List ℕ)) (out out' : List ℕ) (r : Wrote) : Type 0 where
+pub record Writes (o : Outcome (List ℕ)) (out out' : List ℕ) (r : Result ℕ Refusal) : Type 0 where
   pub answer : r ≡ answer_of o
   pub left : out' ≡ left_by laid o out

@@ -11,31 +11,19 @@ use crate::put::put_word;
 fn further_of(high: bool, z: i16, x: i16) -> i16
     ensures { result ≡ further high z x }
 {
-    if high {
-        if z < x {
-            return x;
-        }
-        return z;
-    }
-    if x < z {
-        return x;
-    }
-    z
+    if high { z.max(x) } else { z.min(x) }
 }
 
 // The greatest of a row, or the least; 0 for none.
 fn outermost_of(high: bool, row: &[i16]) -> i16
     ensures { result ≡ outermost high row.now }
 {
-    if row.len() == 0 {
+    if row.is_empty() {
         return 0;
     }
     let mut z = row[0];
-    let mut i = 1;
-    while i < row.len() {
-        let x = row[i];
-        z = further_of(high, z, x);
-        i += 1;
+    for i in 1..row.len() {
+        z = further_of(high, z, row[i]);
     }
     z
 }

@@ -7,7 +7,7 @@ ghost use Rattle.glyfwrite.specs.Differences.{difference_of, bits_in, long_by, c
 use crate::put::{put_byte, put_word};
 
 // Whether it goes up, and how far.
-#[derive(Clone, Copy)]
+#[derive(Clone, Copy, Debug, PartialEq, Eq)]
 pub struct Difference {
     pub up: bool,
     pub size: u16,
@@ -16,16 +16,9 @@ pub struct Difference {
 pub fn between(from: i16, to: i16) -> Difference
     ensures { result ≡ difference_of (to -ℤ from) }
 {
-    let d = (to as i32) - (from as i32);
-    if d < 0 {
-        return Difference {
-            up: false,
-            size: (-d) as u16,
-        };
-    }
     Difference {
-        up: true,
-        size: d as u16,
+        up: from <= to,
+        size: to.abs_diff(from),
     }
 }
 
@@ -95,15 +88,11 @@ pub fn steps_fit(row: &[i16]) -> bool
     ensures { result ≡ all16 (steps (pos 0) row.now) }
 {
     let mut last = 0;
-    let mut i = 0;
-    while i < row.len() {
-        let z = row[i];
-        if fits(between(last, z)) {
-            last = z;
-            i += 1;
-        } else {
+    for z in row {
+        if !fits(between(last, *z)) {
             return false;
         }
+        last = *z;
     }
     true
 }
@@ -115,12 +104,9 @@ pub fn put_steps(out: &mut [u8], from: usize, row: &[i16]) -> usize
 {
     let mut at = from;
     let mut last = 0;
-    let mut i = 0;
-    while i < row.len() {
-        let z = row[i];
-        at = put_difference(out, at, between(last, z));
-        last = z;
-        i += 1;
+    for z in row {
+        at = put_difference(out, at, between(last, *z));
+        last = *z;
     }
     at
 }

@@ -37,7 +37,7 @@ fn put_run(out: &mut [u8], at: usize, flag: u8, times: u16) -> usize
 }
 
 // The place after the flags that are put, and the flag that has stood so many times since.
-#[derive(Clone, Copy)]
+#[derive(Clone, Copy, Debug, PartialEq, Eq)]
 pub struct Run {
     pub at: usize,
     pub flag: u8,
@@ -48,10 +48,7 @@ pub struct Run {
 fn goes_on(run: Run, flag: u8) -> bool
     ensures { result ≡ (eqb flag run.flag && ltb run.times 256) }
 {
-    if flag == run.flag {
-        return run.times < 256;
-    }
-    false
+    flag == run.flag && run.times < 256
 }
 
 // One flag more: it goes on with the run, or the run is put and another begins.
@@ -84,8 +81,7 @@ pub fn put_flags(out: &mut [u8], from: usize, xs: &[i16], ys: &[i16], flags: &[u
     };
     let mut last_x = 0;
     let mut last_y = 0;
-    let mut i = 0;
-    while i < flags.len() {
+    for i in 0..flags.len() {
         let x = xs[i];
         let y = ys[i];
         run = next_run(
@@ -95,7 +91,6 @@ pub fn put_flags(out: &mut [u8], from: usize, xs: &[i16], ys: &[i16], flags: &[u
         );
         last_x = x;
         last_y = y;
-        i += 1;
     }
     put_run(out, run.at, run.flag, run.times)
 }

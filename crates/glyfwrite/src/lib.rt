@@ -7,4 +7,4 @@ mod flags;
 mod put;
 mod write;
 
-pub use crate::write::{Wrote, write_glyph};
+pub use crate::write::write_glyph;

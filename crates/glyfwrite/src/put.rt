@@ -15,24 +15,13 @@ pub fn put_byte(out: &mut [u8], at: usize, b: u8) -> usize
     at + 1
 }
 
-fn high(v: u16) -> u8
-    ensures { result ≡ v / 256 }
-{
-    (v / 256) as u8
-}
-
-fn low(v: u16) -> u8
-    ensures { result ≡ v % 256 }
-{
-    (v % 256) as u8
-}
-
 pub fn put_word(out: &mut [u8], at: usize, v: u16) -> usize
     requires { at < 4294967295 }
     ensures { Put out.old at (word_bytes v) out.new result }
 {
-    let next = put_byte(out, at, high(v));
-    put_byte(out, next, low(v))
+    let [high, low] = v.to_be_bytes();
+    let next = put_byte(out, at, high);
+    put_byte(out, next, low)
 }
 
 // All of a row's bytes.
@@ -41,10 +30,8 @@ pub fn put_bytes(out: &mut [u8], from: usize, row: &[u8]) -> usize
     ensures { Put out.old from row.now out.new result }
 {
     let mut at = from;
-    let mut i = 0;
-    while i < row.len() {
-        at = put_byte(out, at, row[i]);
-        i += 1;
+    for b in row {
+        at = put_byte(out, at, *b);
     }
     at
 }
@@ -55,10 +42,8 @@ pub fn put_words(out: &mut [u8], from: usize, row: &[u16]) -> usize
     ensures upper_bound { result ≤ from + 2 * length row.now }
 {
     let mut at = from;
-    let mut i = 0;
-    while i < row.len() {
-        at = put_word(out, at, row[i]);
-        i += 1;
+    for v in row {
+        at = put_word(out, at, *v);
     }
     at
 }

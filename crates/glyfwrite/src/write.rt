@@ -10,20 +10,7 @@ use crate::difference::{put_steps, steps_fit};
 use crate::flags::put_flags;
 use crate::put::{put_bytes, put_word, put_words};
 use glyf::{count_of, ends_rise};
-
-// How many bytes, or the number of a refusal.
-#[derive(Clone, Copy)]
-pub enum Wrote {
-    Bytes(usize),
-    Refused(u8),
-}
-
-// How many points are to be written, or the number of a refusal.
-#[derive(Clone, Copy)]
-pub enum Judged {
-    Fine(usize),
-    Refused(u8),
-}
+use refusals::Refusal;
 
 // 14: the counts, then each difference.
 fn too_large(ends: &[u16], xs: &[i16], ys: &[i16], instructions: &[u8]) -> bool
@@ -35,35 +22,36 @@ fn too_large(ends: &[u16], xs: &[i16], ys: &[i16], instructions: &[u8]) -> bool
     if 65535 < instructions.len() {
         return true;
     }
-    if steps_fit(xs) {
-        if steps_fit(ys) {
-            return false;
-        }
-    }
-    true
+    !steps_fit(xs) || !steps_fit(ys)
 }
 
-// 1, 12, 13, 14.
-fn judge(ends: &[u16], xs: &[i16], ys: &[i16], flags: &[u8], instructions: &[u8]) -> Judged
+// How many points are to be written: 1, 12, 13, 14.
+fn judge(
+    ends: &[u16],
+    xs: &[i16],
+    ys: &[i16],
+    flags: &[u8],
+    instructions: &[u8],
+) -> Result<usize, Refusal>
     ensures { Judges (glyph ends.now xs.now ys.now flags.now instructions.now) result }
 {
     if xs.len() != ys.len() {
-        return Judged::Refused(1);
+        return Err(Refusal::UnevenRows);
     }
     if xs.len() != flags.len() {
-        return Judged::Refused(1);
+        return Err(Refusal::UnevenRows);
     }
     let n = count_of(ends);
     if flags.len() < n {
-        return Judged::Refused(12);
+        return Err(Refusal::CutShort);
     }
-    if ends_rise(ends) {
-        if too_large(ends, &xs[..n], &ys[..n], instructions) {
-            return Judged::Refused(14);
-        }
-        return Judged::Fine(n);
+    if !ends_rise(ends) {
+        return Err(Refusal::EndsNotRising);
     }
-    Judged::Refused(13)
+    if too_large(ends, &xs[..n], &ys[..n], instructions) {
+        return Err(Refusal::TooLarge);
+    }
+    Ok(n)
 }
 
 // The number of contours, the box and the ends.
@@ -115,7 +103,7 @@ fn put_glyph(
     put_points(out, points_at, xs, ys, flags)
 }
 
-// Measured into a row of no places, and put where there is room: 9.
+// How many bytes. Measured into a row of no places, and put where there is room: 9.
 fn put_fitting(
     out: &mut [u8],
     ends: &[u16],
@@ -123,18 +111,18 @@ fn put_fitting(
     ys: &[i16],
     flags: &[u8],
     instructions: &[u8],
-) -> Wrote
+) -> Result<usize, Refusal>
     requires { Counted ends.now xs.now ys.now flags.now instructions.now }
     ensures { Writes (fitting (length out.old)
         (bytes_of (glyph ends.now xs.now ys.now flags.now instructions.now)))
         out.old out.new result }
 {
-    let n = put_glyph(&mut out[..0], ends, xs, ys, flags, instructions);
-    if out.len() < n {
-        return Wrote::Refused(9);
+    let size = put_glyph(&mut out[..0], ends, xs, ys, flags, instructions);
+    if out.len() < size {
+        return Err(Refusal::OutputTooShort);
     }
     put_glyph(out, ends, xs, ys, flags, instructions);
-    Wrote::Bytes(n)
+    Ok(size)
 }
 
 pub fn write_glyph(
@@ -144,11 +132,9 @@ pub fn write_glyph(
     flags: &[u8],
     instructions: &[u8],
     out: &mut [u8],
-) -> Wrote
+) -> Result<usize, Refusal>
     ensures { Promise (glyph_given ends xs ys flags instructions) out result }
 {
-    match judge(ends, xs, ys, flags, instructions) {
-        Judged::Refused(k) => Wrote::Refused(k),
-        Judged::Fine(n) => { put_fitting(out, ends, &xs[..n], &ys[..n], &flags[..n], instructions) }
-    }
+    let n = judge(ends, xs, ys, flags, instructions)?;
+    put_fitting(out, ends, &xs[..n], &ys[..n], &flags[..n], instructions)
 }

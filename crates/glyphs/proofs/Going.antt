@@ -1,4 +1,6 @@
 -- The loop over the contours: what holds after some of them, after one more, where one is refused, and at the end. Assumes nothing.
+use Rattle.std.specs.Prelude.{Result, Ok, Err}
+use Rattle.refusals.specs.declared.refusal.Refusal.{Refusal}
 use Prim.Native.Nat.{ℕ, suc, ◌+◌, ◌-◌, ◌≤◌, ◌<◌}
 use native.Mathlib.Nat.{le_refl}
 use native.Mathlib.Numerals.{add-one}
@@ -21,12 +23,10 @@ use Rattle.crunch.specs.Crunch.{crunched, crunch_of}
 use Rattle.crunch.specs.Crunch as Crunch
 use Rattle.crunch.specs.Stands.{Gives}
 use Rattle.crunch.specs.declared.Crunched.{Crunched}
-use Rattle.crunch.specs.declared.Crunched.TheVariants as C
 use Rattle.glyf.specs.Layout.{Outcome, done, refused, count_of, rising}
 use Rattle.glyf.proofs.Codes.{and_left, and_right}
 use Rattle.glyphs.specs.Glyphs.{and_then, stretch, contours_from, with_first, onward, crunch_each, together, ends_from}
 use Rattle.glyphs.specs.Stands.{Numbers, Part, Adds, Apart, Gathers}
-use Rattle.glyphs.specs.declared.contours.Gathered.TheVariants as G
 
 -- ---- where the contours lie
 
@@ -89,14 +89,15 @@ record Gave (row : Points) (o : Crunch.Outcome) (n : ℕ) (t : Tally) : Type 0 w
   is : o ≡ crunched ps t
   held : Holds row n ps
 
-gave : {row : Points} {o : Crunch.Outcome} {r : Crunched} {n : ℕ} {t : Tally} → Gives row o r → r ≡ C.Points n t → Gave row o n t
+gave : {row : Points} {o : Crunch.Outcome} {r : Result Crunched Refusal} {n : ℕ} {t : Tally} → Gives row o r → r ≡ Ok (record { points = n; tally = t }) → Gave row o n t
 gave (Gives.no e) h = absurd (let z : ◌≡◌ {A = ℕ} 0 1 = cc in omega arith)
 gave {row} {n = n} {t = t} (Gives.yes {ps = ps} {n = m} {t = u} e h) i =
-    let count : m ≡ n = cc in
-    let tally : u ≡ t = cc in
+    let same : ◌≡◌ {A = Crunched} (record { points = m; tally = u }) (record { points = n; tally = t }) = cc in
+    let count : m ≡ n = ap (λ (c : Crunched). c.points) same in
+    let tally : u ≡ t = ap (λ (c : Crunched). c.tally) same in
     record { ps = ps; is = ap (crunched ps) tally; held = subst (λ (k : ℕ). Holds row k ps) count h }
 
-gave_no : {row : Points} {o : Crunch.Outcome} {r : Crunched} {k : ℕ} → Gives row o r → r ≡ C.Refused k → o ≡ Crunch.refused k
+gave_no : {row : Points} {o : Crunch.Outcome} {r : Result Crunched Refusal} {k : Refusal} → Gives row o r → r ≡ Err k → o ≡ Crunch.refused k
 gave_no (Gives.no e) h = cc
 gave_no (Gives.yes e h) i = absurd (let z : ◌≡◌ {A = ℕ} 0 1 = cc in omega arith)
 
@@ -184,7 +185,7 @@ module _ (rooms : Rooms) (settings : Settings) (room : ℕ) (ends₀ : List ℕ)
       ahead_is = ap (λ (es : List ℕ). crunch_each rooms settings (room - at) (contours_from from es xs ys fs)) rest
 
       -- the rows that it is worked in are as long as they were
-      module _ {rooms' : Rooms} {points' : Points} {r : Crunched} (still : rooms' ≡ rooms) (to : ℕ) (e : to ≡ get_or ends k 0 + 1)
+      module _ {rooms' : Rooms} {points' : Points} {r : Result Crunched Refusal} (still : rooms' ≡ rooms) (to : ℕ) (e : to ≡ get_or ends k 0 + 1)
           (adds : Adds points at points' (crunch_of rooms' (length points - at) settings (stretch from to xs) (stretch from to ys) (stretch from to fs)) r) where
         turned : Gives (drop at points') turn r
         turned =
@@ -192,12 +193,12 @@ module _ (rooms : Rooms) (settings : Settings) (room : ℕ) (ends₀ : List ℕ)
             let l = g.long in
             rw (still, t, l) at adds.gives
 
-        pub refuses : {row : Points} {es : List ℕ} {m : ℕ} → r ≡ C.Refused m → Gathers row es all (G.Refused m)
+        pub refuses : {row : Points} {es : List ℕ} {m : Refusal} → r ≡ Err m → Gathers row es all (Err m)
         refuses {row} {es} {m} h =
             let is : all ≡ refused m = g.whole ∙ ap (before_all g.contours) (ahead_is ∙ ap then (gave_no turned h)) in
-            subst (λ (o : Outcome (List Points)). Gathers row es o (G.Refused m)) (sym is) (Gathers.no refl)
+            subst (λ (o : Outcome (List Points)). Gathers row es o (Err m)) (sym is) (Gathers.no refl)
 
-        module _ {n : ℕ} {t : Tally} (h : r ≡ C.Points n t) where
+        module _ {n : ℕ} {t : Tally} (h : r ≡ Ok (record { points = n; tally = t })) where
           gives : Gave (drop at points') turn n t
           gives = gave turned h
 
@@ -235,11 +236,11 @@ module _ (rooms : Rooms) (settings : Settings) (room : ℕ) (ends₀ : List ℕ)
           }
 
     -- all are crunched
-    pub ended : length ends ≤ k → Gathers points ends all (G.Points at)
+    pub ended : length ends ≤ k → Gathers points ends all (Ok at)
     unfolding crunch_each contours_from
     ended past-ends =
         let none : drop k ends₀ ≡ [] = let past : length ends₀ ≤ k = omega (arith, past-ends, g.same) in drop_of_length-le ends₀ past in
         let is : all ≡ done g.contours =
         g.whole ∙ ap (λ (es : List ℕ). before_all g.contours (ahead from at es)) none ∙ ap done (append-nil g.contours) in
-        subst (λ (o : Outcome (List Points)). Gathers points ends o (G.Points at)) (sym is)
+        subst (λ (o : Outcome (List Points)). Gathers points ends o (Ok at)) (sym is)
         (Gathers.yes refl g.held (λ few. sym (take_all k ends past-ends) ∙ g.renumbered few))

@@ -1,4 +1,6 @@
 -- From the row that `write_glyph` filled `read_glyph` gives the glyph back. Assumes nothing.
+use Rattle.std.specs.Prelude.{Ok}
+use Rattle.refusals.specs.declared.refusal.Refusal.TheVariants.{OutputTooShort}
 use Prim.Native.Nat.{ℕ}
 use native.Mathlib.Omega.{arith}
 use mathlib.Core.Bool.{Bool, false}
@@ -10,7 +12,6 @@ use Rattle.glyf.specs.Trips.{as_read}
 use Rattle.glyf.proofs.After.{filled_row_says}
 use Rattle.glyfread.specs.Reads as Reads
 use Rattle.glyfwrite.specs.Writes as Writes
-use Rattle.glyfwrite.specs.declared.write.Wrote.TheVariants as Wrote
 use Rattle.glyphs.specs.Handed.{FilledRowReadBack}
 
 -- where so many bytes are the answer, they were written
@@ -18,14 +19,14 @@ record Bytes (o : Outcome (List ℕ)) : Type 0 where
   bytes : List ℕ
   are : o ≡ done bytes
 
-written : (n : ℕ) (o : Outcome (List ℕ)) → Wrote.Bytes n ≡ Writes.answer_of o → Bytes o
+written : (n : ℕ) (o : Outcome (List ℕ)) → Ok n ≡ Writes.answer_of o → Bytes o
 written n (done bytes) e = record { bytes = bytes; are = refl }
 written n (refused k) e = let z : ◌≡◌ {A = ℕ} 0 1 = cc in absurd (omega arith)
 
 -- and what is read of the row
 reads : (r : Rooms) (row : List ℕ) (g : Glyph) → described row ≡ done g → too_small r g ≡ false → read_of r row ≡ done g
 unfolding read_of
-reads r row g e h = ap (roomy r) e ∙ ap (λ (t : Bool). refuse 9 t (done g)) h
+reads r row g e h = ap (roomy r) e ∙ ap (λ (t : Bool). refuse OutputTooShort t (done g)) h
 
 pub filled_row_read_back : FilledRowReadBack
 filled_row_read_back g out n w r held wrote read fits =

@@ -1,4 +1,6 @@
 -- A row that is lent from a place on, and what it then holds. Assumes nothing.
+use Rattle.std.specs.Prelude.{Result}
+use Rattle.refusals.specs.declared.refusal.Refusal.{Refusal}
 use Prim.Native.Nat.{ℕ, ◌-◌, ◌≤◌}
 use native.Mathlib.Nat.{le_refl}
 use mathlib.Core.List.{List, ◌++◌, append-nil}
@@ -21,7 +23,7 @@ module _ (row : Points) (at : ℕ) (h : at ≤ length row) where
       drop_at (take at row) _ at (length-take-le at row h) ∙ ap (◌++◌ mid) (Post-is at (length row) row h ∙ drop-length row) ∙ append-nil mid
 
   -- the first places stay, and the part has as many places as are left
-  pub adds : (rooms : Rooms) (settings : Settings) (xs ys : List ℤ) (fs : List ℕ) {mid : Points} {r : Crunched} →
+  pub adds : (rooms : Rooms) (settings : Settings) (xs ys : List ℤ) (fs : List ℕ) {mid : Points} {r : Result Crunched Refusal} →
       Gives mid (crunch_of rooms (length (take (length row - at) (drop at row))) settings xs ys fs) r →
       Adds row at (put_mid at (length row - at) row mid) (crunch_of rooms (length row - at) settings xs ys fs) r
   adds rooms settings xs ys fs {mid} {r} g = record {

@@ -1,4 +1,6 @@
 -- A glyph that was read stands in the first places of the rows. Assumes nothing.
+use Rattle.std.specs.Prelude.{Result, Ok, Err}
+use Rattle.refusals.specs.declared.refusal.Refusal.{Refusal}
 use Prim.Native.Nat.{ℕ, ◌≤◌}
 use native.Mathlib.Omega.{arith}
 use mathlib.Core.List.{List}
@@ -12,11 +14,8 @@ use Rattle.glyf.proofs.Sound.{sound, read_says}
 use Rattle.settings.specs.declared.Settings.{Settings}
 use Rattle.glyfread.specs.Reads.{answer_of}
 use Rattle.glyfread.specs.Entry.{Promise}
-use Rattle.glyfread.specs.declared.read.Read.{Read}
-use Rattle.glyfread.specs.declared.read.Read.TheVariants as R
+use Rattle.glyfread.specs.declared.read.Counts.{Counts}
 use Rattle.glyfwrite.specs.Writes.{Writes}
-use Rattle.glyfwrite.specs.declared.write.Wrote.{Wrote}
-use Rattle.glyfwrite.specs.declared.write.Wrote.TheVariants as W
 use Rattle.glyphs.specs.Glyphs.{Rooms, and_then, crunched_of, crunch_glyph_of}
 use Rattle.glyphs.specs.Entry.{zero_glyph}
 use Rattle.glyphs.specs.Stands.{first_of, Stood}
@@ -28,15 +27,15 @@ front_is s row {n = n} e c = ap (take n) e ∙ take_at s (drop (length s) row) n
 front_fits : {A : Type 0} (s row : List A) {row' : List A} {n : ℕ} → row' ≡ laid s row → n ≡ length s → n ≤ length row'
 front_fits s row e c = omega (arith, c, ap length e, length-append s (drop (length s) row))
 
-module _ {bytes : List ℕ} {w : Both Glyph Glyph} {r : Read} (p : Promise bytes w r) where
+module _ {bytes : List ℕ} {w : Both Glyph Glyph} {r : Result Counts Refusal} (p : Promise bytes w r) where
   abbrev outcome : Outcome Glyph
   outcome = read_of (rooms_of w.entry) bytes
 
-  not_read : (o : Outcome Glyph) {k : ℕ} → r ≡ answer_of o → r ≡ R.Refused k → o ≡ refused k
+  not_read : (o : Outcome Glyph) {k : Refusal} → r ≡ answer_of o → r ≡ Err k → o ≡ refused k
   not_read (done g) a h = absurd (let z : ◌≡◌ {A = ℕ} 0 1 = cc in omega arith)
   not_read (refused j) a h = cc
 
-  pub unread : {k : ℕ} → r ≡ R.Refused k → outcome ≡ refused k
+  pub unread : {k : Refusal} → r ≡ Err k → outcome ≡ refused k
   unread h = not_read outcome p.answer h
 
   -- what was read, and where it stands
@@ -46,13 +45,15 @@ module _ {bytes : List ℕ} {w : Both Glyph Glyph} {r : Read} (p : Promise bytes
     pub first : first_of contours count size w.exit ≡ g
     pub stood : Stood w.exit contours count size
 
-  module _ {contours count size : ℕ} (h : r ≡ R.Glyph contours count size) where
+  module _ {contours count size : ℕ} (h : r ≡ Ok (record { contours = contours; points = count; instructions = size })) where
     stands : (g : Glyph) → outcome ≡ done g → r ≡ answer_of (done g) → w.exit ≡ laid_in g w.entry → WasRead contours count size
     stands g is a left =
         let s = sound g bytes (read_says g (rooms_of w.entry) bytes is) in
-        let c : contours ≡ length g.ends = cc in
-        let n : count ≡ length g.flags = cc in
-        let i : size ≡ length g.instructions = cc in
+        let same : ◌≡◌ {A = Counts} (record { contours = contours; points = count; instructions = size })
+        (record { contours = length g.ends; points = length g.flags; instructions = length g.instructions }) = cc in
+        let c : contours ≡ length g.ends = ap (λ (t : Counts). t.contours) same in
+        let n : count ≡ length g.flags = ap (λ (t : Counts). t.points) same in
+        let i : size ≡ length g.instructions = ap (λ (t : Counts). t.instructions) same in
         let nx : count ≡ length g.xs = n ∙ s.as_flags ∙ sym s.as_xs in
         let ny : count ≡ length g.ys = n ∙ s.as_flags ∙ sym s.as_ys in
         let ends = ap (λ (v : Glyph). v.ends) left in
@@ -80,7 +81,7 @@ module _ {bytes : List ℕ} {w : Both Glyph Glyph} {r : Read} (p : Promise bytes
 
     by : (o : Outcome Glyph) → outcome ≡ o → WasRead contours count size
     by (done g) is = stands g is (p.answer ∙ ap answer_of is) (p.left ∙ ap (λ (o : Outcome Glyph). left_by laid_in o w.entry) is)
-    by (refused k) is = absurd (let a : r ≡ R.Refused k = p.answer ∙ ap answer_of is in let z : ◌≡◌ {A = ℕ} 0 1 = cc in omega arith)
+    by (refused k) is = absurd (let a : r ≡ Err k = p.answer ∙ ap answer_of is in let z : ◌≡◌ {A = ℕ} 0 1 = cc in omega arith)
 
     pub was_read : WasRead contours count size
     was_read = by outcome refl
@@ -94,11 +95,11 @@ pub same_rooms : {e e' x x' y y' f f' i i' : ℕ} → e ≡ e' → x ≡ x' → 
 same_rooms e x y f i = λ k. record { ends = e k; instructions = i k; xs = x k; ys = y k; flags = f k }
 
 module _ (r : Rooms) (settings : Settings) (bytes out : List ℕ) where
-  pub none_read : {k : ℕ} → read_of r.read bytes ≡ refused k → Writes (crunch_glyph_of r settings bytes) out out (W.Refused k)
+  pub none_read : {k : Refusal} → read_of r.read bytes ≡ refused k → Writes (crunch_glyph_of r settings bytes) out out (Err k)
   unfolding crunch_glyph_of
   none_read e = rw e (record { answer = refl; left = refl })
 
-  pub all_read : {g g' : Glyph} {rooms : Layout.Rooms} {out' : List ℕ} {a : Wrote} → read_of r.read bytes ≡ done g → g' ≡ g → rooms ≡ r.read →
+  pub all_read : {g g' : Glyph} {rooms : Layout.Rooms} {out' : List ℕ} {a : Result ℕ Refusal} → read_of r.read bytes ≡ done g → g' ≡ g → rooms ≡ r.read →
       Writes (crunched_of (record { out = r.out; read = rooms; work = r.work; points = r.points }) settings g') out out' a →
       Writes (crunch_glyph_of r settings bytes) out out' a
   unfolding crunch_glyph_of

@@ -9,6 +9,7 @@ use lib.Dec.{ltb}
 use lib.IntN.{ℤ, pos}
 use lib.ListN.{length, take, drop, length-append, length-map}
 use lib.Seq.{take_all}
+use Rattle.refusals.specs.declared.refusal.Refusal.TheVariants.{EndsNotRising, TooLarge}
 use Rattle.rows.specs.Lent.{Inputs, inputs}
 use Rattle.settings.specs.declared.Settings.{Settings}
 use Rattle.contour.specs.Points.{Points}
@@ -36,7 +37,7 @@ module _ (g : Glyph) where
   judged_held (taken p end) e = by (rising p.ends) (all16 (sums (pos 0) p.dxs)) refl (all16 (sums (pos 0) p.dys)) refl e
     where
       by : (a : Bool) (b : Bool) → all16 (sums (pos 0) p.dxs) ≡ b → (c : Bool) → all16 (sums (pos 0) p.dys) ≡ c →
-          refuse 13 (not a) (refuse 14 (not (b && c)) (done (glyph_of p))) ≡ done g → Held g
+          refuse EndsNotRising (not a) (refuse TooLarge (not (b && c)) (done (glyph_of p))) ≡ done g → Held g
       by true true x true y e = let is : glyph_of p ≡ g = done_is e in rw (← is) (record { xs = x; ys = y })
       by false b x c y e = absurd (let z : ◌≡◌ {A = ℕ} 0 1 = cc in omega arith)
       by true false x c y e = absurd (let z : ◌≡◌ {A = ℕ} 0 1 = cc in omega arith)
@@ -142,7 +143,7 @@ module _ (news : List Points) (instructions : List ℕ) (all : count_of (ends_fr
   all_taken_lem =
       λ k. glyph (ends_from 0 news) (whole (λ (q : List ℤ). number q 0) k) (whole (λ (q : List ℤ). number q 1) k) (whole flag_of k) instructions
 
-  pub only_large : rising (ends_from 0 news) ≡ true → (out : ℕ) → written_of out new ≡ refuse 14 (too_large new) (fitting out (bytes_of new))
+  pub only_large : rising (ends_from 0 news) ≡ true → (out : ℕ) → written_of out new ≡ refuse TooLarge (too_large new) (fitting out (bytes_of new))
   unfolding written_of
   only_large rise out =
       let ps = together news in
@@ -155,7 +156,7 @@ module _ (news : List Points) (instructions : List ℕ) (all : count_of (ends_fr
         le-ltb (length (flags ps)) (count_of (ends_from 0 news)) (omega (arith, all, fs)),
         rise,
       )
-      (ap (λ (v : Glyph). refuse 14 (too_large v) (fitting out (bytes_of v))) all_taken_lem)
+      (ap (λ (v : Glyph). refuse TooLarge (too_large v) (fitting out (bytes_of v))) all_taken_lem)
 
   trimmed_is : as_read (trimmed new) ≡ new
   trimmed_is =

@@ -8,6 +8,8 @@ use lib.Dec.{ltb}
 use lib.IntN.{ℤ}
 use lib.ListN.{length, take, drop, length-map}
 use lib.Seq.{take_at, drop_at, drop-drop}
+use Rattle.refusals.specs.declared.refusal.Refusal.TheVariants.{TooLarge, NoSuchPenalty}
+use Rattle.refusals.specs.declared.refusal.Refusal.{Refusal}
 use Rattle.rows.specs.Lent.{Inputs, inputs}
 use Rattle.settings.specs.Settings.{settings_fine}
 use Rattle.settings.specs.declared.Settings.{Settings}
@@ -58,7 +60,7 @@ module _ (rooms : Edition.Rooms) (settings : Settings) where
           let f = followed room contours ps e in
           subst (Each rooms settings room (inputs xs ys fs ∷ contours)) (sym f.all_is) (next is (go (room - length ps) f.more f.is))
 
-  pub first : (k room : ℕ) (contours : List Inputs) → FirstRefused rooms settings k room contours → crunch_each rooms settings room contours ≡ refused k
+  pub first : (k : Refusal) (room : ℕ) (contours : List Inputs) → FirstRefused rooms settings k room contours → crunch_each rooms settings room contours ≡ refused k
   unfolding crunch_each
   first k room (inputs xs ys fs ∷ contours) (here e) = rw e refl
   first k room (inputs xs ys fs ∷ contours) (later {ps = ps} e l) = rw (e, first k (room - length ps) contours l) refl
@@ -103,7 +105,7 @@ module _ (r : Rooms) (settings : Settings) (bytes bytes' : List ℕ) where
       written_of r.out (glyph_of news g.instructions) ≡ done bytes'
   rewritten_done g news e = by (not (settings_fine settings)) (ltb 65536 (length (together news))) e
     where
-      by : (b c : Bool) → refuse 16 b (refuse 14 c (written_of r.out (glyph_of news g.instructions))) ≡ done bytes' →
+      by : (b c : Bool) → refuse NoSuchPenalty b (refuse TooLarge c (written_of r.out (glyph_of news g.instructions))) ≡ done bytes' →
           written_of r.out (glyph_of news g.instructions) ≡ done bytes'
       by true c e = absurd (let z : ◌≡◌ {A = ℕ} 0 1 = cc in omega arith)
       by false true e = absurd (let z : ◌≡◌ {A = ℕ} 0 1 = cc in omega arith)

@@ -1,7 +1,8 @@
 -- The promise of `crunch_glyph` determines the answer and every lent row; and the answer and the bytes written are those of the bytes read, of the
 -- settings and of the lengths of the rows alone, whatever the rows held. Assumes nothing.
-use Rattle.std.specs.Prelude.{ℕ, List, ◌≡◌, refl, length, replicate}
+use Rattle.std.specs.Prelude.{ℕ, List, ◌≡◌, refl, length, replicate, Result, Err}
 use Rattle.std.proofs.Common.{arith, sym, ap, ◌∙◌}
+use Rattle.refusals.specs.declared.refusal.Refusal.{Refusal}
 use Rattle.rows.specs.Rows.{point_zero}
 use Rattle.settings.specs.declared.Settings.{Settings}
 use Rattle.edition.specs.Scratch.{cleared}
@@ -9,8 +10,6 @@ use Rattle.edition.specs.Laws.{same_cleared}
 use Rattle.glyf.specs.Layout.{Outcome, done, refused, laid, left_by}
 use Rattle.glyf.specs.Layout as Layout
 use Rattle.glyfwrite.specs.Writes.{answer_of}
-use Rattle.glyfwrite.specs.declared.write.Wrote.{Wrote}
-use Rattle.glyfwrite.specs.declared.write.Wrote.TheVariants as W
 use Rattle.glyphs.specs.Glyphs.{Rooms, crunch_glyph_of}
 use Rattle.glyphs.specs.Entry.{Rows, LentRows, rooms_of, whole_of, zero_glyph, Promise}
 
@@ -23,7 +22,7 @@ pub record Same {A : Type 0} (r r' : A) (t t' : Rows) : Type 0 where
   pub points : t.points ≡ t'.points
 
 -- two outcomes of one order are one
-pub determined : {bytes : List ℕ} {settings : Settings} {t t' : LentRows} {r r' : Wrote} → t.entry ≡ t'.entry →
+pub determined : {bytes : List ℕ} {settings : Settings} {t t' : LentRows} {r r' : Result ℕ Refusal} → t.entry ≡ t'.entry →
     Promise bytes settings t r → Promise bytes settings t' r' → Same r r' t.exit t'.exit
 determined {bytes} {settings} e p p' = record {
   answer = p.answer ∙ ap (λ (u : Rows). answer_of (whole_of bytes settings u)) e ∙ sym p'.answer;
@@ -43,7 +42,7 @@ pub record Alike {A : Type 0} (r r' : A) (t t' : LentRows) : Type 0 where
   pub work : t.exit.work ≡ t'.exit.work
   pub points : t.exit.points ≡ t'.exit.points
 
-pub equal_orders : {bytes : List ℕ} {settings : Settings} {t t' : LentRows} {r r' : Wrote} → rooms_of t.entry ≡ rooms_of t'.entry →
+pub equal_orders : {bytes : List ℕ} {settings : Settings} {t t' : LentRows} {r r' : Result ℕ Refusal} → rooms_of t.entry ≡ rooms_of t'.entry →
     Promise bytes settings t r → Promise bytes settings t' r' → Alike r r' t t'
 equal_orders {bytes} {settings} {t} {t'} e p p' = record {
   answer = p.answer ∙ ap (λ (n : Rooms). answer_of (crunch_glyph_of n settings bytes)) e ∙ sym p'.answer;
@@ -57,9 +56,9 @@ equal_orders {bytes} {settings} {t} {t'} e p p' = record {
 
 -- ---- a refusal writes no byte
 
-unless_done : (o : Outcome (List ℕ)) (row : List ℕ) (k : ℕ) → W.Refused k ≡ answer_of o → left_by laid o row ≡ row
+unless_done : (o : Outcome (List ℕ)) (row : List ℕ) (k : Refusal) → Err k ≡ answer_of o → left_by laid o row ≡ row
 unless_done (done bytes) row k e = absurd (let z : ◌≡◌ {A = ℕ} 0 1 = cc in omega arith)
 unless_done (refused j) row k e = refl
 
-pub refused_leaves : {bytes : List ℕ} {settings : Settings} {t : LentRows} {k : ℕ} → Promise bytes settings t (W.Refused k) → t.exit.out ≡ t.entry.out
+pub refused_leaves : {bytes : List ℕ} {settings : Settings} {t : LentRows} {k : Refusal} → Promise bytes settings t (Err k) → t.exit.out ≡ t.entry.out
 refused_leaves {bytes} {settings} {t} {k} p = p.out ∙ unless_done (whole_of bytes settings t.entry) t.entry.out k p.answer

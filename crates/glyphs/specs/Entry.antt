@@ -1,5 +1,6 @@
 -- What `crunch_glyph` promises, of any bytes, settings and rows. Definitions only.
-use Rattle.std.specs.Prelude.{ℕ, List, ◌≡◌, ℤ, pos, length, replicate}
+use Rattle.std.specs.Prelude.{ℕ, List, ◌≡◌, ℤ, pos, length, replicate, Result}
+use Rattle.refusals.specs.declared.refusal.Refusal.{Refusal}
 use denote.Triple.Both.{Both}
 use Rattle.rows.specs.Rows.{Work, point_zero}
 use Rattle.rows.specs.Lent.{Lent, before, after}
@@ -10,7 +11,6 @@ use Rattle.edition.specs.Scratch as Scratch
 use Rattle.glyf.specs.Layout.{Glyph, glyph, Outcome, laid, left_by}
 use Rattle.glyf.specs.Layout as Layout
 use Rattle.glyfwrite.specs.Writes.{answer_of}
-use Rattle.glyfwrite.specs.declared.write.Wrote.{Wrote}
 use Rattle.glyphs.specs.Glyphs.{Rooms, crunch_glyph_of}
 
 -- the row of bytes out, the rows that a glyph is read into, the rows that a run is worked in, and the row for points
@@ -43,7 +43,7 @@ zero_glyph r =
 
 -- the answer; the row of bytes, with the new description at its front, or, where refused, what it held; and that every scratch row is zero
 -- throughout, whatever it held: the rows that a glyph is read into are such rows here
-pub record Promise (bytes : List ℕ) (settings : Settings) (t : LentRows) (r : Wrote) : Type 0 where
+pub record Promise (bytes : List ℕ) (settings : Settings) (t : LentRows) (r : Result ℕ Refusal) : Type 0 where
   pub answer : r ≡ answer_of (whole_of bytes settings t.entry)
   pub out : t.exit.out ≡ left_by laid (whole_of bytes settings t.entry) t.entry.out
   pub read : t.exit.read ≡ zero_glyph (Layout.rooms_of t.entry.read)

@@ -1,6 +1,7 @@
 -- The whole: what becomes of a glyph description. It is read, each contour is crunched by the crunch entry's own definition, in order, and what they
 -- became is written, with the instructions as they came. Definitions only.
 use Rattle.std.specs.Prelude.{ℕ, ◌+◌, ◌-◌, min, not, List, [], ◌∷◌, ◌++◌, ltb, ℤ, length, take, drop}
+use Rattle.refusals.specs.declared.refusal.Refusal.TheVariants.{TooLarge, NoSuchPenalty}
 use Rattle.rows.specs.Lent.{Inputs, inputs}
 use Rattle.settings.specs.Settings.{settings_fine}
 use Rattle.settings.specs.declared.Settings.{Settings}
@@ -80,8 +81,8 @@ point_room r = least_of r.read.xs r.read.ys r.read.flags r.points
 -- 16, which a contour has met if there is one; 14, more points than an end can number
 abbrev pub numbered : Settings → List Points → Outcome (List Points)
 numbered settings contours =
-    refuse 16 (not (settings_fine settings))
-    (refuse 14 (ltb 65536 (length (together contours)))
+    refuse NoSuchPenalty (not (settings_fine settings))
+    (refuse TooLarge (ltb 65536 (length (together contours)))
     (done contours))
 
 -- the contours of rows, each crunched
@@ -91,8 +92,8 @@ crunch_rows rooms settings room contours = and_then (crunch_each rooms settings 
 -- 16 and 14, then those of writing
 abbrev pub rewritten : Settings → ℕ → List ℕ → List Points → Outcome (List ℕ)
 rewritten settings out instructions contours =
-    refuse 16 (not (settings_fine settings))
-    (refuse 14 (ltb 65536 (length (together contours)))
+    refuse NoSuchPenalty (not (settings_fine settings))
+    (refuse TooLarge (ltb 65536 (length (together contours)))
     (written_of out (glyph_of contours instructions)))
 
 -- what becomes of a glyph that was read

@@ -1,5 +1,7 @@
 -- A glyph that is crunched, contour by contour: the statements. Proofs are in proofs/Separately.antt and Some.antt. Definitions only.
 use Rattle.std.specs.Prelude.{ℕ, ◌-◌, List, [], ◌∷◌, map, ◌≡◌, ℤ, length}
+use Rattle.refusals.specs.declared.refusal.Refusal.TheVariants.{TooLarge}
+use Rattle.refusals.specs.declared.refusal.Refusal.{Refusal}
 use Rattle.rows.specs.Lent.{Inputs, inputs}
 use Rattle.settings.specs.declared.Settings.{Settings}
 use Rattle.contour.specs.Points.{Points}
@@ -19,7 +21,7 @@ module _ (rooms : Edition.Rooms) (settings : Settings) where
         crunch_of rooms room settings xs ys fs ≡ crunched ps tally → Each (room - length ps) contours more → Each room (inputs xs ys fs ∷ contours) (ps ∷ more)
 
   -- the first contour that is refused is refused by k
-  pub data FirstRefused (k : ℕ) : ℕ → List Inputs → Type 0 where
+  pub data FirstRefused (k : Refusal) : ℕ → List Inputs → Type 0 where
     here : {room : ℕ} {xs ys : List ℤ} {fs : List ℕ} {contours : List Inputs} →
         crunch_of rooms room settings xs ys fs ≡ Crunch.refused k → FirstRefused k room (inputs xs ys fs ∷ contours)
     later : {room : ℕ} {tally : Tally} {xs ys : List ℤ} {fs : List ℕ} {ps : Points} {contours : List Inputs} →
@@ -51,10 +53,10 @@ WrittenByContours =
 abbrev pub OnlyTooLarge : Type 0
 OnlyTooLarge =
     (rooms : Edition.Rooms) (settings : Settings) (room : ℕ) (olds : List Inputs) (news : List Points) → Each rooms settings room olds news →
-    (out : ℕ) (instructions : List ℕ) → let new = glyph_of news instructions in written_of out new ≡ refuse 14 (too_large new) (fitting out (bytes_of new))
+    (out : ℕ) (instructions : List ℕ) → let new = glyph_of news instructions in written_of out new ≡ refuse TooLarge (too_large new) (fitting out (bytes_of new))
 
 -- the first contour that is refused refuses the glyph by its number
 abbrev pub RefusedByFirst : Type 0
 RefusedByFirst =
-    (r : Rooms) (settings : Settings) (bytes : List ℕ) (g : Glyph) (k : ℕ) → read_of r.read bytes ≡ done g →
+    (r : Rooms) (settings : Settings) (bytes : List ℕ) (g : Glyph) (k : Refusal) → read_of r.read bytes ≡ done g →
     FirstRefused r.work settings k (point_room r) (contours_of g) → crunch_glyph_of r settings bytes ≡ refused k

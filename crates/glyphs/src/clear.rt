@@ -8,25 +8,19 @@ ghost use Rattle.glyphs.specs.Entry.{zero_glyph};
 pub fn clear_u8(row: &mut [u8])
     ensures { after row ≡ replicate (room row) 0 }
 {
-    for i in 0..row.len() {
-        row[i] = 0;
-    }
+    row.fill(0);
 }
 
 pub fn clear_u16(row: &mut [u16])
     ensures { after row ≡ replicate (room row) 0 }
 {
-    for i in 0..row.len() {
-        row[i] = 0;
-    }
+    row.fill(0);
 }
 
 pub fn clear_i16(row: &mut [i16])
     ensures { after row ≡ replicate (room row) (pos 0) }
 {
-    for i in 0..row.len() {
-        row[i] = 0;
-    }
+    row.fill(0);
 }
 
 // The rows that a glyph is read into.

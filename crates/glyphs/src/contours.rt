@@ -7,15 +7,8 @@ ghost use Rattle.glyphs.specs.Glyphs.{stretch, contours_from, crunch_each};
 ghost use Rattle.glyphs.specs.Stands.{Numbers, Part, Adds, Apart, Gathers};
 
 use crunch::Crunched;
+use refusals::Refusal;
 use settings::Settings;
-
-#[derive(Clone, Copy)]
-pub enum Gathered {
-    // the number of a refusal
-    Refused(u8),
-    // the points of all contours
-    Points(usize),
-}
 
 // The number of the last of so many points. More than 65,536 have none: they are refused once all contours
 // are crunched.
@@ -45,7 +38,7 @@ fn crunch_part(
     links: &mut [u32],
     points: &mut [[i16; 3]],
     at: usize,
-) -> Crunched
+) -> Result<Crunched, Refusal>
     requires part { Part from to (length xs.now) (length ys.now) (length flags.now) }
     requires at_in_bounds { at ≤ length points.old }
     ensures adds { Adds (before points) at (after points)
@@ -66,7 +59,7 @@ fn crunch_part(
     )
 }
 
-// Each contour up to its end, which becomes the end of what it is crunched to.
+// Each contour up to its end, which becomes the end of what it is crunched to. How many points all of them have.
 pub fn crunch_contours(
     ends: &mut [u16],
     xs: &[i16],
@@ -78,7 +71,7 @@ pub fn crunch_contours(
     answers: &mut [[f64; 3]],
     links: &mut [u32],
     points: &mut [[i16; 3]],
-) -> Gathered
+) -> Result<usize, Refusal>
     requires { Apart ends.old (length xs.now) (length ys.now) (length flags.now) }
     ensures { Gathers (after points) (after ends)
         (crunch_each (rooms_in samples breaks answers links) settings (room points)
@@ -86,22 +79,14 @@ pub fn crunch_contours(
 {
     let mut from = 0;
     let mut at = 0;
-    let mut k = 0;
-    while k < ends.len() {
+    for k in 0..ends.len() {
         let to = glyf::wide(ends[k]) + 1;
-        match crunch_part(
+        let part = crunch_part(
             xs, ys, flags, from, to, settings, samples, breaks, answers, links, points, at,
-        ) {
-            Crunched::Refused(number) => {
-                return Gathered::Refused(number);
-            }
-            Crunched::Points(n, _) => {
-                at += n;
-            }
-        }
+        )?;
+        at += part.points;
         ends[k] = last_of(at);
         from = to;
-        k += 1;
     }
-    Gathered::Points(at)
+    Ok(at)
 }

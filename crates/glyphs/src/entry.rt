@@ -9,10 +9,8 @@ ghost use Rattle.glyphs.specs.Stands.{first_of, Stood};
 ghost use Rattle.glyphs.specs.Entry.{rows, rooms_of, whole_of, Promise};
 
 use crate::clear::clear_glyph;
-use crate::contours::Gathered;
 use crate::renew::crunch_rows;
-use glyfread::Read;
-use glyfwrite::Wrote;
+use refusals::Refusal;
 use settings::Settings;
 
 // The glyph that stands in the first places of the rows.
@@ -32,25 +30,23 @@ fn crunch_read(
     answers: &mut [[f64; 3]],
     links: &mut [u32],
     points: &mut [[i16; 3]],
-) -> Wrote
+) -> Result<usize, Refusal>
     requires { Stood (glyph ends.old xs.old ys.old flags.old instructions.old) contours count size }
     ensures { Writes
         (crunched_of (rooms_of (rows out (filled ends xs ys flags instructions) (scratch samples breaks answers links) points).entry) settings
         (first_of contours count size (filled ends xs ys flags instructions).entry)) (before out) (after out) result }
 {
-    match crunch_rows(
+    let n = crunch_rows(
         contours, count, settings, ends, xs, ys, flags, samples, breaks, answers, links, points,
-    ) {
-        Gathered::Refused(k) => Wrote::Refused(k),
-        Gathered::Points(n) => glyfwrite::write_glyph(
-            &ends[..contours],
-            &xs[..n],
-            &ys[..n],
-            &flags[..n],
-            &instructions[..size],
-            out,
-        ),
-    }
+    )?;
+    glyfwrite::write_glyph(
+        &ends[..contours],
+        &xs[..n],
+        &ys[..n],
+        &flags[..n],
+        &instructions[..size],
+        out,
+    )
 }
 
 // The whole, but for the scratch rows, which are left as they are.
@@ -68,31 +64,29 @@ fn crunch_bytes(
     answers: &mut [[f64; 3]],
     links: &mut [u32],
     points: &mut [[i16; 3]],
-) -> Wrote
+) -> Result<usize, Refusal>
     ensures { Writes
         (whole_of bytes.now settings (rows out (filled ends xs ys flags instructions) (scratch samples breaks answers links) points).entry)
         (before out) (after out) result }
 {
-    match glyfread::read_glyph(bytes, ends, xs, ys, flags, instructions) {
-        Read::Refused(k) => Wrote::Refused(k),
-        Read::Glyph(contours, count, size) => crunch_read(
-            contours,
-            count,
-            size,
-            settings,
-            out,
-            ends,
-            xs,
-            ys,
-            flags,
-            instructions,
-            samples,
-            breaks,
-            answers,
-            links,
-            points,
-        ),
-    }
+    let read = glyfread::read_glyph(bytes, ends, xs, ys, flags, instructions)?;
+    crunch_read(
+        read.contours,
+        read.points,
+        read.instructions,
+        settings,
+        out,
+        ends,
+        xs,
+        ys,
+        flags,
+        instructions,
+        samples,
+        breaks,
+        answers,
+        links,
+        points,
+    )
 }
 
 pub fn crunch_glyph(
@@ -109,7 +103,7 @@ pub fn crunch_glyph(
     answers: &mut [[f64; 3]],
     links: &mut [u32],
     points: &mut [[i16; 3]],
-) -> Wrote
+) -> Result<usize, Refusal>
     ensures { Promise bytes.now settings (rows out (filled ends xs ys flags instructions) (scratch samples breaks answers links) points) result }
 {
     let r = crunch_bytes(

@@ -8,6 +8,5 @@ mod entry;
 mod renew;
 
 pub use crate::clear::{clear_i16, clear_u8, clear_u16};
-pub use crate::contours::Gathered;
 pub use crate::entry::crunch_glyph;
 pub use crate::renew::crunch_rows;

@@ -5,7 +5,8 @@ ghost use Rattle.edition.specs.Scratch.{rooms_in};
 ghost use Rattle.glyphs.specs.Glyphs.{contours_from, least_of, crunch_rows};
 ghost use Rattle.glyphs.specs.Stands.{Fits, FitsIn, Copies, CopiesAll, Held, Renews};
 
-use crate::contours::{Gathered, crunch_contours};
+use crate::contours::crunch_contours;
+use refusals::Refusal;
 use settings::Settings;
 
 // The new points into the rows that the old ones stood in.
@@ -16,35 +17,33 @@ fn copy_points(
     xs: &mut [i16],
     ys: &mut [i16],
     flags: &mut [u8],
-) -> Gathered
+) -> Result<usize, Refusal>
     requires { Fits (length points.now) (length xs.old) (length ys.old) (length flags.old) n }
     ensures { Copies settings points.now n (after xs) (after ys) (after flags) result }
 {
     if !settings.is_fine() {
-        return Gathered::Refused(16);
+        return Err(Refusal::NoSuchPenalty);
     }
     if 65536 < n {
-        return Gathered::Refused(14);
+        return Err(Refusal::TooLarge);
     }
     contour::copy_out(points, n, xs, ys, flags);
-    Gathered::Points(n)
+    Ok(n)
 }
 
 fn copy_gathered(
-    g: Gathered,
+    g: Result<usize, Refusal>,
     settings: Settings,
     points: &[[i16; 3]],
     xs: &mut [i16],
     ys: &mut [i16],
     flags: &mut [u8],
-) -> Gathered
+) -> Result<usize, Refusal>
     requires { FitsIn (length points.now) (length xs.old) (length ys.old) (length flags.old) g }
     ensures { CopiesAll settings points.now g (after xs) (after ys) (after flags) result }
 {
-    match g {
-        Gathered::Refused(k) => Gathered::Refused(k),
-        Gathered::Points(n) => copy_points(n, settings, points, xs, ys, flags),
-    }
+    let n = g?;
+    copy_points(n, settings, points, xs, ys, flags)
 }
 
 // So many contours, of so many points, in the first places of the rows.
@@ -61,7 +60,7 @@ pub fn crunch_rows(
     answers: &mut [[f64; 3]],
     links: &mut [u32],
     points: &mut [[i16; 3]],
-) -> Gathered
+) -> Result<usize, Refusal>
     requires { Held ends.old (length xs.old) (length ys.old) (length flags.old) contours count }
     ensures { Renews (take contours (after ends)) (after xs) (after ys) (after flags)
         (crunch_rows (rooms_in samples breaks answers links) settings (least_of (room xs) (room ys) (room flags) (room points))

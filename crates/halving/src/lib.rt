@@ -23,8 +23,9 @@ pub struct Cubic {
     pub y: Axis,
 }
 
-// A coordinate rounded, and whether that is outside 16 bits.
-#[derive(Clone, Copy)]
+// A coordinate rounded, and whether that is outside 16 bits. Both are needed: a point outside is counted as one inside
+// is, and too many points are refused first.
+#[derive(Clone, Copy, Debug, PartialEq, Eq)]
 pub struct Rounded {
     pub value: i16,
     pub far: bool,
@@ -139,9 +140,6 @@ impl Cubic {
     {
         let x = self.x;
         let y = self.y;
-        if x.is_bent() {
-            return true;
-        }
-        y.is_bent()
+        x.is_bent() || y.is_bent()
     }
 }

@@ -8,22 +8,15 @@ use native.Mathlib.Omega.{arith}
 use lib.ListN.{length, set, take, length-set}
 use lib.Seq.{take-suc-set, take-set-le, append_snoc}
 use Rattle.clean.specs.Clean.{cleaned, up_from}
-use Rattle.clean.specs.Pass.{Roomy}
+use Rattle.clean.specs.Pass.{counted_as, Roomy}
 use Rattle.clean.proofs.Passing.{up_more, up_end}
-use Rattle.idle.specs.Idle.{gathered, kept_at, listed_at, kept_of, list_of, counted_as, Sifted}
-use Rattle.idle.specs.declared.Counts.{Counts}
+use Rattle.idle.specs.Idle.{gathered, kept_at, listed_at, kept_of, list_of, Sifted}
+use Rattle.clean.specs.declared.Cleaned.{Cleaned}
 
 -- ---- a point is kept or dropped
 
-pub kept_as : (w : ℕ) (at : Counts) → w ≡ 0 → record { kept = at.kept + 1; dropped = at.dropped } ≡ counted_as w at
-kept_as w at h = rw h
-
-pub dropped_as : (w : ℕ) (at : Counts) → (w ≡ 0 → ⊥) → record { kept = at.kept; dropped = at.dropped + 1 } ≡ counted_as w at
-dropped_as zero at h = absurd (h refl)
-dropped_as (suc w) at h = refl
-
 -- both rows are given the point; it counts in one of them
-module _ (i : ℕ) (at : Counts) where
+module _ (i : ℕ) (at : Cleaned) where
   stored_kept : (kept rest : List ℕ) → at.kept < length kept → (w : ℕ) →
       take (counted_as w at).kept (set kept at.kept i) ++ rest ≡ take at.kept kept ++ (kept_at w i ++ rest)
   stored_kept kept rest h zero = rw (add-one at.kept, take-suc-set kept at.kept i h) (append_snoc (take at.kept kept) i rest)
@@ -43,7 +36,7 @@ module _ (i : ℕ) (at : Counts) where
 
 module _ (beside : ℕ → ℕ) (n : ℕ) where
   -- i points are passed
-  pub record Sifting (kept₀ : List ℕ) (gone₀ : List (List ℕ)) (kept : List ℕ) (gone : List (List ℕ)) (at : Counts) (i : ℕ) : Type 0 where
+  pub record Sifting (kept₀ : List ℕ) (gone₀ : List (List ℕ)) (kept : List ℕ) (gone : List (List ℕ)) (at : Cleaned) (i : ℕ) : Type 0 where
     pub same_kept : length kept ≡ length kept₀
     pub same_gone : length gone ≡ length gone₀
     pub high : i ≤ n
@@ -56,7 +49,7 @@ module _ (beside : ℕ → ℕ) (n : ℕ) where
       let e : n - 0 ≡ n = omega arith in
       record { same_kept = refl; same_gone = refl; high = omega arith; all = refl; keeps = rw e; lists = rw e }
 
-  module _ {kept₀ : List ℕ} {gone₀ : List (List ℕ)} {kept : List ℕ} {gone : List (List ℕ)} {at : Counts} {i : ℕ}
+  module _ {kept₀ : List ℕ} {gone₀ : List (List ℕ)} {kept : List ℕ} {gone : List (List ℕ)} {at : Cleaned} {i : ℕ}
       (room : Roomy n (length kept₀) (length gone₀)) (p : Sifting kept₀ gone₀ kept gone at i) where
     pub kept_room : i < n → at.kept < length kept
     kept_room h = omega (arith, p.all, p.same_kept, room.kept)
@@ -64,7 +57,7 @@ module _ (beside : ℕ → ℕ) (n : ℕ) where
     pub gone_room : i < n → at.dropped < length gone
     gone_room h = omega (arith, p.all, p.same_gone, room.gone)
 
-    pub more : (w : ℕ) {at' : Counts} → i < n → w ≡ beside i → at' ≡ counted_as w at →
+    pub more : (w : ℕ) {at' : Cleaned} → i < n → w ≡ beside i → at' ≡ counted_as w at →
         Sifting kept₀ gone₀ (set kept at.kept i) (set gone at.dropped (i ∷ w ∷ [])) at' (i + 1)
     unfolding gathered
     more w h e is =

@@ -1,8 +1,8 @@
 -- Which points of an upload are idle controls, and what is kept without them. A place is judged by the upload alone. Definitions only.
-use Rattle.std.specs.Prelude.{ℕ, zero, suc, ◌+◌, ◌-◌, ◌≤◌, List, [], ◌∷◌, ◌++◌, ◌≡◌, ltb, ℤ, length, take}
+use Rattle.std.specs.Prelude.{ℕ, zero, suc, ◌-◌, ◌≤◌, List, [], ◌∷◌, ◌++◌, ◌≡◌, ltb, ℤ, length, take}
 use Rattle.clean.specs.Clean.{same_place, on_place, or_else, Cleaning, cleaned, up_from}
 use Rattle.clean.specs.Pass.{pick_number, after_of}
-use Rattle.idle.specs.declared.Counts.{Counts}
+use Rattle.clean.specs.declared.Cleaned.{Cleaned}
 
 -- the number before i, of n, going round
 abbrev pub before_of : ℕ → ℕ → ℕ
@@ -60,12 +60,8 @@ idle_of xs ys fs =
 
 -- ---- the rows that a pass fills
 
-abbrev pub counted_as : ℕ → Counts → Counts
-counted_as zero at = record { kept = at.kept + 1; dropped = at.dropped }
-counted_as (suc w) at = record { kept = at.kept; dropped = at.dropped + 1 }
-
 -- at the end: so many kept, so many dropped
-pub record Sifted (kept : List ℕ) (gone : List (List ℕ)) (at : Counts) (c : Cleaning) : Type 0 where
+pub record Sifted (kept : List ℕ) (gone : List (List ℕ)) (at : Cleaned) (c : Cleaning) : Type 0 where
   pub kept_in : at.kept ≤ length kept
   pub dropped_in : at.dropped ≤ length gone
   pub is : cleaned (take at.kept kept) (take at.dropped gone) ≡ c

@@ -1,7 +1,6 @@
 -- What is asked to be proved of idle controls, as types; a theorem of proofs/Theorems, proofs/Drawn or proofs/Back is of each. Statements only.
-use Rattle.std.specs.Prelude.{ℕ, ◌+◌, ◌*◌, ◌≤◌, ◌<◌, true, false, List, [], ◌∷◌, map, ◌≡◌, ℤ, length}
+use Rattle.std.specs.Prelude.{ℕ, ◌+◌, ◌*◌, ◌≤◌, ◌<◌, true, false, List, [], ◌∷◌, map, ◌≡◌, ℤ, length, Ok}
 use Rattle.refusals.specs.Refusals.{judged}
-use Rattle.refusals.specs.declared.Judged.TheVariants.{Fine}
 use Rattle.clean.specs.Clean.{on_place, cleaned, up_from}
 use Rattle.clean.specs.Pass.{after_of}
 use Rattle.clean.specs.PutBack.{Point}
@@ -12,7 +11,7 @@ use Rattle.idle.specs.Outline.{Vertex, on, off, vertices_of, outline_of, straigh
 
 -- an upload that 1 to 5 let through, the numbers of its points that are kept, and the list
 pub record DroppedTo (xs ys : List ℤ) (fs kept : List ℕ) (drops : List (List ℕ)) : Type 0 where
-  pub fine : judged xs ys fs ≡ Fine
+  pub fine : judged xs ys fs ≡ Ok tt
   pub is : idle_of xs ys fs ≡ cleaned kept drops
 
 -- ---- the neighbours of an off-curve point, going round, are on-curve
@@ -22,7 +21,7 @@ pub record Neighbours (fs : List ℕ) (p : ℕ) : Type 0 where
   pub after : on_place fs (after_of p (length fs)) ≡ true
 
 abbrev pub NeighboursOn : Type 0
-NeighboursOn = (xs ys : List ℤ) (fs : List ℕ) (p : ℕ) → judged xs ys fs ≡ Fine → p < length fs → on_place fs p ≡ false → Neighbours fs p
+NeighboursOn = (xs ys : List ℤ) (fs : List ℕ) (p : ℕ) → judged xs ys fs ≡ Ok tt → p < length fs → on_place fs p ≡ false → Neighbours fs p
 
 -- ---- every point not listed is kept in order; place 0 is kept
 
@@ -36,7 +35,7 @@ KeptInOrder = (xs ys : List ℤ) (fs kept : List ℕ) (drops : List (List ℕ)) 
 -- ---- what is left is refused by none of 1 to 5, and sifted again nothing more goes
 
 pub record Left (xs ys : List ℤ) (fs kept : List ℕ) : Type 0 where
-  pub fine : judged (coordinates_left xs kept) (coordinates_left ys kept) (flags_left fs kept) ≡ Fine
+  pub fine : judged (coordinates_left xs kept) (coordinates_left ys kept) (flags_left fs kept) ≡ Ok tt
   pub twice : idle_of (coordinates_left xs kept) (coordinates_left ys kept) (flags_left fs kept) ≡ cleaned (up_from 0 (length kept)) []
 
 abbrev pub TwiceDropsNothing : Type 0

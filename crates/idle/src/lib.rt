@@ -11,19 +11,12 @@ ghost use Rattle.rows.specs.Lent.{before, after, contour};
 ghost use Rattle.clean.specs.Clean.{up_from};
 ghost use Rattle.clean.specs.Pass.{Roomy};
 ghost use Rattle.clean.specs.Entry.{lent, Written, spots_into, lent_outputs};
-ghost use Rattle.idle.specs.Idle.{before_of, beside_of, idle_of, counted_as, Sifted};
+ghost use Rattle.idle.specs.Idle.{before_of, beside_of, idle_of, Sifted};
 ghost use Rattle.idle.specs.PutBack.{is_back, passed_as, beside_kept, spot_at, spots_of};
 ghost use Rattle.idle.specs.Entry.{Promise, PutPromise};
 
-use clean::{Cleaned, Restored};
-use refusals::Judged;
-
-// How many points are kept and dropped so far.
-#[derive(Clone, Copy)]
-pub struct Counts {
-    pub kept: usize,
-    pub dropped: usize,
-}
+use clean::Cleaned;
+use refusals::Refusal;
 
 // The number before i, of n, going round.
 fn preceding(i: usize, n: usize) -> usize
@@ -50,44 +43,23 @@ fn beside(xs: &[i16], ys: &[i16], flags: &[u8], i: usize) -> u32
     0
 }
 
-impl Counts {
-    // One point more: kept where w is 0.
-    fn next(self, w: u32) -> Counts
-        requires { (self.kept ≤ 1024) × (self.dropped ≤ 1024) }
-        ensures { result ≡ counted_as w self }
-    {
-        if w == 0 {
-            return Counts {
-                kept: self.kept + 1,
-                dropped: self.dropped,
-            };
-        }
-        Counts {
-            kept: self.kept,
-            dropped: self.dropped + 1,
-        }
-    }
-}
-
 // The numbers of the points kept, and the drops, in the first places of two rows. Each point is written to both, at the
 // next place; it counts in one of them, and in the other the next point is written over it.
-fn sift(xs: &[i16], ys: &[i16], flags: &[u8], kept: &mut [u32], gone: &mut [[u32; 2]]) -> Counts
+fn sift(xs: &[i16], ys: &[i16], flags: &[u8], kept: &mut [u32], gone: &mut [[u32; 2]]) -> Cleaned
     requires { Roomy (length flags.now) (length kept.old) (length gone.old) }
     ensures { Sifted (after kept) (after gone) result (idle_of xs.now ys.now flags.now) }
 {
-    let mut at = Counts {
+    let mut at = Cleaned {
         kept: 0,
         dropped: 0,
     };
-    let mut i = 0;
-    while i < flags.len() {
+    for i in 0..flags.len() {
         let w = beside(xs, ys, flags, i);
         let k = at.kept;
         let d = at.dropped;
         kept[k] = i as u32;
         gone[d] = [i as u32, w];
         at = at.next(w);
-        i += 1;
     }
     at
 }
@@ -101,7 +73,7 @@ fn drop_fine(
     oy: &mut [i16],
     of: &mut [u8],
     list: &mut [[u32; 2]],
-) -> Cleaned
+) -> Result<Cleaned, Refusal>
     requires { Accepted xs.now ys.now flags.now }
     ensures { Written (contour xs ys flags) (idle_of xs.now ys.now flags.now) (lent ox oy of list) result }
 {
@@ -122,13 +94,11 @@ pub fn drop_idle(
     oy: &mut [i16],
     of: &mut [u8],
     list: &mut [[u32; 2]],
-) -> Cleaned
+) -> Result<Cleaned, Refusal>
     ensures { Promise (contour xs ys flags) (lent ox oy of list) result }
 {
-    match refusals::judge(xs, ys, flags) {
-        Judged::Refused(k) => Cleaned::Refused(k),
-        Judged::Fine => drop_fine(xs, ys, flags, ox, oy, of, list),
-    }
+    refusals::judge(xs, ys, flags)?;
+    drop_fine(xs, ys, flags, ox, oy, of, list)
 }
 
 // ---- putting back
@@ -138,13 +108,7 @@ fn is_back(list: &[[u32; 2]], kept: usize, p: usize, j: usize) -> bool
     requires { j ≤ p }
     ensures { result ≡ is_back kept list.now p j }
 {
-    if list.len() <= j {
-        return false;
-    }
-    if clean::wide(list[j][0]) == p {
-        return true;
-    }
-    kept <= p - j
+    j < list.len() && (clean::wide(list[j][0]) == p || kept <= p - j)
 }
 
 // The kept point that a drop with k kept ones before it is put back on: the last of these, or the one after, going round.
@@ -152,7 +116,7 @@ fn beside_kept(which: u32, kept: usize, k: usize) -> usize
     ensures { result ≡ beside_kept which kept k }
 {
     if which == 1 {
-        return clean::less(k, 1);
+        return k.saturating_sub(1);
     }
     if k < kept { k } else { 0 }
 }
@@ -182,11 +146,9 @@ fn put_all(list: &[[u32; 2]], kept: usize, n: usize, spots: &mut [[u32; 2]])
     ensures { take n (after spots) ≡ spots_of kept list.now n }
 {
     let mut j = 0;
-    let mut p = 0;
-    while p < n {
+    for p in 0..n {
         spots[p] = spot_at(list, kept, p, j);
         j = passed(list, kept, p, j);
-        p += 1;
     }
 }
 
@@ -221,15 +183,11 @@ pub fn put_back(
     ox: &mut [i16],
     oy: &mut [i16],
     of: &mut [u8],
-) -> Restored
+) -> Result<usize, Refusal>
     ensures { PutPromise (contour xs ys flags) list.now (lent_outputs ox oy of) result }
 {
     let room = rows::least(rows::least(ox.len(), oy.len()), of.len());
-    match clean::judge_back(xs.len(), ys.len(), flags.len(), list.len(), room) {
-        Judged::Refused(k) => Restored::Refused(k),
-        Judged::Fine => {
-            put_fine(xs, ys, flags, list, ox, oy, of);
-            Restored::Points(flags.len() + list.len())
-        }
-    }
+    clean::judge_back(xs.len(), ys.len(), flags.len(), list.len(), room)?;
+    put_fine(xs, ys, flags, list, ox, oy, of);
+    Ok(flags.len() + list.len())
 }

@@ -1,16 +1,8 @@
 -- Theorems on the definitions, of the types of specs/Statements: numbers are read back from their text, a line cut past its bound stays malformed, the
 -- lines of a stream do not depend on where its chunks end, what the rows hold after a line, and what a buffer holds after a text. Assumes nothing.
-use Prim.Native.Nat.{ℕ, zero, suc, ◌+◌, ◌-◌, ◌*◌, ◌/◌, ◌%◌, ◌<◌, min}
-use mathlib.Core.Bool.{Bool, true, false}
-use mathlib.Core.List.{List, [], ◌∷◌, ◌++◌}
-use mathlib.Core.Option.{Option, none, some, map}
-use mathlib.Core.Path.{◌≡◌, refl, ap, ◌∙◌}
-use native.Mathlib.Omega.{arith}
-use borrow.Author.Tests.{eqb-true, le-leb, lt-leb, leb-true, leb-false, ltb-true, ltb-false}
-use lib.Dec.{eqb, leb, ltb}
-use lib.IntN.{pos, negsuc}
-use lib.ListN.{length, take, drop, set, length-take, length-append}
-use lib.Seq.{sets, sets-eq, take_all, take-nil}
+use Rattle.std.proofs.Common.{ℕ, zero, suc, ◌+◌, ◌-◌, ◌*◌, ◌/◌, ◌%◌, ◌<◌, min, Bool, true, false, List, [], ◌∷◌, ◌++◌, Option, Some, None, option_map, ◌≡◌, refl, ap, ◌∙◌, arith, eqb-true, le-leb, leb-true, leb-false, ltb-true, ltb-false, eqb, leb, ltb, pos, negsuc, length, take, drop, set, length-take, length-append, take_all}
+use borrow.Author.Tests.{lt-leb}
+use Rattle.std.proofs.Math.Seq.{sets, sets-eq, take-nil}
 use Rattle.lines.specs.Line.{before, split, until, up_to, provided, is_digit, digits_on, natural_of, negative, signed, number_of, contour_of, parsed_of}
 use Rattle.lines.specs.Text.{Put, last_after, decimal_in, decimal_of, signed_of}
 use Rattle.lines.specs.Statements.{DecimalReadBack, NumberReadBack, CutSaysTheSame, on_first, LineGoesOn, FirstPlacesHold, TextIsWhole}
@@ -22,33 +14,33 @@ use Rattle.lines.proofs.Reading.{some_digits}
 is_digit_lem : (d : ℕ) → d < 10 → is_digit (48 + d) ≡ true
 is_digit_lem d h = rw (le-leb 48 (48 + d) (omega arith), le-leb (48 + d) 57 (omega arith))
 
-one_more : (ds : List ℕ) (v w d : ℕ) → d < 10 → digits_on v ds ≡ some w → digits_on v (ds ++ ((48 + d) ∷ [])) ≡ some (w * 10 + d)
+one_more : (ds : List ℕ) (v w d : ℕ) → d < 10 → digits_on v ds ≡ Some w → digits_on v (ds ++ ((48 + d) ∷ [])) ≡ Some (w * 10 + d)
 unfolding digits_on
 one_more [] v w d h e =
     let same : v ≡ w = cc in
     let back : v * 10 + (48 + d - 48) ≡ w * 10 + d = omega arith in
-    rw (is_digit_lem d h) (ap some back)
+    rw (is_digit_lem d h) (ap Some back)
 one_more (b ∷ ds) v w d h e = by (is_digit b) (λ l. one_more ds (v * 10 + (b - 48)) w d h l) e
   where
-    by : (t : Bool) → (digits_on (v * 10 + (b - 48)) ds ≡ some w → digits_on (v * 10 + (b - 48)) (ds ++ ((48 + d) ∷ [])) ≡ some (w * 10 + d)) →
-        provided t (digits_on (v * 10 + (b - 48)) ds) ≡ some w → provided t (digits_on (v * 10 + (b - 48)) (ds ++ ((48 + d) ∷ []))) ≡ some (w * 10 + d)
+    by : (t : Bool) → (digits_on (v * 10 + (b - 48)) ds ≡ Some w → digits_on (v * 10 + (b - 48)) (ds ++ ((48 + d) ∷ [])) ≡ Some (w * 10 + d)) →
+        provided t (digits_on (v * 10 + (b - 48)) ds) ≡ Some w → provided t (digits_on (v * 10 + (b - 48)) (ds ++ ((48 + d) ∷ []))) ≡ Some (w * 10 + d)
     by true later e = later e
     by false later e = cc
 
-in_steps_lem : (k n : ℕ) → n < k → digits_on 0 (decimal_in k n) ≡ some n
+in_steps_lem : (k n : ℕ) → n < k → digits_on 0 (decimal_in k n) ≡ Some n
 unfolding decimal_in digits_on
 in_steps_lem zero n h = absurd (omega arith)
 in_steps_lem (suc k) n h = by (ltb n 10) refl (λ l. in_steps_lem k (n / 10) l)
   where
-    by : (t : Bool) → ltb n 10 ≡ t → (n / 10 < k → digits_on 0 (decimal_in k (n / 10)) ≡ some (n / 10)) → digits_on 0 (last_after t n (decimal_in k (n / 10))) ≡ some n
+    by : (t : Bool) → ltb n 10 ≡ t → (n / 10 < k → digits_on 0 (decimal_in k (n / 10)) ≡ Some (n / 10)) → digits_on 0 (last_after t n (decimal_in k (n / 10))) ≡ Some n
     by true e front =
         let low = ltb-true n 10 e in
         let back : 0 * 10 + (48 + n - 48) ≡ n = omega arith in
-        rw (is_digit_lem n low) (ap some back)
+        rw (is_digit_lem n low) (ap Some back)
     by false e front =
         let high = ltb-false n 10 e in
         let back : n / 10 * 10 + n % 10 ≡ n = omega arith in
-        one_more (decimal_in k (n / 10)) 0 (n / 10) (n % 10) (omega arith) (front (omega arith)) ∙ ap some back
+        one_more (decimal_in k (n / 10)) 0 (n / 10) (n % 10) (omega arith) (front (omega arith)) ∙ ap Some back
 
 some_text : (k n : ℕ) → n < k → length (decimal_in k n) ≡ 0 → ⊥
 unfolding decimal_in
@@ -64,21 +56,21 @@ unfolding decimal_of
 decimal_back n = some_digits (decimal_in (suc n) n) (some_text (suc n) n (omega arith)) ∙ in_steps_lem (suc n) n (omega arith)
 
 -- a word of digits has no sign
-unsigned : (word : List ℕ) (n : ℕ) → natural_of word ≡ some n → number_of word ≡ some (pos n)
+unsigned : (word : List ℕ) (n : ℕ) → natural_of word ≡ Some n → number_of word ≡ Some (pos n)
 unfolding natural_of number_of digits_on
 unsigned [] n e = cc
 unsigned (b ∷ bs) n e = by (eqb b 45) refl
   where
-    by : (t : Bool) → eqb b 45 ≡ t → signed t b bs ≡ some (pos n)
+    by : (t : Bool) → eqb b 45 ≡ t → signed t b bs ≡ Some (pos n)
     by true h =
         let minus = eqb-true b 45 h in
-        let no : ◌≡◌ {A = Option ℕ} none (some n) = rw minus at e in
+        let no : ◌≡◌ {A = Option ℕ} None (Some n) = rw minus at e in
         cc
-    by false h = ap (map pos) e
+    by false h = ap (option_map pos) e
 
-minus : (ds : List ℕ) (n : ℕ) → natural_of ds ≡ some (suc n) → number_of (45 ∷ ds) ≡ some (negsuc n)
+minus : (ds : List ℕ) (n : ℕ) → natural_of ds ≡ Some (suc n) → number_of (45 ∷ ds) ≡ Some (negsuc n)
 unfolding number_of
-minus ds n e = ap (map negative) e
+minus ds n e = ap (option_map negative) e
 
 pub signed_back : NumberReadBack
 unfolding signed_of

@@ -1,36 +1,45 @@
 -- The parts of a line, found one after the other. Assumes nothing.
-use Prim.Native.Nat.{ℕ, suc, ◌+◌, ◌-◌, ◌≤◌, ◌<◌}
-use mathlib.Core.Bool.{Bool, true, false}
-use mathlib.Core.List.{List, [], ◌∷◌}
-use mathlib.Core.Path.{◌≡◌, refl, sym, ◌∙◌}
-use native.Mathlib.Omega.{arith}
-use native.Mathlib.Numerals.{add-one}
-use borrow.Author.Tests.{eq-eqb, ne_eqb, ltb-true, ltb-false, lt-ltb, le-leb, lt-leb}
-use lib.Dec.{eqb, leb, ltb}
-use lib.ListN.{length, get_or, take, drop, length-drop, drop_of_length-le}
-use lib.Seq.{drop-cons, drop-drop}
+use Rattle.std.proofs.Common.{ℕ, suc, ◌+◌, ◌-◌, ◌≤◌, ◌<◌, Bool, true, false, not, List, [], ◌∷◌, ◌≡◌, refl, sym, ◌∙◌, arith, ltb-true, ltb-false, lt-ltb, le-leb, eqb, leb, ltb, length, take, drop, length-drop, drop-drop, cond, Option, Some, None}
+use borrow.Author.Tests.{lt-leb}
+use Rattle.std.specs.List.{position_or_len}
+use Rattle.std.proofs.lemmas.List.Recursion.{is_position_or_len}
+use Rattle.std.proofs.lemmas.List.Sums.{prefix_len-le-length}
 use Rattle.lines.specs.Line.{before, split, until, up_to}
 use Rattle.lines.specs.Steps.{words_if, words_from}
 
--- ---- one byte of a search
+-- ---- the first stop
+
+length-until : (t : Bool) (b : ℕ) (bs : List ℕ) → length (until t b bs) ≡ cond t 0 (1 + length bs)
+length-until true b bs = refl
+length-until false b bs = omega arith
 
 module _ (stop : ℕ) (l : List ℕ) where
   -- where a search from i ends
   abbrev pub end_from : ℕ → ℕ
   end_from i = i + length (up_to stop (drop i l))
 
-  module _ (i : ℕ) where
-    pub past : length l ≤ i → end_from i ≡ i
-    unfolding up_to
-    past h = rw (drop_of_length-le l h) (omega arith)
+  length-up_to : length (up_to stop l) ≡ position_or_len (λ b. eqb b stop) l
+  unfolding up_to
+  length-up_to = is_position_or_len (λ m. length (up_to stop m)) (λ b. eqb b stop) refl (λ b bs. length-until (eqb b stop) b (up_to stop bs)) l
 
-    pub found : i < length l → get_or l i 0 ≡ stop → end_from i ≡ i
-    unfolding up_to
-    found h e = rw (drop-cons l i 0 h, eq-eqb _ _ e) (omega arith)
+  -- what `position` gives
+  module _ {r : Option ℕ} (e : r ≡ cond (ltb (position_or_len (λ b. eqb b stop) l) (length l)) (Some (position_or_len (λ b. eqb b stop) l)) None) where
+    pub found : (k : ℕ) → r ≡ Some k → k ≡ length (up_to stop l)
+    found k h = by (ltb (position_or_len (λ b. eqb b stop) l) (length l)) e
+      where
+        by : (t : Bool) → r ≡ cond t (Some (position_or_len (λ b. eqb b stop) l)) None → k ≡ length (up_to stop l)
+        by true e' = cc length-up_to
+        by false e' = cc
 
-    pub passed : i < length l → (get_or l i 0 ≡ stop → ⊥) → end_from i ≡ end_from (i + 1)
-    unfolding up_to
-    passed h e = rw (drop-cons l i 0 h, ne_eqb _ _ e, add-one) (omega arith)
+    pub missed : r ≡ None → length l ≡ length (up_to stop l)
+    missed h = by (ltb (position_or_len (λ b. eqb b stop) l) (length l)) refl e
+      where
+        by : (t : Bool) → ltb (position_or_len (λ b. eqb b stop) l) (length l) ≡ t → r ≡ cond t (Some (position_or_len (λ b. eqb b stop) l)) None → length l ≡ length (up_to stop l)
+        by true n e' = cc
+        by false n e' =
+            let past = ltb-false (position_or_len (λ b. eqb b stop) l) (length l) n in
+            let most = prefix_len-le-length (λ b. not (eqb b stop)) l in
+            omega (arith, length-up_to)
 
 -- ---- one part
 

@@ -1,11 +1,8 @@
 -- What a line says: whole numbers with one blank between them, `x y f x y f ..`, three to a point. Definitions only.
-use Rattle.std.specs.Prelude.{ℕ, ◌+◌, ◌-◌, ◌*◌, Bool, true, false, ◌&&◌, List, [], ◌∷◌, map, ◌≡◌, eqb, leb, ℤ, pos, neg_ℤ, nat_abs, length}
-use Rattle.std.proofs.Math.Option
-use Rattle.std.proofs.Math.Option.{Option, none, some}
+use Rattle.std.specs.Prelude.{ℕ, ◌+◌, ◌-◌, ◌*◌, Bool, true, false, ◌&&◌, List, [], ◌∷◌, map, ◌≡◌, eqb, leb, ℤ, pos, neg_ℤ, nat_abs, length, Option, Some, None, option_map}
 use Rattle.std.specs.Int.Signed.{le_z}
 use Rattle.std.proofs.lemmas.List.Edits.{sets}
-use Rattle.lines.specs.declared.line.Parsed.{Parsed}
-use Rattle.lines.specs.declared.line.Parsed.TheVariants.{Points, Malformed}
+pub use Rattle.lines.specs.declared.line.Point.{Point}
 
 -- ---- parts
 
@@ -33,7 +30,7 @@ up_to stop (b ∷ bs) = until (eqb b stop) b (up_to stop bs)
 
 abbrev pub provided : {A : Type 0} → Bool → Option A → Option A
 provided true o = o
-provided false o = none
+provided false o = None
 
 -- `0` to `9`
 abbrev pub is_digit : ℕ → Bool
@@ -41,12 +38,12 @@ is_digit b = leb 48 b && leb b 57
 
 -- the number that decimal digits say, after those that say v
 unfoldable pub digits_on : ℕ → List ℕ → Option ℕ
-digits_on v [] = some v
+digits_on v [] = Some v
 digits_on v (b ∷ bs) = provided (is_digit b) (digits_on (v * 10 + (b - 48)) bs)
 
 -- one digit or more; zeros in front count for nothing
 unfoldable pub natural_of : List ℕ → Option ℕ
-natural_of [] = none
+natural_of [] = None
 natural_of (b ∷ bs) = digits_on 0 (b ∷ bs)
 
 abbrev pub negative : ℕ → ℤ
@@ -54,18 +51,18 @@ negative n = neg_ℤ (pos n)
 
 -- a `-` before the digits or nothing, so that -0 is 0
 abbrev pub signed : Bool → ℕ → List ℕ → Option ℤ
-signed true b bs = Option.map negative (natural_of bs)
-signed false b bs = Option.map pos (natural_of (b ∷ bs))
+signed true b bs = option_map negative (natural_of bs)
+signed false b bs = option_map pos (natural_of (b ∷ bs))
 
 unfoldable pub number_of : List ℕ → Option ℤ
-number_of [] = none
+number_of [] = None
 number_of (b ∷ bs) = signed (eqb b 45) b bs
 
 -- ---- points
 
 abbrev pub only : (ℤ → Bool) → Option ℤ → Option ℤ
-only test (some z) = provided (test z) (some z)
-only test none = none
+only test (Some z) = provided (test z) (Some z)
+only test None = None
 
 abbrev pub within : ℤ → ℤ → ℤ → Bool
 within low high z = le_z low z && le_z z high
@@ -81,36 +78,31 @@ unfoldable pub coordinate_of : List ℕ → Option ℤ
 coordinate_of word = only is_coordinate (number_of word)
 
 unfoldable pub flag_of : List ℕ → Option ℕ
-flag_of word = Option.map nat_abs (only is_flag (number_of word))
-
-pub record Point : Type 0 where
-  pub x : ℤ
-  pub y : ℤ
-  pub flag : ℕ
+flag_of word = option_map nat_abs (only is_flag (number_of word))
 
 abbrev pub point : Option ℤ → Option ℤ → Option ℕ → Option Point
-point (some a) (some b) (some c) = some (record { x = a; y = b; flag = c })
-point (some a) (some b) none = none
-point (some a) none c = none
-point none b c = none
+point (Some a) (Some b) (Some c) = Some (record { x = a; y = b; flag = c })
+point (Some a) (Some b) None = None
+point (Some a) None c = None
+point None b c = None
 
 abbrev pub in_front : Option Point → Option (List Point) → Option (List Point)
-in_front (some p) (some ps) = some (p ∷ ps)
-in_front (some p) none = none
-in_front none ps = none
+in_front (Some p) (Some ps) = Some (p ∷ ps)
+in_front (Some p) None = None
+in_front None ps = None
 
 -- three words to a point
 unfoldable pub points_of : List (List ℕ) → Option (List Point)
-points_of [] = some []
-points_of (x ∷ []) = none
-points_of (x ∷ y ∷ []) = none
+points_of [] = Some []
+points_of (x ∷ []) = None
+points_of (x ∷ y ∷ []) = None
 points_of (x ∷ y ∷ f ∷ words) = in_front (point (coordinate_of x) (coordinate_of y) (flag_of f)) (points_of words)
 
 -- ---- lines
 
 -- an empty line has no word; in any other there is a word before, between and after its blanks
 abbrev pub contour_of : List ℕ → Option (List Point)
-contour_of [] = some []
+contour_of [] = Some []
 contour_of (b ∷ bs) = points_of (split 32 (b ∷ bs))
 
 -- the points of a line, none where it is malformed; a line of more than 65,536 bytes is
@@ -124,14 +116,14 @@ pub data Filled : Type 0 where
 
 -- points stored in the rows from place n on. A store past a row's end changes nothing (`sets` of lib.Seq)
 unfoldable pub laid : Option (List Point) → ℕ → List ℤ → List ℤ → List ℕ → Filled
-laid (some ps) n xs ys fs =
+laid (Some ps) n xs ys fs =
     filled (n + length ps)
     (sets xs n (map (λ (p : Point). p.x) ps))
     (sets ys n (map (λ (p : Point). p.y) ps))
     (sets fs n (map (λ (p : Point). p.flag) ps))
-laid none n xs ys fs = spoilt
+laid None n xs ys fs = spoilt
 
 -- the answer and the rows are those; after a malformed line the rows may hold anything
-abbrev pub Leaves : Filled → Parsed → List ℤ → List ℤ → List ℕ → Type 0
-Leaves (filled n a b c) r xs ys fs = (r ≡ Points n) × (xs ≡ a) × (ys ≡ b) × (fs ≡ c)
-Leaves spoilt r xs ys fs = r ≡ Malformed
+abbrev pub Leaves : Filled → Option ℕ → List ℤ → List ℤ → List ℕ → Type 0
+Leaves (filled n a b c) r xs ys fs = (r ≡ Some n) × (xs ≡ a) × (ys ≡ b) × (fs ≡ c)
+Leaves spoilt r xs ys fs = r ≡ None

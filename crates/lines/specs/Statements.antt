@@ -1,16 +1,15 @@
 -- What a reader should know of lines, as types; a theorem of proofs/Theorems is of each. Definitions and statements only.
-use Rattle.std.specs.Prelude.{ℕ, ◌+◌, ◌<◌, List, [], ◌∷◌, ◌++◌, ◌≡◌, ℤ, length, take, drop}
-use Rattle.std.proofs.Math.Option.{some}
+use Rattle.std.specs.Prelude.{ℕ, ◌+◌, ◌<◌, List, [], ◌∷◌, ◌++◌, ◌≡◌, ℤ, length, take, drop, Some}
 use Rattle.std.proofs.lemmas.List.Edits.{sets}
 use Rattle.lines.specs.Line.{split, up_to, natural_of, number_of, parsed_of}
 use Rattle.lines.specs.Text.{Put, decimal_of, signed_of}
 
 -- a number printed and read back is that number
 abbrev pub DecimalReadBack : Type 0
-DecimalReadBack = (n : ℕ) → natural_of (decimal_of n) ≡ some n
+DecimalReadBack = (n : ℕ) → natural_of (decimal_of n) ≡ Some n
 
 abbrev pub NumberReadBack : Type 0
-NumberReadBack = (z : ℤ) → number_of (signed_of z) ≡ some z
+NumberReadBack = (z : ℤ) → number_of (signed_of z) ≡ Some z
 
 -- A line of which no more than 65,537 bytes are held says what the whole line says: where it has more than 65,536 it is malformed.
 abbrev pub CutSaysTheSame : Type 0

@@ -28,10 +28,8 @@ fn put_points(out: &mut [u8], at: usize, xs: &[i16], ys: &[i16], flags: &[u8], n
     ensures { Put out.old at (points_text xs.now ys.now flags.now n 0) out.new result }
 {
     let mut a = at;
-    let mut i = 0;
-    while i < n {
+    for i in 0..n {
         a = put_point(out, a, xs[i], ys[i], flags[i]);
-        i += 1;
     }
     a
 }

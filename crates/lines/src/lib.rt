@@ -9,7 +9,7 @@ mod stream;
 mod word;
 
 pub use answer::{put_ok, put_refused};
-pub use line::{Parsed, parse};
+pub use line::parse;
 pub use put::{put_all, put_bits, put_byte, put_number, put_signed};
 pub use stream::{Fed, feed};
-pub use word::{Size, end_of, read_size};
+pub use word::{end_of, read_size};

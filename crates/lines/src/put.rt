@@ -1,6 +1,6 @@
 // Text put into a buffer from a place on. Each function gives the next place. What does not fit is left
 // out, and the next place is then the buffer's length: a text that ends below the length is whole.
-ghost use Rattle.std.specs.Prelude.{◌≡◌, [], ◌∷◌, ◌<◌, min, nat_abs};
+ghost use Rattle.std.specs.Prelude.{◌≡◌, [], ◌∷◌, ◌<◌};
 ghost use Rattle.lines.specs.Text.{Put, glyph_of, decimal_of, signed_of, hex_from, hex_of};
 
 pub fn put_byte(out: &mut [u8], at: usize, b: u8) -> usize
@@ -13,20 +13,12 @@ pub fn put_byte(out: &mut [u8], at: usize, b: u8) -> usize
     out.len()
 }
 
-fn least(a: usize, b: usize) -> usize
-    ensures { result ≡ min a b }
-{
-    if a < b { a } else { b }
-}
-
 pub fn put_all(out: &mut [u8], at: usize, text: &[u8]) -> usize
     ensures { Put out.old at text.now out.new result }
 {
-    let mut a = least(at, out.len());
-    let mut i = 0;
-    while i < text.len() {
-        a = put_byte(out, a, text[i]);
-        i += 1;
+    let mut a = at.min(out.len());
+    for &b in text {
+        a = put_byte(out, a, b);
     }
     a
 }
@@ -42,21 +34,15 @@ pub fn put_number(out: &mut [u8], at: usize, n: u64) -> usize
     put_byte(out, a, 48 + ((n % 10) as u8))
 }
 
-fn magnitude(v: i16) -> u64
-    ensures { result ≡ nat_abs v }
-{
-    let w = v as i64;
-    if w < 0 { (-w) as u64 } else { w as u64 }
-}
-
 pub fn put_signed(out: &mut [u8], at: usize, v: i16) -> usize
     ensures { Put out.old at (signed_of v) out.new result }
 {
+    let size = u64::from(v.unsigned_abs());
     if v < 0 {
         let a = put_byte(out, at, b'-');
-        return put_number(out, a, magnitude(v));
+        return put_number(out, a, size);
     }
-    put_number(out, at, magnitude(v))
+    put_number(out, at, size)
 }
 
 fn glyph(d: u64) -> u8
@@ -74,10 +60,8 @@ fn glyph(d: u64) -> u8
 fn put_hex(out: &mut [u8], at: usize, b: u64) -> usize
     ensures { Put out.old at (hex_from 16 b) out.new result }
 {
-    let mut a = least(at, out.len());
-    let mut k = 16u32;
-    while 0 < k {
-        k -= 1;
+    let mut a = at.min(out.len());
+    for k in (0..16u32).rev() {
         a = put_byte(out, a, glyph((b >> (4 * k)) % 16));
     }
     a

@@ -6,7 +6,7 @@ ghost use Rattle.lines.specs.Stream.{Feeds, Room};
 use crate::put::put_all;
 use crate::word::end_of;
 
-#[derive(Clone, Copy)]
+#[derive(Clone, Copy, Debug, PartialEq, Eq)]
 pub enum Fed {
     // The line is whole: so many bytes of the buffer, and the place in the chunk after its end.
     Line(usize, usize),

@@ -1,18 +1,11 @@
 -- A place and a direction looked up in a row of samples [x, y, dx, dy], at a length. Definitions only.
-use Rattle.std.specs.Prelude.{ℕ, ◌+◌, ◌≤◌, Bool, cond, List, [], ◌≡◌, leb, length, get_or, Float}
+use Rattle.std.specs.Prelude.{ℕ, ◌+◌, ◌≤◌, Bool, cond, List, [], ◌≡◌, leb, length, get_or, Float, Option, Some, None}
 use Rattle.std.specs.Float.{nan}
 use Rattle.std.specs.Float.Ieee.{to_unsigned}
 use Rattle.float.specs.Numbers.{nought}
 use Rattle.float.specs.Float.{fract_of}
 use Rattle.geometry.specs.Geometry.{lerp_of}
 use Rattle.geometry.specs.declared.Point.{Point}
-use Rattle.lookup.specs.declared.Found as F
-use Rattle.lookup.specs.declared.Found.TheVariants as Finding
-
--- a point, or the refusal 8
-pub data Found : Type 0 where
-  found : Point → Found
-  refused : Found
 
 -- the numbers k and k + 1 of a sample, which has four
 abbrev pub point_from : ℕ → List Float → Point
@@ -29,25 +22,21 @@ origin = record { x = nought; y = nought }
 abbrev pub fell : List (List Float) → Float → Bool
 fell row s = leb (length row) (to_unsigned 64 s)
 
--- one that fell gives (0, 0); at the last stored place the Rust would index past its end, which is refused. A NaN looks at place 0.
-unfoldable pub looked_up : ℕ → List (List Float) → Float → Found
+-- one that fell gives (0, 0); at the last stored place the Rust would index past its end, which is None: the refusal 8. A NaN looks at place 0.
+unfoldable pub looked_up : ℕ → List (List Float) → Float → Option Point
 looked_up k row s =
     let b = to_unsigned 64 s in
-    cond (fell row s) (found origin)
-    (cond (leb (length row) (b + 1)) refused
-    (found (point_between k (get_or row b []) (get_or row (b + 1) []) (fract_of s))))
+    cond (fell row s) (Some origin)
+    (cond (leb (length row) (b + 1)) None
+    (Some (point_between k (get_or row b []) (get_or row (b + 1) []) (fract_of s))))
 
-abbrev pub xy_at : List (List Float) → Float → Found
+abbrev pub xy_at : List (List Float) → Float → Option Point
 xy_at row s = looked_up 0 row s
 
-abbrev pub dir_at : List (List Float) → Float → Found
+abbrev pub dir_at : List (List Float) → Float → Option Point
 dir_at row s = looked_up 2 row s
 
 -- ---- what the functions give
-
-abbrev pub found_in : F.Found → Found
-found_in (Finding.At p) = found p
-found_in Finding.Missing = refused
 
 -- of the lookups at the length s, place and direction, n fell
 pub record Falls (row : List (List Float)) (s : Float) (n : ℕ) : Type 0 where

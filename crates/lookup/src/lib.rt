@@ -3,17 +3,9 @@
 #![tactic(auto)]
 
 ghost use Rattle.std.specs.Prelude.{◌≡◌, ◌<◌};
-ghost use Rattle.lookup.specs.Lookup.{point_from, looked_up, xy_at, dir_at, found_in, Falls};
+ghost use Rattle.lookup.specs.Lookup.{point_from, looked_up, xy_at, dir_at, Falls};
 
 use geometry::Point;
-
-// A place or a direction of the samples.
-#[derive(Clone, Copy)]
-pub enum Found {
-    At(Point),
-    // At the last stored place: refusal 8.
-    Missing,
-}
 
 // The numbers k and k + 1 of a sample.
 fn pair(p: [f64; 4], k: usize) -> Point
@@ -26,31 +18,31 @@ fn pair(p: [f64; 4], k: usize) -> Point
     }
 }
 
-// The numbers k and k + 1 at the length s: (0, 0) at or past the row's length.
-fn look_up(row: &[[f64; 4]], s: f64, k: usize) -> Found
+// The numbers k and k + 1 at the length s: (0, 0) at or past the row's length. None at the last stored place: refusal 8.
+fn look_up(row: &[[f64; 4]], s: f64, k: usize) -> Option<Point>
     requires { k < 3 }
-    ensures { found_in result ≡ looked_up k row.now s }
+    ensures { result ≡ looked_up k row.now s }
 {
     let b = float::to_index(s);
     if row.len() <= b {
-        return Found::At(Point { x: 0.0, y: 0.0 });
+        return Some(Point { x: 0.0, y: 0.0 });
     }
     if row.len() - b <= 1 {
-        return Found::Missing;
+        return None;
     }
     let p = pair(row[b], k);
     let q = pair(row[b + 1], k);
-    Found::At(p.lerp(q, float::fract(s)))
+    Some(p.lerp(q, float::fract(s)))
 }
 
-pub fn xy(row: &[[f64; 4]], s: f64) -> Found
-    ensures { found_in result ≡ xy_at row.now s }
+pub fn xy(row: &[[f64; 4]], s: f64) -> Option<Point>
+    ensures { result ≡ xy_at row.now s }
 {
     look_up(row, s, 0)
 }
 
-pub fn dir(row: &[[f64; 4]], s: f64) -> Found
-    ensures { found_in result ≡ dir_at row.now s }
+pub fn dir(row: &[[f64; 4]], s: f64) -> Option<Point>
+    ensures { result ≡ dir_at row.now s }
 {
     look_up(row, s, 2)
 }

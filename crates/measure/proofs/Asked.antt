@@ -8,14 +8,14 @@ use lib.ListN.{get_or}
 use lib.Ieee.{Float, nan, binary64, add}
 use Rattle.float.specs.Numbers.{nought}
 use Rattle.geometry.specs.declared.Quad.{Quad}
-use Rattle.arclen.specs.Rk4.{Tried, at, refused, Rates, half_of, moved, rk4}
+use Rattle.std.specs.Prelude.{Option, Some, None}
+use Rattle.arclen.specs.Rk4.{Rates, half_of, moved, rk4}
 use Rattle.arclen.specs.Arclen.{tenth}
 use Rattle.lookup.specs.Lookup.{fell}
 use Rattle.measure.specs.Measure.{along_samples, apply_of, walked_by, measure_functor_of}
 use Rattle.measure.specs.Fallen.{asking, asked_in, asked_all, fallen_at, fallen_among, unless_last, fallen_by, fallen_of}
 use Rattle.measure.specs.declared.MeasureFunctor.{MeasureFunctor}
-use Rattle.measure.specs.declared.Measured.{Measured}
-use Rattle.measure.specs.declared.Measured.TheVariants.{At, Missing}
+use Rattle.measure.specs.declared.Measure.{Measure}
 
 module _ (row : List (List Float)) (m : MeasureFunctor) where
   pub among_both : (a b : List (List Float)) → fallen_among row m (a ++ b) ≡ fallen_among row m a + fallen_among row m b
@@ -33,10 +33,10 @@ module _ (row : List (List Float)) (m : MeasureFunctor) where
       go true = omega arith
       go false = omega arith
 
-  then_most : (r : Tried) (g : List Float → List (List Float)) (b : ℕ) → ((k : List Float) → fallen_among row m (g k) ≤ b) → fallen_among row m (asking r g) ≤ b
+  then_most : (r : Option (List Float)) (g : List Float → List (List Float)) (b : ℕ) → ((k : List Float) → fallen_among row m (g k) ≤ b) → fallen_among row m (asking r g) ≤ b
   unfolding fallen_among
-  then_most (at k) g b h = h k
-  then_most refused g b h = omega arith
+  then_most (Some k) g b h = h k
+  then_most None g b h = omega arith
 
   one_more : (y : List Float) (ys : List (List Float)) (b : ℕ) → fallen_among row m ys ≤ b → fallen_among row m (y ∷ ys) ≤ b + 2
   unfolding fallen_among
@@ -71,9 +71,9 @@ module _ (row : List (List Float)) (m : MeasureFunctor) where
       most : fallen_among row m (asked_all (apply_of row m) tenth 10 nought (nought ∷ nought ∷ [])) ≤ 80
       most = all_most (apply_of row m) tenth 10 nought (nought ∷ nought ∷ [])
 
-      go : (x : Measured) → unless_last x (fallen_among row m (asked_all (apply_of row m) tenth 10 nought (nought ∷ nought ∷ []))) ≤ 80
-      go (At r) = most
-      go Missing = omega arith
+      go : (x : Option Measure) → unless_last x (fallen_among row m (asked_all (apply_of row m) tenth 10 nought (nought ∷ nought ∷ []))) ≤ 80
+      go (Some r) = most
+      go None = omega arith
 
 pub fallen_most : (row : List (List Float)) (s0 s1 : Float) (q : Quad) → fallen_of row s0 s1 q ≤ 80
 unfolding fallen_of

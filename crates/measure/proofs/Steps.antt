@@ -7,32 +7,31 @@ use lib.Ieee.{Float, binary64, add}
 use Rattle.float.specs.Numbers.{nought}
 use Rattle.geometry.specs.Geometry.{point_at_t}
 use Rattle.geometry.specs.declared.Point.{Point}
-use Rattle.arclen.specs.Rk4.{at, refused, Rates, half_of, moved, grown_all, rk4, walk}
+use Rattle.std.specs.Prelude.{Some, None}
+use Rattle.arclen.specs.Rk4.{Rates, half_of, moved, grown_all, rk4, walk}
 use Rattle.arclen.specs.Arclen.{tenth, deriv_of, speed_of}
 use Rattle.arclen.proofs.Laws.{grows, stops2, stops3, stops4, goes, ends, done}
-use Rattle.lookup.specs.Lookup as Lookup
-use Rattle.lookup.specs.Lookup.{found, xy_at, dir_at}
+use Rattle.lookup.specs.Lookup.{xy_at, dir_at}
 use Rattle.measure.specs.Measure.{error_of, along_samples, apply_of, walked_by}
 use Rattle.measure.specs.Fallen.{asked_in, asked_all, fallen_among, fallen_by}
 use Rattle.measure.specs.Two.{list_of, both_moved, both_grown, Rate, Step}
 use Rattle.measure.specs.declared.MeasureFunctor.{MeasureFunctor}
-use Rattle.measure.specs.declared.Measured.TheVariants.{At, Missing}
 use Rattle.measure.specs.declared.Pair.{Pair}
 use Rattle.measure.proofs.Asked.{among_both}
 
 -- the rates, by their lookups
 module _ (row : List (List Float)) (m : MeasureFunctor) (t : Float) (y : Pair) where
-  pub no_place : Lookup.refused ≡ xy_at row (along_samples m y.length) → apply_of row m t (list_of y) ≡ refused
+  pub no_place : None ≡ xy_at row (along_samples m y.length) → apply_of row m t (list_of y) ≡ None
   unfolding apply_of
   no_place p = rw (← p)
 
-  pub no_direction : {xy : Point} → found xy ≡ xy_at row (along_samples m y.length) → Lookup.refused ≡ dir_at row (along_samples m y.length) →
-      apply_of row m t (list_of y) ≡ refused
+  pub no_direction : {xy : Point} → Some xy ≡ xy_at row (along_samples m y.length) → None ≡ dir_at row (along_samples m y.length) →
+      apply_of row m t (list_of y) ≡ None
   unfolding apply_of
   no_direction p d = rw (← p, ← d)
 
-  pub both_found : {xy dir : Point} → found xy ≡ xy_at row (along_samples m y.length) → found dir ≡ dir_at row (along_samples m y.length) →
-      apply_of row m t (list_of y) ≡ at (speed_of m.af t ∷ error_of (speed_of m.af t) (deriv_of m.af t) (point_at_t m.q t) xy dir ∷ [])
+  pub both_found : {xy dir : Point} → Some xy ≡ xy_at row (along_samples m y.length) → Some dir ≡ dir_at row (along_samples m y.length) →
+      apply_of row m t (list_of y) ≡ Some (speed_of m.af t ∷ error_of (speed_of m.af t) (deriv_of m.af t) (point_at_t m.q t) xy dir ∷ [])
   unfolding apply_of
   both_found p d = rw (← p, ← d)
 
@@ -42,17 +41,17 @@ module _ (row : List (List Float)) (m : MeasureFunctor) (h t : Float) (y : Pair)
   middle = add binary64 t (half_of h)
 
   module _ {a : Pair} {i : ℕ} (p : Rate row m t y a i) where
-    pub refused_second : apply_of row m middle (list_of (both_moved (half_of h) y a)) ≡ refused → rk4 (apply_of row m) h t (list_of y) ≡ refused
+    pub refused_second : apply_of row m middle (list_of (both_moved (half_of h) y a)) ≡ None → rk4 (apply_of row m) h t (list_of y) ≡ None
     unfolding moved
     refused_second q = stops2 (apply_of row m) h t (list_of y) p.is q
 
     module _ {b : Pair} {j : ℕ} (q : Rate row m middle (both_moved (half_of h) y a) b j) where
-      pub refused_third : apply_of row m middle (list_of (both_moved (half_of h) y b)) ≡ refused → rk4 (apply_of row m) h t (list_of y) ≡ refused
+      pub refused_third : apply_of row m middle (list_of (both_moved (half_of h) y b)) ≡ None → rk4 (apply_of row m) h t (list_of y) ≡ None
       unfolding moved
       refused_third r = stops3 (apply_of row m) h t (list_of y) p.is q.is r
 
       module _ {c : Pair} {k : ℕ} (r : Rate row m middle (both_moved (half_of h) y b) c k) where
-        pub refused_fourth : apply_of row m (add binary64 t h) (list_of (both_moved h y c)) ≡ refused → rk4 (apply_of row m) h t (list_of y) ≡ refused
+        pub refused_fourth : apply_of row m (add binary64 t h) (list_of (both_moved h y c)) ≡ None → rk4 (apply_of row m) h t (list_of y) ≡ None
         unfolding moved
         refused_fourth s = stops4 (apply_of row m) h t (list_of y) p.is q.is r.is s
 
@@ -70,7 +69,7 @@ module _ (row : List (List Float)) (m : MeasureFunctor) where
   abbrev f : Rates
   f = apply_of row m
 
-  asks : {z : List Float} (t : Float) (y : List Float) (i : ℕ) → i < 10 → rk4 f tenth t y ≡ at z →
+  asks : {z : List Float} (t : Float) (y : List Float) (i : ℕ) → i < 10 → rk4 f tenth t y ≡ Some z →
       fallen_among row m (asked_all f tenth (10 - i) t y) ≡
       fallen_among row m (asked_in f tenth t y) + fallen_among row m (asked_all f tenth (10 - (i + 1)) (add binary64 t tenth) z)
   unfolding asked_all
@@ -98,11 +97,11 @@ module _ (row : List (List Float)) (m : MeasureFunctor) where
           count = omega (arith, w.count, s.count, more);
         }
 
-    pub stops_here_lem : i < 10 → rk4 f tenth t (list_of y) ≡ refused → walked_by row m ≡ Missing
+    pub stops_here_lem : i < 10 → rk4 f tenth t (list_of y) ≡ None → walked_by row m ≡ None
     unfolding walked_by
     stops_here_lem less p = rw (w.is, ends f tenth t (list_of y) 10 i less p) refl
 
-    pub arrives : 10 ≤ i → (walked_by row m ≡ At (record { error = y.error })) × (n ≡ fallen_by row m)
+    pub arrives : 10 ≤ i → (walked_by row m ≡ Some (record { error = y.error })) × (n ≡ fallen_by row m)
     unfolding walked_by fallen_by asked_all fallen_among
     arrives over =
         let whole = w.is ∙ done f tenth t (list_of y) 10 i over in

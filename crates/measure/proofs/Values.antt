@@ -14,7 +14,7 @@ use Rattle.arclen.specs.Rk4.{moved, grown_all, rk4, walk}
 use Rattle.arclen.specs.Arclen.{arclen_functor_of, deriv_of, speed_of, arclen_of}
 use Rattle.lookup.specs.Lookup.{looked_up}
 use Rattle.measure.specs.Measure.{error_of, apply_of, stretch_of, walked_by, measure_of}
-use Rattle.measure.specs.declared.Measured.TheVariants.{At, Missing}
+use Rattle.std.specs.Prelude.{Some, None}
 
 -- n / d, rounded
 abbrev num : ℕ → ℕ → Float
@@ -31,6 +31,6 @@ abbrev arch : Quad
 arch = record { p0 = whole 0 0; p1 = whole 2 1; p2 = whole 4 0 }
 
 -- against all six 1.5588225325488967; against the first four the work meets the last stored place
-errors : measure_of samples nought four arch ∷ measure_of (take 4 samples) nought four arch ∷ [] ≡ At (record { error = of_bits binary64 0x3ff8_f0ef_e559_0be8 }) ∷ Missing ∷ []
+errors : measure_of samples nought four arch ∷ measure_of (take 4 samples) nought four arch ∷ [] ≡ Some (record { error = of_bits binary64 0x3ff8_f0ef_e559_0be8 }) ∷ None ∷ []
 unfolding close_to tiny abs_of whole_by moved grown_all rk4 walk arclen_functor_of deriv_of speed_of arclen_of looked_up error_of apply_of stretch_of walked_by measure_of root_of root_units root_near root_down Ieee.of_bits Ieee.round Ieee.size Ieee.add Ieee.sub Ieee.mul Ieee.div Ieee.lt Ieee.to_unsigned
 errors = refl

@@ -1,25 +1,23 @@
 -- How many lookups of a measure fell off the samples: RK4 asks for rates at four values a step, and each time the measure looks up a place and
 -- a direction. Definitions only.
-use Rattle.std.specs.Prelude.{ℕ, zero, suc, ◌+◌, cond, ◌≡◌, List, [], ◌∷◌, ◌++◌, get_or, Float}
+use Rattle.std.specs.Prelude.{ℕ, zero, suc, ◌+◌, cond, ◌≡◌, List, [], ◌∷◌, ◌++◌, get_or, Float, Option, Some, None}
 use Rattle.std.specs.Float.{nan, binary64}
 use Rattle.std.specs.Float.Ieee.{add}
 use Rattle.float.specs.Numbers.{nought}
 use Rattle.geometry.specs.declared.Quad.{Quad}
-use Rattle.arclen.specs.Rk4.{Tried, at, refused, Rates, half_of, moved, rk4}
+use Rattle.arclen.specs.Rk4.{Rates, half_of, moved, rk4}
 use Rattle.arclen.specs.Arclen.{tenth}
 use Rattle.lookup.specs.Lookup.{fell}
 use Rattle.measure.specs.Measure.{along_samples, apply_of, walked_by, measure_functor_of}
 use Rattle.measure.specs.declared.MeasureFunctor.{MeasureFunctor}
-use Rattle.measure.specs.declared.Measured.{Measured}
-use Rattle.measure.specs.declared.Measured.TheVariants.{At, Missing}
+use Rattle.measure.specs.declared.Measure.{Measure}
 use Rattle.measure.specs.declared.Counted.{Counted}
-use Rattle.measure.specs.declared.Counted.TheVariants as Counting
 
 -- ---- the values at which rates are asked for, as `rk4` and `walk` ask: a refused rate ends it
 
-abbrev pub asking : Tried → (List Float → List (List Float)) → List (List Float)
-asking (at k) f = f k
-asking refused f = []
+abbrev pub asking : Option (List Float) → (List Float → List (List Float)) → List (List Float)
+asking (Some k) f = f k
+asking None f = []
 
 unfoldable pub asked_in : Rates → Float → Float → List Float → List (List Float)
 asked_in f h t y =
@@ -45,9 +43,9 @@ fallen_among row m [] = 0
 fallen_among row m (y ∷ ys) = fallen_at row m (get_or y 0 nan) + fallen_among row m ys
 
 -- a refused measure has none
-abbrev pub unless_last : Measured → ℕ → ℕ
-unless_last (At m) n = n
-unless_last Missing n = 0
+abbrev pub unless_last : Option Measure → ℕ → ℕ
+unless_last (Some m) n = n
+unless_last None n = 0
 
 unfoldable pub fallen_by : List (List Float) → MeasureFunctor → ℕ
 fallen_by row m = unless_last (walked_by row m) (fallen_among row m (asked_all (apply_of row m) tenth 10 nought (nought ∷ nought ∷ [])))
@@ -58,6 +56,6 @@ fallen_of row s0 s1 q = fallen_by row (measure_functor_of s0 s1 q)
 -- ---- what the functions give
 
 -- what is told of the measure x and the number n
-abbrev pub Counts : Measured → ℕ → Counted → Type 0
-Counts x n (Counting.At m k) = (x ≡ At m) × (k ≡ n)
-Counts x n Counting.Missing = x ≡ Missing
+abbrev pub Counts : Option Measure → ℕ → Option Counted → Type 0
+Counts x n (Some c) = (x ≡ Some c.measure) × (c.fallen ≡ n)
+Counts x n None = x ≡ None

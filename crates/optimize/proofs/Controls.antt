@@ -1,4 +1,5 @@
 -- No answer at the last break has a control with a NaN, where that break has none: `NoNanControl` of specs/Controls. Assumes nothing.
+use Rattle.std.specs.Prelude.{Option, Some, None}
 use Prim.Native.Nat.{ℕ, zero, suc, ◌+◌, ◌-◌, ◌*◌, ◌^◌, ◌<◌}
 use native.Mathlib.Decide.{ℕ_discrete, dec_lt}
 use native.Mathlib.Omega.{arith}
@@ -18,16 +19,16 @@ use Rattle.float.proofs.Zeros.{plus_nan, times_nan}
 use Rattle.geometry.specs.Geometry.{is_line, is_smooth, is_whole, lerp_of, along_of, line_quad, intersect_of, Finite}
 use Rattle.geometry.specs.declared.Point.{Point}
 use Rattle.geometry.specs.declared.Quad.{Quad}
-use Rattle.geometry.specs.declared.Crossing.{Crossing}
 use Rattle.geometry.proofs.Whole.{whole_finite, near_finite}
 use Rattle.quickmeasure.specs.Statements.{has_nan}
-use Rattle.measure.specs.declared.Measured.{Measured}
 use Rattle.quickmeasure.proofs.Spoilt.{spoils}
 use Rattle.breaks.specs.Breaks.{Row, unpacked_of, break_at}
 use Rattle.attempt.specs.Answers.{Leg, Statelet, score_of, leg_of, Best, none, best, is_curve, smooth_after, ok_for_half, joint_of, previous_score, built_on, is_less, replaced_if, may_build, combined_if, combined}
 use Rattle.optimize.specs.Optimize.{Measure, measure_by, best_at, States, measured, try_quad, try_if, bent_quad, bent_at, bent, then_bent, try_line_quad}
 use Rattle.optimize.specs.Controls.{NoNan, starts, goes, NoNanControl}
 use Rattle.optimize.proofs.Walk.{set_each, none_yet, After, stops, holds, answered}
+use Rattle.measure.specs.declared.Measure as M
+use Rattle.std.specs.Prelude.{Option, Some, None}
 
 -- ---- what stands at a break
 data Clean : Best → Type 0 where
@@ -230,9 +231,9 @@ module _ (samples : List (List Float)) (breaks : Row) (penalty : Float) where
     unfolding combined
     number_made st q e k from h to = combined_clean (may_build i (best_at st i)) _ (best_at st j) (best_at st i) (leg q) _ refl (k.clean j to) (k.clean i from) (h to)
 
-    number_kept : (st : List Best) (q : Quad) (w : Measured) → Kept st → has_nan (place_of i) ≡ false → has_nan q.p1 ≡ false → After Kept (measured measure breaks penalty w i j q st)
-    number_kept st q Measured.Missing k from h = stops
-    number_kept st q (Measured.At m) k from h = holds (set_kept st _ k (number_made st q m.error k from (λ to. h)))
+    number_kept : (st : List Best) (q : Quad) (w : Option M.Measure) → Kept st → has_nan (place_of i) ≡ false → has_nan q.p1 ≡ false → After Kept (measured measure breaks penalty w i j q st)
+    number_kept st q None k from h = stops
+    number_kept st q (Some m) k from h = holds (set_kept st _ k (number_made st q m.error k from (λ to. h)))
 
     -- a control with a NaN, where something stands or nothing can be built
     nan_made : (st : List Best) (q : Quad) → Kept st → (has_nan (place_of j) ≡ false → Settled i j st) → CleanAt j (made st q nan)
@@ -244,10 +245,10 @@ module _ (samples : List (List Float)) (breaks : Row) (penalty : Float) where
         by none e = rw (settled to e) nothing
         by (best a) e = rw (keeps_old (may_build i (best_at st i)) a (best_at st i) (leg q)) (subst Clean e (k.clean j to))
 
-    nan_kept : (st : List Best) (q : Quad) (w : Measured) → measure i j q ≡ w → Kept st → (has_nan (place_of j) ≡ false → Settled i j st) → has_nan q.p1 ≡ true →
+    nan_kept : (st : List Best) (q : Quad) (w : Option M.Measure) → measure i j q ≡ w → Kept st → (has_nan (place_of j) ≡ false → Settled i j st) → has_nan q.p1 ≡ true →
         After Kept (measured measure breaks penalty w i j q st)
-    nan_kept st q Measured.Missing e k settled h = stops
-    nan_kept st q (Measured.At m) e k settled h =
+    nan_kept st q None e k settled h = stops
+    nan_kept st q (Some m) e k settled h =
         let spoilt : m.error ≡ nan = spoils samples (break_at breaks i).s (break_at breaks j).s q h m e in
         holds (set_kept st _ k (subst (λ (x : Float). CleanAt j (made st q x)) (sym spoilt) (nan_made st q k settled)))
 
@@ -263,9 +264,9 @@ module _ (samples : List (List Float)) (breaks : Row) (penalty : Float) where
     bent_if st r q at true false e h = number_kept st q (measure i j q) r.kept (subst (λ (p : Point). has_nan p ≡ false) at (from_number (best_at st i) q e)) h
     bent_if st r q at true true e h = nan_kept st q (measure i j q) refl r.kept (r.settled (ap is_whole (sym at) ∙ from_whole (best_at st i) q h e)) h
 
-    bent_kept : (st : List Best) → Ready st → (x : Crossing) → After Kept (bent_at measure breaks penalty x i j st)
-    bent_kept st r Crossing.Nowhere = holds r.kept
-    bent_kept st r (Crossing.At p) = let q = bent_quad measure breaks penalty i j p in bent_if st r q refl (ok_for_half (best_at st i) q) (has_nan q.p1) refl refl
+    bent_kept : (st : List Best) → Ready st → (x : Option Point) → After Kept (bent_at measure breaks penalty x i j st)
+    bent_kept st r None = holds r.kept
+    bent_kept st r (Some p) = let q = bent_quad measure breaks penalty i j p in bent_if st r q refl (ok_for_half (best_at st i) q) (has_nan q.p1) refl refl
 
     then_bent_lem : {s : States} → After Ready s → After Kept (then_bent measure breaks penalty i j s)
     unfolding bent
@@ -279,9 +280,9 @@ module _ (samples : List (List Float)) (breaks : Row) (penalty : Float) where
     may_not zero (best a) e = e
 
     some : (less : Bool) (s : Float) (x : Best) (a : Statelet) → is_less s x ≡ less → replaced_if less x a ≡ none → ⊥
-    some true s x a e h = let z : ◌≡◌ {A = ℕ} 0 1 = cc in omega arith
-    some false s none a e h = let z : ◌≡◌ {A = ℕ} 0 1 = cc in omega arith
-    some false s (best b) a e h = let z : ◌≡◌ {A = ℕ} 0 1 = cc in omega arith
+    some true s x a e h = cc
+    some false s none a e h = cc
+    some false s (best b) a e h = cc
 
     settles : (st : List Best) (p : Leg) (s : Float) → j < length st → (may : Bool) → may_build i (best_at st i) ≡ may →
         Settled i j (set st j (combined_if may (best_at st j) (best_at st i) p s))
@@ -299,9 +300,9 @@ module _ (samples : List (List Float)) (breaks : Row) (penalty : Float) where
     abbrev line : Quad
     line = line_quad (place_of i) (place_of j)
 
-    straight_made : (st : List Best) → Kept st → is_whole (place_of i) ≡ true → (w : Measured) → After Ready (measured measure breaks penalty w i j line st)
-    straight_made st k e Measured.Missing = stops
-    straight_made st k e (Measured.At m) = holds (record {
+    straight_made : (st : List Best) → Kept st → is_whole (place_of i) ≡ true → (w : Option M.Measure) → After Ready (measured measure breaks penalty w i j line st)
+    straight_made st k e None = stops
+    straight_made st k e (Some m) = holds (record {
       kept = set_kept st _ k (number_made st line m.error k (finite_has (place_of i) (whole_finite (place_of i) e)) (line_number (place_of i) (place_of j) e));
       settled = λ h to. straight_settles st line m.error (omega (arith, k.long, in_row j to));
     })

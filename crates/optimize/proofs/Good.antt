@@ -1,5 +1,6 @@
 -- How good the returned answer is: along the attempts, what stands at a break has a score that is at most each score so far, if the first was no NaN.
 -- Assumes nothing.
+use Rattle.std.specs.Prelude.{Option, Some, None}
 use Prim.Native.Nat.{ℕ, ◌<◌}
 use native.Mathlib.Decide.{ℕ_discrete}
 use native.Mathlib.Omega.{arith}
@@ -12,14 +13,15 @@ use lib.ListN.{length, get_or, set, replicate, length-set, length-replicate, get
 use lib.Seq.{get_or-set_same, get_or-set_other}
 use lib.Ieee.{Float, nan, lt, le, is_nan}
 use Rattle.geometry.specs.Geometry.{is_whole, intersect_of}
+use Rattle.geometry.specs.declared.Point.{Point}
 use Rattle.geometry.specs.declared.Quad.{Quad}
-use Rattle.geometry.specs.declared.Crossing.{Crossing}
-use Rattle.measure.specs.declared.Measured.{Measured}
 use Rattle.breaks.specs.Breaks.{Row, break_at}
 use Rattle.attempt.specs.Answers.{Leg, Statelet, score_of, Best, none, best, ok_for_half, may_build, total_of, built_on, is_less, replaced_if, combined_if, combined}
 use Rattle.optimize.specs.Optimize.{Measure, best_at, States, refused, states, xy, measured, try_quad, try_if, straight, bent_quad, bent_at, bent, then_bent, try_line_quad, onward, try_all, splits, search, Optimised, refused8, unchanged, solved, ended, chosen_if, go_on, searched, splitted, tried, last_break, optimize_of}
 use Rattle.optimize.specs.Trace.{Attempt, scored_if, scored, scored_where, straightly, bently_at, bently, bently_after, pair_tried, pair_after, all_tried, next_if, going_on, after_splits, after_first, trace_of, into_if, scores_into, last_scores, AtMost, no_more, and_also, Among, now, later, Least, HowGood}
 use Rattle.optimize.proofs.Compare.{le_self, le_through, lt_le, lt_number, not_lt_le}
+use Rattle.measure.specs.declared.Measure as M
+use Rattle.std.specs.Prelude.{Option, Some, None}
 
 -- ---- what stands at a break, after attempts into it that got these scores
 
@@ -109,11 +111,11 @@ module _ (measure : Measure) (breaks : Row) (penalty : Float) (n b : ℕ) (insid
   away true ss a ne = rw (ne_eqb a.to b ne) (append-nil ss)
   away false ss a ne = append-nil ss
 
-  pub measured_carries : (r : Measured) (bend : Bool) (i j : ℕ) (q : Quad) (st : List Best) {ss : List Float} → length st ≡ n → Good ss (best_at st b) →
+  pub measured_carries : (r : Option M.Measure) (bend : Bool) (i j : ℕ) (q : Quad) (st : List Best) {ss : List Float} → length st ≡ n → Good ss (best_at st b) →
       Carried n b (after ss (scored measure breaks penalty r bend i j q st)) (measured measure breaks penalty r i j q st)
   unfolding combined
-  measured_carries Measured.Missing bend i j q st long g = lost
-  measured_carries (Measured.At m) bend i j q st {ss} long g =
+  measured_carries None bend i j q st long g = lost
+  measured_carries (Some m) bend i j q st {ss} long g =
       kept {st = set st j new} (length-set st j new ∙ long) (by (ℕ_discrete j b))
     where
       a : Attempt
@@ -128,7 +130,7 @@ module _ (measure : Measure) (breaks : Row) (penalty : Float) (n b : ℕ) (insid
       stored : (e : j ≡ b) → best_at (set st j new) b ≡ new
       stored e = subst (λ (k : ℕ). best_at (set st j new) k ≡ new) e (get_or-set_same st j new none (omega (arith, e, long)))
 
-      by : Dec (j ≡ b) → Good (after ss (scored measure breaks penalty (Measured.At m) bend i j q st)) (best_at (set st j new) b)
+      by : Dec (j ≡ b) → Good (after ss (scored measure breaks penalty (Some m) bend i j q st)) (best_at (set st j new) b)
       by (yes e) = rw (stored e) (here (may_build i (best_at st i)) (best_at st i) p a e (subst (λ (k : ℕ). Good ss (best_at st k)) (sym e) g))
       by (no e) = rw (away (may_build i (best_at st i)) ss a e, get_or-set_other st j b new none (λ h. e (sym h))) g
 
@@ -140,10 +142,10 @@ module _ (measure : Measure) (breaks : Row) (penalty : Float) (n b : ℕ) (insid
 
   -- ---- one pair
 
-  bent_carries : (x : Crossing) (i j : ℕ) (st : List Best) {ss : List Float} → length st ≡ n → Good ss (best_at st b) →
+  bent_carries : (x : Option Point) (i j : ℕ) (st : List Best) {ss : List Float} → length st ≡ n → Good ss (best_at st b) →
       Carried n b (after ss (bently_at measure breaks penalty x i j st)) (bent_at measure breaks penalty x i j st)
-  bent_carries Crossing.Nowhere i j st {ss} long g = rw (after_none ss) (kept {st = st} long g)
-  bent_carries (Crossing.At p) i j st long g = let q = bent_quad measure breaks penalty i j p in try_carries (ok_for_half (best_at st i) q) true i j q st long g
+  bent_carries None i j st {ss} long g = rw (after_none ss) (kept {st = st} long g)
+  bent_carries (Some p) i j st long g = let q = bent_quad measure breaks penalty i j p in try_carries (ok_for_half (best_at st i) q) true i j q st long g
 
   then_carries : (i j : ℕ) (s : States) {ss : List Float} → Carried n b ss s →
       Carried n b (after ss (bently_after measure breaks penalty i j s)) (then_bent measure breaks penalty i j s)

@@ -1,4 +1,5 @@
 -- Pairs that change nothing, and are passed over. Assumes nothing.
+use Rattle.std.specs.Prelude.{Option, Some, None}
 use Prim.Native.Nat.{ℕ, ◌-◌, ◌≤◌, ◌<◌}
 use native.Mathlib.Nat.{zero-add}
 use native.Mathlib.Omega.{arith}
@@ -10,7 +11,6 @@ use lib.ListN.{get_or}
 use lib.Seq.{set-get_or}
 use lib.Ieee.{Float, lt}
 use Rattle.geometry.specs.Geometry.{is_whole, line_quad, intersect_of}
-use Rattle.geometry.specs.declared.Crossing.{Crossing}
 use Rattle.geometry.specs.declared.Point.{Point}
 use Rattle.geometry.specs.declared.Quad.{Quad}
 use Rattle.breaks.specs.Breaks.{Row, break_at}
@@ -45,9 +45,9 @@ module _ (measure : Measure) (fallen : Fallen) (breaks : Row) (penalty : Float) 
     unfolding bent fell_bent
     bent_left = go (intersect_of (break_at breaks i).xy (break_at breaks i).dir (break_at breaks j).xy (break_at breaks j).dir)
       where
-        go : (c : Crossing) → (bent_at measure breaks penalty c i j st ≡ states st) × (fell_bent_at measure fallen breaks penalty c i j st ≡ 0)
-        go Crossing.Nowhere = (refl, refl)
-        go (Crossing.At p) = left_if (ok_for_half (best_at st i) (curve p)) (curve p) (bends p)
+        go : (c : Option Point) → (bent_at measure breaks penalty c i j st ≡ states st) × (fell_bent_at measure fallen breaks penalty c i j st ≡ 0)
+        go None = (refl, refl)
+        go (Some p) = left_if (ok_for_half (best_at st i) (curve p)) (curve p) (bends p)
 
     pair_left : (try_line_quad measure breaks penalty i j st ≡ states st) × (fell_pair measure fallen breaks penalty i j st ≡ 0)
     unfolding try_line_quad fell_pair

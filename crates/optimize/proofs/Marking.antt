@@ -1,5 +1,6 @@
 -- Why a search that starts from a mark ends as it would without: a mark's score is above that of a piece that the search tries, and so is the score of
 -- what stood before. Assumes nothing.
+use Rattle.std.specs.Prelude.{Option, Some, None}
 use Prim.Native.Nat.{ℕ, zero, suc, ◌≤◌, ◌<◌}
 use native.Mathlib.Nat.{eq-or-lt_of_le}
 use native.Mathlib.Omega.{arith}
@@ -11,15 +12,13 @@ use lib.ListN.{length, get_or, set, length-set}
 use lib.Seq.{get_or-set_same, get_or-set_other, set-get_or, set-set}
 use lib.Ieee.{Float, lt}
 use Rattle.geometry.specs.Geometry.{is_whole, line_quad, intersect_of}
-use Rattle.geometry.specs.declared.Crossing.{Crossing}
 use Rattle.geometry.specs.declared.Quad.{Quad}
+use Rattle.geometry.specs.declared.Point.{Point}
 use Rattle.measure.specs.declared.Measure as M
-use Rattle.measure.specs.declared.Measured.{Measured}
 use Rattle.breaks.specs.Breaks.{Row, break_at}
 use Rattle.attempt.specs.Answers.{Leg, Statelet, score_of, Best, none, best, ok_for_half, previous_score, may_build, total_of, built_on, is_less, replaced_if, combined_if, combined}
 use Rattle.attempt.specs.Value.{best_of, combine_of}
 use Rattle.attempt.specs.declared.answer.Answer as A
-use Rattle.optimize.specs.declared.Bend.TheVariants as Bending
 use Rattle.optimize.specs.Optimize.{Measure, measure_by, best_at, States, refused, states, measured, try_quad, try_if, straight, bent_quad, bent_at, bent, then_bent, try_line_quad, onward, try_all, falling}
 use Rattle.optimize.specs.Fallen.{Fallen, fallen_between, fell_bent_at, fell_bent, fell_then_bent, fell_pair, fell_onward, fell_all}
 use Rattle.optimize.specs.Stored.{slot_at, loaded, standing_at, row_of, Stands, lacks, has, Phase, Room, Into, Rep, Becomes}
@@ -29,6 +28,7 @@ use Rattle.optimize.specs.Marks.{bend_of, Offers, by_line, by_bend, Marked}
 use Rattle.optimize.proofs.Compare.{lt_number, lt_lt, lt_beyond, lt_self}
 use Rattle.optimize.proofs.Attempt.{stands_total, attempted}
 use Rattle.optimize.proofs.Trying.{quad_made, bend_ends, bent_is, from_whole, from_upto}
+use Rattle.std.specs.Prelude.{Option, Some, None}
 
 -- ---- what two states have in common along the pairs into a break
 
@@ -52,9 +52,9 @@ module _ (measure : Measure) (breaks : Row) (penalty : Float) (j : ℕ) where
       unfolding try_quad
       quad_both q {a} {b} r = by (measure i j q)
         where
-          by : (x : Measured) → Both R (measured measure breaks penalty x i j q a) (measured measure breaks penalty x i j q b)
-          by Measured.Missing = stop
-          by (Measured.At m) = on (lasts.takes i q m.error below r)
+          by : (x : Option M.Measure) → Both R (measured measure breaks penalty x i j q a) (measured measure breaks penalty x i j q b)
+          by None = stop
+          by (Some m) = on (lasts.takes i q m.error below r)
 
       if_both : (t : Bool) (q : Quad) {a b : List Best} → R a b → Both R (try_if measure breaks penalty t i j q a) (try_if measure breaks penalty t i j q b)
       if_both true q r = quad_both q r
@@ -67,9 +67,9 @@ module _ (measure : Measure) (breaks : Row) (penalty : Float) (j : ℕ) where
       unfolding bent
       bent_both {a} {b} r = by (intersect_of (break_at breaks i).xy (break_at breaks i).dir (break_at breaks j).xy (break_at breaks j).dir)
         where
-          by : (c : Crossing) → Both R (bent_at measure breaks penalty c i j a) (bent_at measure breaks penalty c i j b)
-          by Crossing.Nowhere = on r
-          by (Crossing.At p) =
+          by : (c : Option Point) → Both R (bent_at measure breaks penalty c i j a) (bent_at measure breaks penalty c i j b)
+          by None = on r
+          by (Some p) =
               let q = bent_quad measure breaks penalty i j p in
               subst (λ (u : Best). Both R (try_if measure breaks penalty (ok_for_half u q) i j q a) (try_if measure breaks penalty (ok_for_half (best_at b i) q) i j q b)) (sym (lasts.sees i below r))
               (if_both (ok_for_half (best_at b i) q) q r)
@@ -97,9 +97,9 @@ module _ (measure : Measure) (breaks : Row) (penalty : Float) (j : ℕ) where
       unfolding fell_bent
       fell_bent_lem i below {a} {b} r = by (intersect_of (break_at breaks i).xy (break_at breaks i).dir (break_at breaks j).xy (break_at breaks j).dir)
         where
-          by : (c : Crossing) → fell_bent_at measure fallen breaks penalty c i j a ≡ fell_bent_at measure fallen breaks penalty c i j b
-          by Crossing.Nowhere = refl
-          by (Crossing.At p) = rw (lasts.sees i below r) refl
+          by : (c : Option Point) → fell_bent_at measure fallen breaks penalty c i j a ≡ fell_bent_at measure fallen breaks penalty c i j b
+          by None = refl
+          by (Some p) = rw (lasts.sees i below r) refl
 
       fell_then : (i : ℕ) → i < j → {s t : States} → Both R s t → fell_then_bent measure fallen breaks penalty i j s ≡ fell_then_bent measure fallen breaks penalty i j t
       fell_then i below stop = refl
@@ -281,7 +281,7 @@ module _ (measure : Measure) (breaks : Row) (penalty : Float) (j : ℕ) where
   self (states a) l = on (refl, l)
 
   module _ (fallen : Fallen) (st : List Best) (i : ℕ) (q : Quad) (m : M.Measure) (below : i < j) (inside : j < length st) (offers : Offers breaks (best_at st i) i j q)
-      (is : measure i j q ≡ Measured.At m) (may : may_build i (best_at st i) ≡ true) where
+      (is : measure i j q ≡ Some m) (may : may_build i (best_at st i) ≡ true) where
     abbrev cap : Float
     cap = total_of (best_at st i) q m.error penalty
 
@@ -296,7 +296,7 @@ module _ (measure : Measure) (breaks : Row) (penalty : Float) (j : ℕ) where
     then_low refused l = tt
     then_low (states a) l = each (bent_both (low_lasts cap) i below (refl, l))
 
-    bend_low : Bending.At q ≡ bend_of breaks (best_at st i) i j → (s : States) → Each (Still i (best_at st i)) s → Each (LowAt cap) (then_bent measure breaks penalty i j s)
+    bend_low : (Some q) ≡ bend_of breaks (best_at st i) i j → (s : States) → Each (Still i (best_at st i)) s → Each (LowAt cap) (then_bent measure breaks penalty i j s)
     bend_low e refused x = tt
     bend_low e (states a) x =
         rw (bent_is measure fallen breaks penalty i j a (e ∙ ap (λ (u : Best). bend_of breaks u i j) (sym x.there))) (quad_low a x)
@@ -357,7 +357,7 @@ module _ (measure : Measure) (breaks : Row) (penalty : Float) (j : ℕ) where
 
   -- an answer with the piece q and a score that is higher, written if that is less than what stands
   module _ (fallen : Fallen) (st : List Best) (i : ℕ) (q : Quad) (m : M.Measure) (below : i < j) (inside : j < length st) (offers : Offers breaks (best_at st i) i j q)
-      (is : measure i j q ≡ Measured.At m) (more : Float) (higher : lt (total_of (best_at st i) q m.error penalty) (total_of (best_at st i) q more penalty) ≡ true)
+      (is : measure i j q ≡ Some m) (more : Float) (higher : lt (total_of (best_at st i) q m.error penalty) (total_of (best_at st i) q more penalty) ≡ true)
       (x : Statelet) (was : best_at st j ≡ best x) where
     abbrev ending : List Best → States × ℕ
     ending a = (try_all measure breaks penalty (falling j j) (states a), fell_all measure fallen breaks penalty (falling j j) (states a))
@@ -421,7 +421,7 @@ offers_ends {bs} {u} {i} {j} (by_bend e) = bend_ends bs u i j e
 
 module _ {f : Phase} {n : ℕ} {bs : Row} {rs : List (List Float)} {ls : List ℕ} {st : List Best} {i j k : ℕ} (room : Room n bs rs ls) (into : Into f n i j k) (rep : Rep f n bs rs ls st) where
   -- a mark that is written
-  pub marked : (samples : List (List Float)) (q : Quad) (m : M.Measure) (more penalty : Float) (x : A.Answer) → Offers bs (best_at st i) i j q → measure_by samples bs i j q ≡ Measured.At m →
+  pub marked : (samples : List (List Float)) (q : Quad) (m : M.Measure) (more penalty : Float) (x : A.Answer) → Offers bs (best_at st i) i j q → measure_by samples bs i j q ≡ Some m →
       (get_or ls (slot_at ls j) 0 ≡ 0 → ⊥) →
       lt (total_of (best_of (standing_at bs rs ls i)) q m.error penalty) (total_of (best_of (standing_at bs rs ls i)) q more penalty) ≡ true →
       x ≡ combine_of (loaded bs rs ls (slot_at ls j)) (standing_at bs rs ls i) more q penalty → Marked samples bs penalty f n (set rs k (row_of x)) (set ls k x.link) j st

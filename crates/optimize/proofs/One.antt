@@ -1,4 +1,5 @@
 -- A run with one break. Assumes nothing.
+use Rattle.std.specs.Prelude.{Option, Some, None}
 use Prim.Native.Nat.{ℕ, ◌+◌, ◌-◌, ◌≤◌, ◌<◌}
 use native.Mathlib.Omega.{arith}
 use mathlib.Core.Bool.{true, false, false≢true, true≢false}
@@ -12,7 +13,6 @@ use Rattle.float.proofs.Zeros.{plus_nan}
 use Rattle.float.proofs.Less.{less_nan}
 use Rattle.geometry.specs.Geometry.{is_whole, round_point_of, intersect_of}
 use Rattle.geometry.specs.declared.Break.{Break}
-use Rattle.geometry.specs.declared.Crossing.{Crossing}
 use Rattle.geometry.specs.declared.Point.{Point}
 use Rattle.geometry.specs.declared.Quad.{Quad}
 use Rattle.measure.specs.Measure.{measure_of}
@@ -21,7 +21,6 @@ use Rattle.measure.specs.declared.Counted.{Counted}
 use Rattle.quickmeasure.proofs.Still.{still}
 use Rattle.measure.proofs.Asked.{fallen_most}
 use Rattle.measure.specs.declared.Measure as M
-use Rattle.measure.specs.declared.Measured.{Measured}
 use Rattle.breaks.specs.Breaks.{Row, break_at}
 use Rattle.attempt.specs.declared.answer.Answer as A
 use Rattle.optimize.specs.declared.Trial.{Trial}
@@ -33,6 +32,7 @@ use Rattle.optimize.specs.Stored.{row_of, Holds, Anywhere, in_place, Spoilt, mea
 use Rattle.optimize.proofs.Held.{new_start}
 use Rattle.optimize.proofs.Solving.{optimized_by, fell_by_lem}
 use Rattle.optimize.proofs.Trying.{quad_refused, quad_made, no_bend, from_whole, from_half, fell_whole, fell_half}
+use Rattle.std.specs.Prelude.{Option, Some, None}
 
 -- an answer whose score is a NaN stays
 nan_stays : (a : Statelet) (p : Leg) (e penalty : Float) → score_of a ≡ nan → combined (best a) (best a) p e penalty ≡ best a
@@ -48,25 +48,25 @@ module _ (samples : List (List Float)) (bs : Row) (penalty : Float) (one : lengt
   abbrev fallen : Fallen
   fallen = fallen_between samples bs
 
-  abbrev crossing : Crossing
+  abbrev crossing : Option Point
   crossing = intersect_of (break_at bs 0).xy (break_at bs 0).dir (break_at bs 0).xy (break_at bs 0).dir
 
   last : length bs - 1 ≡ 0
   last = omega arith
 
   -- off whole units nothing is tried
-  off : (c : Crossing) → is_whole (break_at bs 0).xy ≡ false → bent_at measure bs penalty c 0 0 (none ∷ []) ≡ states (none ∷ [])
-  off Crossing.Nowhere e = refl
-  off (Crossing.At p) e = rw (no_bend none (bent_quad measure bs penalty 0 0 p) e refl) refl
+  off : (c : Option Point) → is_whole (break_at bs 0).xy ≡ false → bent_at measure bs penalty c 0 0 (none ∷ []) ≡ states (none ∷ [])
+  off None e = refl
+  off (Some p) e = rw (no_bend none (bent_quad measure bs penalty 0 0 p) e refl) refl
 
   bent_off : is_whole (break_at bs 0).xy ≡ false → bent measure bs penalty 0 0 (none ∷ []) ≡ states (none ∷ [])
   unfolding bent
   bent_off e = off crossing e
 
   -- nor does a lookup fall
-  off_fell : (c : Crossing) → is_whole (break_at bs 0).xy ≡ false → fell_bent_at measure fallen bs penalty c 0 0 (none ∷ []) ≡ 0
-  off_fell Crossing.Nowhere e = refl
-  off_fell (Crossing.At p) e = rw (no_bend none (bent_quad measure bs penalty 0 0 p) e refl) refl
+  off_fell : (c : Option Point) → is_whole (break_at bs 0).xy ≡ false → fell_bent_at measure fallen bs penalty c 0 0 (none ∷ []) ≡ 0
+  off_fell None e = refl
+  off_fell (Some p) e = rw (no_bend none (bent_quad measure bs penalty 0 0 p) e refl) refl
 
   bent_off_fell : is_whole (break_at bs 0).xy ≡ false → fell_bent measure fallen bs penalty 0 0 (none ∷ []) ≡ 0
   unfolding fell_bent
@@ -84,12 +84,12 @@ module _ (samples : List (List Float)) (bs : Row) (penalty : Float) (one : lengt
     abbrev line : Quad
     line = in_place (break_at bs 0).xy
 
-    pub one_refused : measure_of samples (break_at bs 0).s (break_at bs 0).s line ≡ Measured.Missing → optimize_of measure bs penalty ≡ refused8
+    pub one_refused : measure_of samples (break_at bs 0).s (break_at bs 0).s line ≡ None → optimize_of measure bs penalty ≡ refused8
     one_refused e =
         optimized_by measure penalty bs 0 refused one
         (from_whole measure bs penalty 0 0 (none ∷ []) whole ∙ ap (then_bent measure bs penalty 0 0) (quad_refused measure bs penalty 0 0 line (none ∷ []) e))
 
-    module _ (m : M.Measure) (made : measure_of samples (break_at bs 0).s (break_at bs 0).s line ≡ Measured.At m) (still : m.error ≡ nan) where
+    module _ (m : M.Measure) (made : measure_of samples (break_at bs 0).s (break_at bs 0).s line ≡ Some m) (still : m.error ≡ nan) where
       abbrev answer : Statelet
       answer = first (record { from = 0; to = 0; quad = line }) (total_of none line m.error penalty)
 
@@ -101,25 +101,25 @@ module _ (samples : List (List Float)) (bs : Row) (penalty : Float) (one : lengt
       stored = quad_made measure bs penalty 0 0 line (none ∷ []) m made
 
       -- the bent piece changes nothing, where its measure is not refused
-      tried_bent : (q : Quad) (w : Measured) → measure_of samples (break_at bs 0).s (break_at bs 0).s q ≡ w → (measured_ok w (fallen 0 0 q)).ok ≡ true →
+      tried_bent : (q : Quad) (w : Option M.Measure) → measure_of samples (break_at bs 0).s (break_at bs 0).s q ≡ w → (measured_ok w (fallen 0 0 q)).ok ≡ true →
           try_quad measure bs penalty 0 0 q (best answer ∷ []) ≡ states (best answer ∷ [])
-      tried_bent q (Measured.At x) e ok =
+      tried_bent q (Some x) e ok =
           quad_made measure bs penalty 0 0 q (best answer ∷ []) x e
           ∙ ap (λ (t : Best). states (t ∷ [])) (nan_stays answer (record { from = 0; to = 0; quad = q }) x.error penalty score_nan)
-      tried_bent q Measured.Missing e ok = absurd (false≢true ok)
+      tried_bent q None e ok = absurd (false≢true ok)
 
-      refused_bent : (q : Quad) (w : Measured) → measure_of samples (break_at bs 0).s (break_at bs 0).s q ≡ w → (measured_ok w (fallen 0 0 q)).ok ≡ false →
+      refused_bent : (q : Quad) (w : Option M.Measure) → measure_of samples (break_at bs 0).s (break_at bs 0).s q ≡ w → (measured_ok w (fallen 0 0 q)).ok ≡ false →
           try_quad measure bs penalty 0 0 q (best answer ∷ []) ≡ refused
-      refused_bent q (Measured.At x) e bad = absurd (true≢false bad)
-      refused_bent q Measured.Missing e bad = quad_refused measure bs penalty 0 0 q (best answer ∷ []) e
+      refused_bent q (Some x) e bad = absurd (true≢false bad)
+      refused_bent q None e bad = quad_refused measure bs penalty 0 0 q (best answer ∷ []) e
 
-      bends : (c : Crossing) → (bend_ok samples (break_at bs 0) c).ok ≡ true → bent_at measure bs penalty c 0 0 (best answer ∷ []) ≡ states (best answer ∷ [])
-      bends Crossing.Nowhere ok = refl
-      bends (Crossing.At p) ok = rw whole (tried_bent (bent_quad measure bs penalty 0 0 p) _ refl ok)
+      bends : (c : Option Point) → (bend_ok samples (break_at bs 0) c).ok ≡ true → bent_at measure bs penalty c 0 0 (best answer ∷ []) ≡ states (best answer ∷ [])
+      bends None ok = refl
+      bends (Some p) ok = rw whole (tried_bent (bent_quad measure bs penalty 0 0 p) _ refl ok)
 
-      bends_not : (c : Crossing) → (bend_ok samples (break_at bs 0) c).ok ≡ false → bent_at measure bs penalty c 0 0 (best answer ∷ []) ≡ refused
-      bends_not Crossing.Nowhere bad = absurd (true≢false bad)
-      bends_not (Crossing.At p) bad = rw whole (refused_bent (bent_quad measure bs penalty 0 0 p) _ refl bad)
+      bends_not : (c : Option Point) → (bend_ok samples (break_at bs 0) c).ok ≡ false → bent_at measure bs penalty c 0 0 (best answer ∷ []) ≡ refused
+      bends_not None bad = absurd (true≢false bad)
+      bends_not (Some p) bad = rw whole (refused_bent (bent_quad measure bs penalty 0 0 p) _ refl bad)
 
       both : {s : States} → bent measure bs penalty 0 0 (best answer ∷ []) ≡ s → try_line_quad measure bs penalty 0 0 (none ∷ []) ≡ s
       both e = from_whole measure bs penalty 0 0 (none ∷ []) whole ∙ ap (then_bent measure bs penalty 0 0) stored ∙ e
@@ -131,13 +131,13 @@ module _ (samples : List (List Float)) (bs : Row) (penalty : Float) (one : lengt
           ∙ rw (last, ap (lt (mul binary64 three penalty)) score_nan ∙ less_nan (mul binary64 three penalty)) refl
 
       -- what fell in the two pieces
-      ok_fell : (q : Quad) (w : Measured) → (measured_ok w (fallen 0 0 q)).ok ≡ true → fallen 0 0 q ≡ (measured_ok w (fallen 0 0 q)).fallen
-      ok_fell q (Measured.At x) ok = refl
-      ok_fell q Measured.Missing ok = absurd (false≢true ok)
+      ok_fell : (q : Quad) (w : Option M.Measure) → (measured_ok w (fallen 0 0 q)).ok ≡ true → fallen 0 0 q ≡ (measured_ok w (fallen 0 0 q)).fallen
+      ok_fell q (Some x) ok = refl
+      ok_fell q None ok = absurd (false≢true ok)
 
-      bends_fell : (c : Crossing) → (bend_ok samples (break_at bs 0) c).ok ≡ true → fell_bent_at measure fallen bs penalty c 0 0 (best answer ∷ []) ≡ (bend_ok samples (break_at bs 0) c).fallen
-      bends_fell Crossing.Nowhere ok = refl
-      bends_fell (Crossing.At p) ok =
+      bends_fell : (c : Option Point) → (bend_ok samples (break_at bs 0) c).ok ≡ true → fell_bent_at measure fallen bs penalty c 0 0 (best answer ∷ []) ≡ (bend_ok samples (break_at bs 0) c).fallen
+      bends_fell None ok = refl
+      bends_fell (Some p) ok =
           rw whole (ok_fell (bent_quad measure bs penalty 0 0 p) (measure_of samples (break_at bs 0).s (break_at bs 0).s (bent_quad measure bs penalty 0 0 p)) ok)
 
       one_fell : (bend_in_place samples (break_at bs 0)).ok ≡ true → fell_bent measure fallen bs penalty 0 0 (best answer ∷ []) ≡ (bend_in_place samples (break_at bs 0)).fallen
@@ -160,16 +160,16 @@ module _ (samples : List (List Float)) (bs : Row) (penalty : Float) (one : lengt
 
 -- ---- as the code finds it
 module _ (samples : List (List Float)) (a : Break) where
-  pub bend_none : Crossing.Nowhere ≡ intersect_of a.xy a.dir a.xy a.dir → record { ok = true; fallen = 0 } ≡ bend_in_place samples a
+  pub bend_none : None ≡ intersect_of a.xy a.dir a.xy a.dir → record { ok = true; fallen = 0 } ≡ bend_in_place samples a
   unfolding bend_in_place
   bend_none e = rw (← e) refl
 
   -- the bent piece, with its measure
-  module _ (p r : Point) (e : Crossing.At p ≡ intersect_of a.xy a.dir a.xy a.dir) (f : r ≡ round_point_of p) where
+  module _ (p r : Point) (e : (Some p) ≡ intersect_of a.xy a.dir a.xy a.dir) (f : r ≡ round_point_of p) where
     abbrev q : Quad
     q = record { p0 = a.xy; p1 = r; p2 = a.xy }
 
-    pub bend_by : (w : Measured) {n : ℕ} → measure_of samples a.s a.s q ≡ w → n ≡ fallen_of samples a.s a.s q → measured_ok w n ≡ bend_in_place samples a
+    pub bend_by : (w : Option M.Measure) {n : ℕ} → measure_of samples a.s a.s q ≡ w → n ≡ fallen_of samples a.s a.s q → measured_ok w n ≡ bend_in_place samples a
     unfolding bend_in_place
     bend_by w g h = rw (h, ← e, ← f, g) refl
 
@@ -178,29 +178,29 @@ pub bend_most : (samples : List (List Float)) (a : Break) → (bend_in_place sam
 unfolding bend_in_place
 bend_most samples a = go (intersect_of a.xy a.dir a.xy a.dir)
   where
-    at_most : (w : Measured) (n : ℕ) → n ≤ 80 → (measured_ok w n).fallen ≤ 80
-    at_most (Measured.At m) n h = h
-    at_most Measured.Missing n h = omega arith
+    at_most : (w : Option M.Measure) (n : ℕ) → n ≤ 80 → (measured_ok w n).fallen ≤ 80
+    at_most (Some m) n h = h
+    at_most None n h = omega arith
 
-    go : (c : Crossing) → (bend_ok samples a c).fallen ≤ 80
-    go Crossing.Nowhere = omega arith
-    go (Crossing.At p) =
+    go : (c : Option Point) → (bend_ok samples a c).fallen ≤ 80
+    go None = omega arith
+    go (Some p) =
         let q : Quad = record { p0 = a.xy; p1 = round_point_of p; p2 = a.xy } in
         at_most (measure_of samples a.s a.s q) (fallen_of samples a.s a.s q) (fallen_most samples a.s a.s q)
 
 -- the straight piece of a point whose coordinates are doubles
-pub in_place_lem : (samples : List (List Float)) (s : Float) (p : Point) {q : Quad} {r : Counted} → T (fits binary64 p.x) → T (fits binary64 p.y) →
+pub in_place_lem : (samples : List (List Float)) (s : Float) (p : Point) {q : Quad} {r : Option Counted} → T (fits binary64 p.x) → T (fits binary64 p.y) →
     q ≡ in_place p → Counts (measure_of samples s s q) (fallen_of samples s s q) r →
     Counts (measure_of samples s s (in_place p)) (fallen_of samples s s (in_place p)) r × (is_whole p ≡ true → Spoilt r)
-in_place_lem samples s p {q} {r} fx fy e told = (is, λ whole m n h. still samples s s p fx fy whole m (rw h at is).0)
+in_place_lem samples s p {q} {r} fx fy e told = (is, λ whole c h. still samples s s p fx fy whole c.measure (rw h at is).0)
   where
     is : Counts (measure_of samples s s (in_place p)) (fallen_of samples s s (in_place p)) r
     is = rw e at told
 
-abbrev pub Straight : List (List Float) → Break → Counted → Type 0
+abbrev pub Straight : List (List Float) → Break → Option Counted → Type 0
 Straight samples c w = Counts (measure_of samples c.s c.s (in_place c.xy)) (fallen_of samples c.s c.s (in_place c.xy)) w
 
-pub measured_line : (samples : List (List Float)) (c : Break) {a : Break} (w v : Counted) → Straight samples a w → w ≡ v → a ≡ c → Straight samples c v
+pub measured_line : (samples : List (List Float)) (c : Break) {a : Break} (w v : Option Counted) → Straight samples a w → w ≡ v → a ≡ c → Straight samples c v
 measured_line samples c w v told e f = rw (e, f) at told
 
 pub bent_ok : (samples : List (List Float)) {a c : Break} {t : Trial} → t ≡ bend_in_place samples a → a ≡ c → bend_in_place samples c ≡ t

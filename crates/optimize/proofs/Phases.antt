@@ -1,4 +1,5 @@
 -- The pairs of each phase, and how one phase leads to the next. Assumes nothing.
+use Rattle.std.specs.Prelude.{Option, Some, None}
 use Prim.Native.Nat.{ℕ, suc, ◌+◌, ◌*◌, ◌-◌, ◌≤◌, ◌<◌}
 use native.Mathlib.Omega.{arith}
 use mathlib.Core.Bool.{Bool, true, false}
@@ -8,8 +9,8 @@ use mathlib.Core.Path.{◌≡◌, refl, ap, ◌∙◌}
 use lib.ListN.{length}
 use lib.Ieee.{Float}
 use Rattle.geometry.specs.Geometry.{is_whole, line_quad, intersect_of}
-use Rattle.geometry.specs.declared.Crossing.{Crossing}
 use Rattle.geometry.specs.declared.Quad.{Quad}
+use Rattle.geometry.specs.declared.Point.{Point}
 use Rattle.measure.proofs.Asked.{fallen_most}
 use Rattle.breaks.specs.Breaks.{Row, break_at}
 use Rattle.attempt.specs.Answers.{Best, ok_for_half}
@@ -136,9 +137,9 @@ module _ (measure : Measure) (fallen : Fallen) (breaks : Row) (penalty : Float) 
     unfolding fell_bent
     bent_most i j st = go (intersect_of (break_at breaks i).xy (break_at breaks i).dir (break_at breaks j).xy (break_at breaks j).dir)
       where
-        go : (c : Crossing) → fell_bent_at measure fallen breaks penalty c i j st ≤ 80
-        go Crossing.Nowhere = omega arith
-        go (Crossing.At p) = if_most (ok_for_half (best_at st i) (bent_quad measure breaks penalty i j p)) i j (bent_quad measure breaks penalty i j p)
+        go : (c : Option Point) → fell_bent_at measure fallen breaks penalty c i j st ≤ 80
+        go None = omega arith
+        go (Some p) = if_most (ok_for_half (best_at st i) (bent_quad measure breaks penalty i j p)) i j (bent_quad measure breaks penalty i j p)
 
     then_most : (i j : ℕ) (s : States) → fell_then_bent measure fallen breaks penalty i j s ≤ 80
     then_most i j refused = omega arith

@@ -1,5 +1,6 @@
 -- The walk with a visitor ends with what the optimiser ends with, and three visitors gather the lookups that fell, the trace and the first score stored at the
 -- last break: the statements of specs/Seen. Assumes nothing.
+use Rattle.std.specs.Prelude.{Option, Some, None}
 use Prim.Native.Nat.{ℕ, ◌+◌, ◌≤◌, ◌<◌}
 use native.Mathlib.Nat.{add_assoc, zero-add}
 use native.Mathlib.Omega.{arith}
@@ -11,15 +12,16 @@ use lib.ListN.{length, replicate, length-replicate}
 use lib.Ieee.{Float, binary64, mul, lt}
 use Rattle.float.specs.Numbers.{three, four}
 use Rattle.geometry.specs.Geometry.{is_whole, line_quad, intersect_of}
-use Rattle.geometry.specs.declared.Crossing.{Crossing}
+use Rattle.geometry.specs.declared.Point.{Point}
 use Rattle.breaks.specs.Breaks.{Row, break_at}
-use Rattle.measure.specs.declared.Measured.{Measured}
 use Rattle.attempt.specs.Answers.{score_of, Best, none, best, ok_for_half, may_build}
 use Rattle.optimize.specs.Optimize.{Measure, best_at, States, refused, states, xy, measured, try_quad, try_if, straight, bent_quad, bent_at, bent, then_bent, try_line_quad, onward, try_all, splits, search, Optimised, solved, chosen_if, go_on, splitted, tried, pairs_after_splits, last_break, optimize_of}
 use Rattle.optimize.specs.Fallen.{Fallen, fell_if, fell_bent_at, fell_bent, fell_then_bent, fell_pair, fell_onward, fell_all, fell_next, fell_going_on, fell_after_splits, fell_after_first, fell_of}
 use Rattle.optimize.specs.Trace.{Attempt, scored_if, scored, scored_where, bently_at, bently, bently_after, pair_tried, pair_after, all_tried, next_if, going_on, after_splits, after_first, trace_of, into_if, scores_into, now, later}
 use Rattle.optimize.proofs.Good.{Good, nothing, stands, scores_append, Carried, kept, measured_carries, none_yet}
 use Rattle.optimize.specs.Seen.{Try, Walk, walk, End, end, gathered, outcome, seen_if, bent_seen, then_seen, pair_seen, all_seen, end_if, go_on_seen, searched_seen, splitted_seen, tried_seen, walked, attempt_if, attempt_by, add_attempt, First, not_yet, score, standing, standing_in, note_first, head_of, WalkEnds, CountsFallen, ListsAttempts, NotesFirst}
+use Rattle.measure.specs.declared.Measure as M
+use Rattle.std.specs.Prelude.{Option, Some, None}
 
 module _ (measure : Measure) (breaks : Row) (penalty : Float) where
   abbrev last : ℕ
@@ -28,7 +30,7 @@ module _ (measure : Measure) (breaks : Row) (penalty : Float) where
   abbrev line : ℕ → ℕ → Try
   line i j = record { from = i; to = j; bent = false; quad = line_quad (xy measure breaks penalty i) (xy measure breaks penalty j) }
 
-  abbrev crossing : ℕ → ℕ → Crossing
+  abbrev crossing : ℕ → ℕ → Option Point
   crossing i j = intersect_of (xy measure breaks penalty i) (break_at breaks i).dir (xy measure breaks penalty j) (break_at breaks j).dir
 
   -- ---- a visitor that adds something for each piece, after what was gathered
@@ -41,9 +43,9 @@ module _ (measure : Measure) (breaks : Row) (penalty : Float) where
     gave_if true t st = give t st
     gave_if false t st = ε
 
-    abbrev gave_bent : Crossing → ℕ → ℕ → List Best → M
-    gave_bent Crossing.Nowhere i j st = ε
-    gave_bent (Crossing.At p) i j st =
+    abbrev gave_bent : Option Point → ℕ → ℕ → List Best → M
+    gave_bent None i j st = ε
+    gave_bent (Some p) i j st =
         let q = bent_quad measure breaks penalty i j p in
         gave_if (ok_for_half (best_at st i) q) (record { from = i; to = j; bent = true; quad = q }) st
 
@@ -86,9 +88,9 @@ module _ (measure : Measure) (breaks : Row) (penalty : Float) where
     if_gave true t a st = refl
     if_gave false t a st = rw (no_more a) refl
 
-    bent_gave : (x : Crossing) (i j : ℕ) (a : M) (st : List Best) → bent_seen measure breaks penalty see x i j a st ≡ walk (a · gave_bent x i j st) (bent_at measure breaks penalty x i j st)
-    bent_gave Crossing.Nowhere i j a st = rw (no_more a) refl
-    bent_gave (Crossing.At p) i j a st =
+    bent_gave : (x : Option Point) (i j : ℕ) (a : M) (st : List Best) → bent_seen measure breaks penalty see x i j a st ≡ walk (a · gave_bent x i j st) (bent_at measure breaks penalty x i j st)
+    bent_gave None i j a st = rw (no_more a) refl
+    bent_gave (Some p) i j a st =
         let q = bent_quad measure breaks penalty i j p in
         if_gave (ok_for_half (best_at st i) q) (record { from = i; to = j; bent = true; quad = q }) a st
 
@@ -162,9 +164,9 @@ module _ (measure : Measure) (breaks : Row) (penalty : Float) where
       if_both true t a b st r = both (keeps t a b st r)
       if_both false t a b st r = both (goes r)
 
-      bent_both : (x : Crossing) (i j : ℕ) (a : A) (b : B) (st : List Best) → R a b st → Both (bent_seen measure breaks penalty see x i j a st) (bent_seen measure breaks penalty look x i j b st)
-      bent_both Crossing.Nowhere i j a b st r = both (goes r)
-      bent_both (Crossing.At p) i j a b st r =
+      bent_both : (x : Option Point) (i j : ℕ) (a : A) (b : B) (st : List Best) → R a b st → Both (bent_seen measure breaks penalty see x i j a st) (bent_seen measure breaks penalty look x i j b st)
+      bent_both None i j a b st r = both (goes r)
+      bent_both (Some p) i j a b st r =
           let q = bent_quad measure breaks penalty i j p in
           if_both (ok_for_half (best_at st i) q) (record { from = i; to = j; bent = true; quad = q }) a b st r
 
@@ -245,9 +247,9 @@ module _ (measure : Measure) (fallen : Fallen) (breaks : Row) (penalty : Float) 
   if_fell true t st = refl
   if_fell false t st = refl
 
-  bent_fell : (x : Crossing) (i j : ℕ) (st : List Best) → gave_bent measure breaks penalty 0 ◌+◌ add_none add_assoc given x i j st ≡ fell_bent_at measure fallen breaks penalty x i j st
-  bent_fell Crossing.Nowhere i j st = refl
-  bent_fell (Crossing.At p) i j st = let q = bent_quad measure breaks penalty i j p in if_fell (ok_for_half (best_at st i) q) (record { from = i; to = j; bent = true; quad = q }) st
+  bent_fell : (x : Option Point) (i j : ℕ) (st : List Best) → gave_bent measure breaks penalty 0 ◌+◌ add_none add_assoc given x i j st ≡ fell_bent_at measure fallen breaks penalty x i j st
+  bent_fell None i j st = refl
+  bent_fell (Some p) i j st = let q = bent_quad measure breaks penalty i j p in if_fell (ok_for_half (best_at st i) q) (record { from = i; to = j; bent = true; quad = q }) st
 
   then_fell : (i j : ℕ) (s : States) → gave_then measure breaks penalty 0 ◌+◌ add_none add_assoc given i j s ≡ fell_then_bent measure fallen breaks penalty i j s
   unfolding fell_bent
@@ -300,9 +302,9 @@ module _ (measure : Measure) (breaks : Row) (penalty : Float) where
   may_listed true a = refl
   may_listed false a = refl
 
-  one_listed : (w : Measured) (t : Try) (st : List Best) → attempt_by w penalty t st ≡ scored measure breaks penalty w t.bent t.from t.to t.quad st
-  one_listed Measured.Missing t st = refl
-  one_listed (Measured.At m) t st = may_listed (may_build t.from (best_at st t.from)) _
+  one_listed : (w : Option M.Measure) (t : Try) (st : List Best) → attempt_by w penalty t st ≡ scored measure breaks penalty w t.bent t.from t.to t.quad st
+  one_listed None t st = refl
+  one_listed (Some m) t st = may_listed (may_build t.from (best_at st t.from)) _
 
 module _ (measure : Measure) (breaks : Row) (penalty : Float) where
   abbrev listed : Try → List Best → List Attempt
@@ -313,9 +315,9 @@ module _ (measure : Measure) (breaks : Row) (penalty : Float) where
   if_listed true t st = one_listed measure breaks penalty (measure t.from t.to t.quad) t st
   if_listed false t st = refl
 
-  bent_listed : (x : Crossing) (i j : ℕ) (st : List Best) → gave_bent measure breaks penalty [] ◌++◌ append-nil append_assoc listed x i j st ≡ bently_at measure breaks penalty x i j st
-  bent_listed Crossing.Nowhere i j st = refl
-  bent_listed (Crossing.At p) i j st = let q = bent_quad measure breaks penalty i j p in if_listed (ok_for_half (best_at st i) q) (record { from = i; to = j; bent = true; quad = q }) st
+  bent_listed : (x : Option Point) (i j : ℕ) (st : List Best) → gave_bent measure breaks penalty [] ◌++◌ append-nil append_assoc listed x i j st ≡ bently_at measure breaks penalty x i j st
+  bent_listed None i j st = refl
+  bent_listed (Some p) i j st = let q = bent_quad measure breaks penalty i j p in if_listed (ok_for_half (best_at st i) q) (record { from = i; to = j; bent = true; quad = q }) st
 
   then_listed : (i j : ℕ) (s : States) → gave_then measure breaks penalty [] ◌++◌ append-nil append_assoc listed i j s ≡ bently_after measure breaks penalty i j s
   unfolding bently
@@ -364,12 +366,12 @@ lists_attempts measure breaks penalty =
 
 -- ---- the first score stored at the last break
 head_more : (ss more : List Float) {s : Float} → score s ≡ head_of ss → score s ≡ head_of (ss ++ more)
-head_more [] more e = let z : ◌≡◌ {A = ℕ} 0 1 = cc in absurd (omega arith)
+head_more [] more e = absurd cc
 head_more (t ∷ ss) more e = e
 
 none_so_far : (ss more : List Float) → not_yet ≡ head_of ss → ss ++ more ≡ more
 none_so_far [] more e = refl
-none_so_far (t ∷ ss) more e = let z : ◌≡◌ {A = ℕ} 0 1 = cc in absurd (omega arith)
+none_so_far (t ∷ ss) more e = absurd cc
 
 -- what stands after one attempt into a break has its score
 one_score : {ss : List Float} {x : Best} → Good ss x → length ss ≤ 1 → standing x ≡ head_of ss
@@ -423,15 +425,15 @@ module _ (measure : Measure) (breaks : Row) (penalty : Float) (some : 0 < length
       rw first (one_score (rw first at g) few)
   noted_next (score x) l k st e g few = head_more (scores_of l) (scores_of k) e
 
-  attempt_noted : (w : Measured) (t : Try) (o : First) (l : List Attempt) (st : List Best) → Noting o l st →
+  attempt_noted : (w : Option M.Measure) (t : Try) (o : First) (l : List Attempt) (st : List Best) → Noting o l st →
       let s = measured measure breaks penalty w t.from t.to t.quad st in
       Next (note o s) (l ++ scored measure breaks penalty w t.bent t.from t.to t.quad st) s
-  attempt_noted Measured.Missing t o l st r = stops (refused_same o ∙ r.noted ∙ ap (λ (k : List Attempt). head_of (scores_of k)) (sym (append-nil l)))
-  attempt_noted (Measured.At m) t o l st r =
-      by (measured_carries measure breaks penalty (length breaks) end_break inside (Measured.At m) t.bent t.from t.to t.quad st r.long r.good)
+  attempt_noted None t o l st r = stops (refused_same o ∙ r.noted ∙ ap (λ (k : List Attempt). head_of (scores_of k)) (sym (append-nil l)))
+  attempt_noted (Some m) t o l st r =
+      by (measured_carries measure breaks penalty (length breaks) end_break inside (Some m) t.bent t.from t.to t.quad st r.long r.good)
     where
       k : List Attempt
-      k = scored measure breaks penalty (Measured.At m) t.bent t.from t.to t.quad st
+      k = scored measure breaks penalty (Some m) t.bent t.from t.to t.quad st
 
       by : {st' : List Best} → Carried (length breaks) end_break (scores_of l ++ scores_of k) (states st') → Next (note o (states st')) (l ++ k) (states st')
       by {st'} (kept long g) = goes {st = st'} (record {

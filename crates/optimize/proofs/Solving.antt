@@ -1,4 +1,5 @@
 -- What stands at the last break, and whether the next phase is gone into. Assumes nothing.
+use Rattle.std.specs.Prelude.{Option, Some}
 use Prim.Native.Nat.{ℕ, ◌+◌, ◌-◌}
 use native.Mathlib.Omega.{arith}
 use mathlib.Core.Bool.{true, false, false≢true}
@@ -20,11 +21,11 @@ use Rattle.optimize.specs.Stored.{slot_at, Stands, lacks, has, solved_at, above_
 use Rattle.optimize.proofs.Held.{linked, scored, wider}
 
 module _ (ls : List ℕ) (n : ℕ) (t : Tally) where
-  pub solved_at_none : get_or ls (slot_at ls n) 0 ≡ 0 → solved_at ls n t ≡ Solved.Unchanged t
+  pub solved_at_none : get_or ls (slot_at ls n) 0 ≡ 0 → solved_at ls n t ≡ Some (Solved.Unchanged t)
   unfolding solved_at
   solved_at_none z = rw (eq-eqb _ _ z) refl
 
-  pub solved_at_some : (get_or ls (slot_at ls n) 0 ≡ 0 → ⊥) → solved_at ls n t ≡ Solved.Done (slot_at ls n) t
+  pub solved_at_some : (get_or ls (slot_at ls n) 0 ≡ 0 → ⊥) → solved_at ls n t ≡ Some (Solved.Done (slot_at ls n) t)
   unfolding solved_at
   solved_at_some some = rw (ne_eqb _ _ some) refl
 
@@ -38,11 +39,11 @@ module _ (rs : List (List Float)) (ls : List ℕ) (n : ℕ) (limit : Float) wher
   above_some some = rw (ne_eqb _ _ some) refl
 
 module _ (measure : Measure) (fallen : Fallen) (penalty : Float) {P : ℕ → Type 0} (bs : Row) (rs : List (List Float)) (ls : List ℕ) (n : ℕ) where
-  pub ends : (pairs c : ℕ) {t : Best} {r : S.Solved} → r ≡ solved_at ls n (tally pairs c) → Stands P bs rs ls n t → Solves bs rs ls (ended measure bs penalty pairs t) c r
+  pub ends : (pairs c : ℕ) {t : Best} {r : Option S.Solved} → r ≡ solved_at ls n (tally pairs c) → Stands P bs rs ls n t → Solves bs rs ls (ended measure bs penalty pairs t) c r
   ends pairs c e (lacks z) = stays (e ∙ solved_at_none ls n (tally pairs c) z)
   ends pairs c e (has {a} h) = found {a = a} (e ∙ solved_at_some ls n (tally pairs c) (linked h)) (wider (λ k u. tt) h)
 
-  pub no_further : (limit : Float) (pairs c : ℕ) (next : Optimised) (more : ℕ) {t : Best} {r : S.Solved} → r ≡ solved_at ls n (tally pairs c) → above_at rs ls n limit ≡ false →
+  pub no_further : (limit : Float) (pairs c : ℕ) (next : Optimised) (more : ℕ) {t : Best} {r : Option S.Solved} → r ≡ solved_at ls n (tally pairs c) → above_at rs ls n limit ≡ false →
       Stands P bs rs ls n t → Solves bs rs ls (go_on measure bs penalty limit pairs t next) (c + fell_going_on measure fallen bs penalty limit t more) r
   unfolding above_at
   no_further limit pairs c next more e low (lacks z) =
@@ -76,7 +77,7 @@ module _ (measure : Measure) (fallen : Fallen) (penalty : Float) {P : ℕ → Ty
 
 -- ---- the phases, where n is the last break
 module _ (measure : Measure) (fallen : Fallen) (penalty : Float) {P : ℕ → Type 0} (bs : Row) (n : ℕ) (last : length bs - 1 ≡ n) (st : List Best) where
-  pub after_search : {rs : List (List Float)} {ls : List ℕ} {r : S.Solved} (c : ℕ) → r ≡ solved_at ls n (tally (1 + length (splits n) + length (search n)) c) →
+  pub after_search : {rs : List (List Float)} {ls : List ℕ} {r : Option S.Solved} (c : ℕ) → r ≡ solved_at ls n (tally (1 + length (splits n) + length (search n)) c) →
       Stands P bs rs ls n (best_at st n) → Solves bs rs ls (searched measure bs penalty (states st)) c r
   after_search {rs} {ls} c e s = rw last (ends measure fallen penalty bs rs ls n (1 + length (splits n) + length (search n)) c e s)
 
@@ -96,7 +97,7 @@ module _ (measure : Measure) (fallen : Fallen) (penalty : Float) {P : ℕ → Ty
         fell_after_splits measure fallen bs penalty (states st) ≡ fell_all measure fallen bs penalty (search n) (states st)
     splits_fell high = rw (last, further_fell measure fallen penalty bs rs ls n (mul binary64 four penalty) high s (fell_all measure fallen bs penalty (search n) (states st))) refl
 
-    pub splits_off : {r : S.Solved} (c : ℕ) → above_at rs ls n (mul binary64 four penalty) ≡ false → r ≡ solved_at ls n (tally (1 + length (splits n)) c) →
+    pub splits_off : {r : Option S.Solved} (c : ℕ) → above_at rs ls n (mul binary64 four penalty) ≡ false → r ≡ solved_at ls n (tally (1 + length (splits n)) c) →
         Solves bs rs ls (splitted measure bs penalty (states st)) (c + fell_after_splits measure fallen bs penalty (states st)) r
     splits_off c low e =
         rw last
@@ -120,7 +121,7 @@ module _ (measure : Measure) (fallen : Fallen) (penalty : Float) {P : ℕ → Ty
         fell_after_first measure fallen bs penalty (states st) ≡ fell_all measure fallen bs penalty (splits n) (states st) + fell_after_splits measure fallen bs penalty t
     first_fell t high e = rw (last, further_fell measure fallen penalty bs rs ls n (mul binary64 three penalty) high s later, e) refl
 
-    pub first_off : {r : S.Solved} (c : ℕ) → above_at rs ls n (mul binary64 three penalty) ≡ false → r ≡ solved_at ls n (tally 1 c) →
+    pub first_off : {r : Option S.Solved} (c : ℕ) → above_at rs ls n (mul binary64 three penalty) ≡ false → r ≡ solved_at ls n (tally 1 c) →
         Solves bs rs ls (tried measure bs penalty (states st)) (c + fell_after_first measure fallen bs penalty (states st)) r
     first_off c low e =
         rw last

@@ -1,4 +1,5 @@
 -- The steps of a pair, as the code takes them. Assumes nothing.
+use Rattle.std.specs.Prelude.{Option, Some, None}
 use Prim.Native.Nat.{ℕ, ◌+◌, ◌*◌, ◌≤◌, ◌<◌}
 use native.Mathlib.Omega.{arith}
 use mathlib.Core.Bool.{Bool, true, false, not, ◌&&◌, false≢true, true≢false}
@@ -7,11 +8,9 @@ use mathlib.Core.Path.{◌≡◌, refl, sym, ap, subst, ◌∙◌}
 use lib.ListN.{length, set}
 use lib.Ieee.{Float}
 use Rattle.geometry.specs.Geometry.{is_line, is_whole, line_quad, round_point_of, intersect_of}
-use Rattle.geometry.specs.declared.Crossing.{Crossing}
 use Rattle.geometry.specs.declared.Break.{Break}
 use Rattle.geometry.specs.declared.Point.{Point}
 use Rattle.geometry.specs.declared.Quad.{Quad}
-use Rattle.measure.specs.declared.Measured.TheVariants as Measured
 use Rattle.measure.specs.declared.Measure as M
 use Rattle.breaks.specs.Breaks.{Row, break_at}
 use Rattle.attempt.specs.declared.answer.Answer as A
@@ -19,28 +18,27 @@ use Rattle.optimize.specs.declared.Trial.{Trial}
 use Rattle.attempt.specs.Answers.{Best, none, best, is_curve, ok_for_half, combined}
 use Rattle.optimize.specs.Optimize.{Measure, best_at, States, refused, states, try_quad, try_if, bent_quad, bent_at, bent, then_bent, try_line_quad}
 use Rattle.optimize.specs.Fallen.{Fallen, fell_if, fell_bent_at, fell_bent, fell_then_bent, fell_pair}
-use Rattle.optimize.specs.declared.Bend.{Bend}
-use Rattle.optimize.specs.declared.Bend.TheVariants as Bending
 use Rattle.optimize.specs.Marks.{bend_if, bend_at, bend_of, Reads}
 use Rattle.attempt.specs.Value.{best_of, combine_of}
 use Rattle.optimize.specs.Stored.{slot_at, loaded, standing_at, row_of, Inside, Phase, Room, Into, Rep, Ready, Becomes, stops, goes}
 use Rattle.optimize.proofs.Held.{slot_break}
 use Rattle.optimize.proofs.Attempt.{readable, attempted}
+use Rattle.std.specs.Prelude.{Some, None}
 
 -- ---- one attempt
 module _ (measure : Measure) (breaks : Row) (penalty : Float) (i j : ℕ) (q : Quad) (st : List Best) where
-  pub quad_refused : measure i j q ≡ Measured.Missing → try_quad measure breaks penalty i j q st ≡ refused
+  pub quad_refused : measure i j q ≡ None → try_quad measure breaks penalty i j q st ≡ refused
   unfolding try_quad
   quad_refused e = rw e refl
 
-  pub quad_made : (m : M.Measure) → measure i j q ≡ Measured.At m →
+  pub quad_made : (m : M.Measure) → measure i j q ≡ Some m →
       try_quad measure breaks penalty i j q st ≡ states (set st j (combined (best_at st j) (best_at st i) (record { from = i; to = j; quad = q }) m.error penalty))
   unfolding try_quad
   quad_made m e = rw e refl
 
 -- one that is made, and its answer x written
 module _ {f : Phase} {n : ℕ} {bs : Row} {rs : List (List Float)} {ls : List ℕ} {st : List Best} {i j k : ℕ} (room : Room n bs rs ls) (into : Into f n i j k) (rep : Rep f n bs rs ls st) where
-  pub made : (measure : Measure) (q : Quad) (m : M.Measure) (penalty : Float) (x : A.Answer) {c c' : ℕ} → c ≡ c' → q.p0 ≡ (break_at bs i).xy → q.p2 ≡ (break_at bs j).xy → measure i j q ≡ Measured.At m →
+  pub made : (measure : Measure) (q : Quad) (m : M.Measure) (penalty : Float) (x : A.Answer) {c c' : ℕ} → c ≡ c' → q.p0 ≡ (break_at bs i).xy → q.p2 ≡ (break_at bs j).xy → measure i j q ≡ Some m →
       x ≡ combine_of (loaded bs rs ls (slot_at ls j)) (standing_at bs rs ls i) m.error q penalty →
       Becomes f n bs (set rs k (row_of x)) (set ls k x.link) (try_quad measure bs penalty i j q st) c' (record { ok = true; fallen = c })
   made measure q m penalty x fell begins ends e is =
@@ -69,28 +67,28 @@ no_bend t q off plain = go t plain
     go (best a) plain = rw (off, plain) (neither (not (is_line q)))
 
 module _ (breaks : Row) (previous : Best) (i j : ℕ) where
-  abbrev crossing : Crossing
+  abbrev crossing : Option Point
   crossing = intersect_of (break_at breaks i).xy (break_at breaks i).dir (break_at breaks j).xy (break_at breaks j).dir
 
-  pub bend_nowhere : Crossing.Nowhere ≡ crossing → Bending.Nowhere ≡ bend_of breaks previous i j
+  pub bend_nowhere : None ≡ crossing → None ≡ bend_of breaks previous i j
   unfolding bend_of
   bend_nowhere e = rw (← e) refl
 
-  module _ (p : Point) (q : Quad) (e : Crossing.At p ≡ crossing) (is : q ≡ record { p0 = (break_at breaks i).xy; p1 = round_point_of p; p2 = (break_at breaks j).xy }) where
+  module _ (p : Point) (q : Quad) (e : (Some p) ≡ crossing) (is : q ≡ record { p0 = (break_at breaks i).xy; p1 = round_point_of p; p2 = (break_at breaks j).xy }) where
     bend_at_lem : bend_if (ok_for_half previous q) q ≡ bend_of breaks previous i j
     unfolding bend_of
     bend_at_lem = rw (is, ← e) refl
 
-    pub bend_allowed : ok_for_half previous q ≡ true → Bending.At q ≡ bend_of breaks previous i j
+    pub bend_allowed : ok_for_half previous q ≡ true → (Some q) ≡ bend_of breaks previous i j
     bend_allowed ok = ap (λ (t : Bool). bend_if t q) (sym ok) ∙ bend_at_lem
 
-    pub bend_not_allowed : ok_for_half previous q ≡ false → Bending.Nowhere ≡ bend_of breaks previous i j
+    pub bend_not_allowed : ok_for_half previous q ≡ false → None ≡ bend_of breaks previous i j
     bend_not_allowed bad = ap (λ (t : Bool). bend_if t q) (sym bad) ∙ bend_at_lem
 
   -- it goes from break to break
-  abbrev Ends : Bend → Type 0
-  Ends (Bending.At q) = (q.p0 ≡ (break_at breaks i).xy) × (q.p2 ≡ (break_at breaks j).xy)
-  Ends Bending.Nowhere = Unit
+  abbrev Ends : Option Quad → Type 0
+  Ends (Some q) = (q.p0 ≡ (break_at breaks i).xy) × (q.p2 ≡ (break_at breaks j).xy)
+  Ends None = Unit
 
   bend_goes : Ends (bend_of breaks previous i j)
   unfolding bend_of
@@ -100,22 +98,22 @@ module _ (breaks : Row) (previous : Best) (i j : ℕ) where
       if true p = (refl, refl)
       if false p = tt
 
-      by : (c : Crossing) → Ends (bend_at breaks previous i j c)
-      by Crossing.Nowhere = tt
-      by (Crossing.At p) = if (ok_for_half previous (record { p0 = (break_at breaks i).xy; p1 = round_point_of p; p2 = (break_at breaks j).xy })) (round_point_of p)
+      by : (c : Option Point) → Ends (bend_at breaks previous i j c)
+      by None = tt
+      by (Some p) = if (ok_for_half previous (record { p0 = (break_at breaks i).xy; p1 = round_point_of p; p2 = (break_at breaks j).xy })) (round_point_of p)
 
-  pub bend_ends : {r : Bend} → r ≡ bend_of breaks previous i j → Ends r
+  pub bend_ends : {r : Option Quad} → r ≡ bend_of breaks previous i j → Ends r
   bend_ends e = subst Ends (sym e) bend_goes
 
 -- the attempt with it, and how many lookups of it fell
 module _ (measure : Measure) (fallen : Fallen) (breaks : Row) (penalty : Float) (i j : ℕ) (st : List Best) where
-  abbrev try_bend : Bend → States
-  try_bend (Bending.At q) = try_quad measure breaks penalty i j q st
-  try_bend Bending.Nowhere = states st
+  abbrev try_bend : Option Quad → States
+  try_bend (Some q) = try_quad measure breaks penalty i j q st
+  try_bend None = states st
 
-  abbrev fell_bend : Bend → ℕ
-  fell_bend (Bending.At q) = fallen i j q
-  fell_bend Bending.Nowhere = 0
+  abbrev fell_bend : Option Quad → ℕ
+  fell_bend (Some q) = fallen i j q
+  fell_bend None = 0
 
   bent_by : bent measure breaks penalty i j st ≡ try_bend (bend_of breaks (best_at st i) i j)
   unfolding bent bend_of
@@ -125,9 +123,9 @@ module _ (measure : Measure) (fallen : Fallen) (breaks : Row) (penalty : Float) 
       if true q = refl
       if false q = refl
 
-      by : (c : Crossing) → bent_at measure breaks penalty c i j st ≡ try_bend (bend_at breaks (best_at st i) i j c)
-      by Crossing.Nowhere = refl
-      by (Crossing.At p) = if (ok_for_half (best_at st i) (bent_quad measure breaks penalty i j p)) (bent_quad measure breaks penalty i j p)
+      by : (c : Option Point) → bent_at measure breaks penalty c i j st ≡ try_bend (bend_at breaks (best_at st i) i j c)
+      by None = refl
+      by (Some p) = if (ok_for_half (best_at st i) (bent_quad measure breaks penalty i j p)) (bent_quad measure breaks penalty i j p)
 
   fell_by_lem : fell_bent measure fallen breaks penalty i j st ≡ fell_bend (bend_of breaks (best_at st i) i j)
   unfolding fell_bent bend_of
@@ -137,11 +135,11 @@ module _ (measure : Measure) (fallen : Fallen) (breaks : Row) (penalty : Float) 
       if true q = refl
       if false q = refl
 
-      by : (c : Crossing) → fell_bent_at measure fallen breaks penalty c i j st ≡ fell_bend (bend_at breaks (best_at st i) i j c)
-      by Crossing.Nowhere = refl
-      by (Crossing.At p) = if (ok_for_half (best_at st i) (bent_quad measure breaks penalty i j p)) (bent_quad measure breaks penalty i j p)
+      by : (c : Option Point) → fell_bent_at measure fallen breaks penalty c i j st ≡ fell_bend (bend_at breaks (best_at st i) i j c)
+      by None = refl
+      by (Some p) = if (ok_for_half (best_at st i) (bent_quad measure breaks penalty i j p)) (bent_quad measure breaks penalty i j p)
 
-  module _ {r : Bend} (e : r ≡ bend_of breaks (best_at st i) i j) where
+  module _ {r : Option Quad} (e : r ≡ bend_of breaks (best_at st i) i j) where
     pub bent_is : bent measure breaks penalty i j st ≡ try_bend r
     bent_is = bent_by ∙ ap try_bend (sym e)
 

@@ -1,13 +1,13 @@
 -- How many lookups fell off the samples in the attempts of a run that are measured, whether they store an answer or not. `optimize_of` and what it
 -- is made of stay as they are: the number stands beside them. A refused attempt has none, and after it none is measured. Definitions, and laws of sums.
-use Rattle.std.specs.Prelude.{ℕ, ◌+◌, ◌*◌, ◌≤◌, Bool, true, false, List, [], ◌∷◌, ◌≡◌, refl, length, replicate, Float}
+use Rattle.std.specs.Prelude.{ℕ, ◌+◌, ◌*◌, ◌≤◌, Bool, true, false, List, [], ◌∷◌, ◌≡◌, refl, length, replicate, Float, Option, Some, None}
 use Rattle.std.proofs.Common.{arith}
 use Rattle.std.specs.Float.{binary64}
 use Rattle.std.specs.Float.Ieee.{mul, lt}
 use Rattle.float.specs.Numbers.{three, four}
 use Rattle.geometry.specs.Geometry.{is_whole, line_quad, intersect_of}
 use Rattle.geometry.specs.declared.Quad.{Quad}
-use Rattle.geometry.specs.declared.Crossing.{Crossing}
+use Rattle.geometry.specs.declared.Point.{Point}
 use Rattle.measure.specs.Fallen.{fallen_of}
 use Rattle.breaks.specs.Breaks.{Row, break_at}
 use Rattle.attempt.specs.Answers.{score_of, Best, none, best, ok_for_half}
@@ -35,9 +35,9 @@ module _ (measure : Measure) (fallen : Fallen) (breaks : Row) (penalty : Float) 
   abbrev pub fell_straight : ℕ → ℕ → ℕ
   fell_straight i j = fell_if (is_whole (xy measure breaks penalty i)) i j (line_quad (xy measure breaks penalty i) (xy measure breaks penalty j))
 
-  abbrev pub fell_bent_at : Crossing → ℕ → ℕ → List Best → ℕ
-  fell_bent_at Crossing.Nowhere i j st = 0
-  fell_bent_at (Crossing.At p) i j st =
+  abbrev pub fell_bent_at : Option Point → ℕ → ℕ → List Best → ℕ
+  fell_bent_at None i j st = 0
+  fell_bent_at (Some p) i j st =
       let q = bent_quad measure breaks penalty i j p in
       fell_if (ok_for_half (best_at st i) q) i j q
 

@@ -1,20 +1,19 @@
 -- Module 8, the Rust's `optimize`: pairs of breaks are tried, in three phases, and the answer at the last break is the result. The measure is
 -- an argument: a function of two breaks and a quad. Definitions only.
-use Rattle.std.specs.Prelude.{ℕ, zero, suc, ◌+◌, ◌-◌, Bool, true, false, List, [], ◌∷◌, ◌++◌, length, get_or, set, replicate, Float}
+use Rattle.std.specs.Prelude.{ℕ, zero, suc, ◌+◌, ◌-◌, Bool, true, false, List, [], ◌∷◌, ◌++◌, length, get_or, set, replicate, Float, Option, Some, None}
 use Rattle.std.specs.Float.{binary64}
 use Rattle.std.specs.Float.Ieee.{mul, lt}
 use Rattle.float.specs.Numbers.{three, four}
 use Rattle.geometry.specs.Geometry.{is_whole, line_quad, round_point_of, intersect_of}
 use Rattle.geometry.specs.declared.Point.{Point}
 use Rattle.geometry.specs.declared.Quad.{Quad}
-use Rattle.geometry.specs.declared.Crossing.{Crossing}
 use Rattle.measure.specs.Measure.{measure_of}
-use Rattle.measure.specs.declared.Measured.{Measured}
 use Rattle.breaks.specs.Breaks.{Row, break_at}
 use Rattle.attempt.specs.Answers.{Statelet, score_of, Best, none, best, ok_for_half, combined}
+use Rattle.measure.specs.declared.Measure as M
 
 abbrev pub Measure : Type 0
-Measure = ℕ → ℕ → Quad → Measured
+Measure = ℕ → ℕ → Quad → Option M.Measure
 
 -- a run's own: between the lengths of the two breaks
 abbrev pub measure_by : List (List Float) → Row → Measure
@@ -34,9 +33,9 @@ module _ (measure : Measure) (breaks : Row) (penalty : Float) where
 
   -- ---- one attempt: the piece is measured even where nothing stands to build it on
 
-  abbrev pub measured : Measured → ℕ → ℕ → Quad → List Best → States
-  measured Measured.Missing i j q st = refused
-  measured (Measured.At m) i j q st =
+  abbrev pub measured : Option M.Measure → ℕ → ℕ → Quad → List Best → States
+  measured None i j q st = refused
+  measured (Some m) i j q st =
       states (set st j (combined (best_at st j) (best_at st i) (record { from = i; to = j; quad = q }) m.error penalty))
 
   unfoldable pub try_quad : ℕ → ℕ → Quad → List Best → States
@@ -54,9 +53,9 @@ module _ (measure : Measure) (breaks : Row) (penalty : Float) where
   abbrev pub bent_quad : ℕ → ℕ → Point → Quad
   bent_quad i j p = record { p0 = xy i; p1 = round_point_of p; p2 = xy j }
 
-  abbrev pub bent_at : Crossing → ℕ → ℕ → List Best → States
-  bent_at Crossing.Nowhere i j st = states st
-  bent_at (Crossing.At p) i j st = try_if (ok_for_half (best_at st i) (bent_quad i j p)) i j (bent_quad i j p) st
+  abbrev pub bent_at : Option Point → ℕ → ℕ → List Best → States
+  bent_at None i j st = states st
+  bent_at (Some p) i j st = try_if (ok_for_half (best_at st i) (bent_quad i j p)) i j (bent_quad i j p) st
 
   unfoldable pub bent : ℕ → ℕ → List Best → States
   bent i j st = bent_at (intersect_of (xy i) (break_at breaks i).dir (xy j) (break_at breaks j).dir) i j st

@@ -2,20 +2,20 @@
 -- the optimiser ends with is the end of this walk, whatever is gathered on the way; the lookups that fell, the trace and the first score stored at the last
 -- break are what three visitors gather. The theorems are `Walk-Ends`, `counts_fallen`, `lists_attempts` and `notes_first` of proofs/Seen. Definitions and
 -- statements.
-use Rattle.std.specs.Prelude.{ℕ, ◌+◌, ◌<◌, Bool, true, false, List, [], ◌∷◌, ◌++◌, ◌≡◌, length, replicate, Float}
+use Rattle.std.specs.Prelude.{ℕ, ◌+◌, ◌<◌, Bool, true, false, List, [], ◌∷◌, ◌++◌, ◌≡◌, length, replicate, Float, Option, Some, None}
 use Rattle.std.specs.Float.{binary64}
 use Rattle.std.specs.Float.Ieee.{mul, lt}
 use Rattle.float.specs.Numbers.{three, four}
 use Rattle.geometry.specs.Geometry.{is_whole, line_quad, intersect_of}
 use Rattle.geometry.specs.declared.Quad.{Quad}
-use Rattle.geometry.specs.declared.Crossing.{Crossing}
+use Rattle.geometry.specs.declared.Point.{Point}
 use Rattle.breaks.specs.Breaks.{Row, break_at}
-use Rattle.measure.specs.declared.Measured.{Measured}
 use Rattle.attempt.specs.Answers.{score_of, Best, none, best, ok_for_half, may_build, total_of}
 use Rattle.optimize.specs.Optimize.{Measure, best_at, States, refused, states, xy, try_quad, bent_quad, splits, search}
 use Rattle.optimize.specs.Optimize.{Optimised, refused8, unchanged, solved, pairs_after_splits, searched, last_break, optimize_of}
 use Rattle.optimize.specs.Fallen.{Fallen, fell_of}
 use Rattle.optimize.specs.Trace.{Attempt, trace_of, last_scores}
+use Rattle.measure.specs.declared.Measure as M
 
 -- a piece that is measured
 pub record Try : Type 0 where
@@ -44,9 +44,9 @@ module _ (measure : Measure) (breaks : Row) (penalty : Float) {A : Type 0} (see 
   seen_if true t a st = walk (see t st a) (try_quad measure breaks penalty t.from t.to t.quad st)
   seen_if false t a st = walk a (states st)
 
-  abbrev pub bent_seen : Crossing → ℕ → ℕ → A → List Best → Walk A
-  bent_seen Crossing.Nowhere i j a st = walk a (states st)
-  bent_seen (Crossing.At p) i j a st =
+  abbrev pub bent_seen : Option Point → ℕ → ℕ → A → List Best → Walk A
+  bent_seen None i j a st = walk a (states st)
+  bent_seen (Some p) i j a st =
       let q = bent_quad measure breaks penalty i j p in
       seen_if (ok_for_half (best_at st i) q) (record { from = i; to = j; bent = true; quad = q }) a st
 
@@ -110,9 +110,9 @@ abbrev pub attempt_if : Bool → Attempt → List Attempt
 attempt_if true a = a ∷ []
 attempt_if false a = []
 
-abbrev pub attempt_by : Measured → Float → Try → List Best → List Attempt
-attempt_by Measured.Missing penalty t st = []
-attempt_by (Measured.At m) penalty t st =
+abbrev pub attempt_by : Option M.Measure → Float → Try → List Best → List Attempt
+attempt_by None penalty t st = []
+attempt_by (Some m) penalty t st =
     attempt_if (may_build t.from (best_at st t.from))
     (record { from = t.from; to = t.to; bent = t.bent; score = total_of (best_at st t.from) t.quad m.error penalty })
 

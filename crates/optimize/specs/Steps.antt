@@ -1,6 +1,6 @@
 -- What the functions of the optimiser promise of the rows that they are lent, for any states that these stand for: for the contracts of the functions
 -- that are not public. Definitions only.
-use Rattle.std.specs.Prelude.{ℕ, ◌+◌, ◌≤◌, false, List, ◌≡◌, T, Float}
+use Rattle.std.specs.Prelude.{ℕ, ◌+◌, ◌≤◌, false, List, ◌≡◌, T, Float, Option}
 use Rattle.std.specs.Float.Ieee.{lt}
 use Rattle.rows.specs.Lent.{Lent, before, after}
 use Rattle.geometry.specs.Geometry.{is_whole, line_quad}
@@ -69,7 +69,7 @@ Leads f g n breaks answers links next r =
     (st : List Best) → Rep f n breaks (before answers) (before links) st → Becomes g n breaks (after answers) (after links) (next st).0 (next st).1 r
 
 -- by all that is left to do from the phase f on
-abbrev pub Ends : Phase → ℕ → Row → Lent (List Float) → Lent ℕ → (List Best → Optimised × ℕ) → Solved → Type 0
+abbrev pub Ends : Phase → ℕ → Row → Lent (List Float) → Lent ℕ → (List Best → Optimised × ℕ) → Option Solved → Type 0
 Ends f n breaks answers links end r =
     (st : List Best) → Rep f n breaks (before answers) (before links) st → Solves breaks (after answers) (after links) (end st).0 (end st).1 r
 

@@ -1,18 +1,18 @@
 -- The attempts of a run, in the order of trial: the pair, whether the piece is straight or bent, and the score that it got, with what stood at the start
 -- break at that time. An attempt from a break that has no answer, other than break 0, is measured and gets no score: it is not among them, nor is one whose
 -- measure is refused, which ends the work. Definitions only.
-use Rattle.std.specs.Prelude.{ℕ, ◌<◌, Bool, true, false, List, [], ◌∷◌, ◌++◌, ◌≡◌, T, eqb, length, get_or, replicate, Float}
+use Rattle.std.specs.Prelude.{ℕ, ◌<◌, Bool, true, false, List, [], ◌∷◌, ◌++◌, ◌≡◌, T, eqb, length, get_or, replicate, Float, Option, Some, None}
 use Rattle.std.specs.Float.{nan, binary64}
 use Rattle.std.specs.Float.Ieee.{mul, lt, le, is_nan}
 use Rattle.float.specs.Numbers.{three, four}
 use Rattle.geometry.specs.Geometry.{is_whole, line_quad, intersect_of}
+use Rattle.geometry.specs.declared.Point.{Point}
 use Rattle.geometry.specs.declared.Quad.{Quad}
-use Rattle.geometry.specs.declared.Crossing.{Crossing}
-use Rattle.measure.specs.declared.Measured.{Measured}
 use Rattle.breaks.specs.Breaks.{Row, break_at}
 use Rattle.attempt.specs.Answers.{Statelet, score_of, Best, none, best, ok_for_half, may_build, total_of}
 use Rattle.optimize.specs.Optimize.{Measure, best_at, States, refused, states, xy, straight, bent_quad, try_line_quad, onward, try_all}
 use Rattle.optimize.specs.Optimize.{splits, search, solved, last_break, optimize_of}
+use Rattle.measure.specs.declared.Measure as M
 
 pub record Attempt : Type 0 where
   pub from : ℕ
@@ -27,9 +27,9 @@ module _ (measure : Measure) (breaks : Row) (penalty : Float) where
   scored_if true a = a ∷ []
   scored_if false a = []
 
-  abbrev pub scored : Measured → Bool → ℕ → ℕ → Quad → List Best → List Attempt
-  scored Measured.Missing bend i j q st = []
-  scored (Measured.At m) bend i j q st =
+  abbrev pub scored : Option M.Measure → Bool → ℕ → ℕ → Quad → List Best → List Attempt
+  scored None bend i j q st = []
+  scored (Some m) bend i j q st =
       scored_if (may_build i (best_at st i)) (record { from = i; to = j; bent = bend; score = total_of (best_at st i) q m.error penalty })
 
   abbrev pub scored_where : Bool → Bool → ℕ → ℕ → Quad → List Best → List Attempt
@@ -41,9 +41,9 @@ module _ (measure : Measure) (breaks : Row) (penalty : Float) where
   abbrev pub straightly : ℕ → ℕ → List Best → List Attempt
   straightly i j st = scored_where (is_whole (xy measure breaks penalty i)) false i j (line_quad (xy measure breaks penalty i) (xy measure breaks penalty j)) st
 
-  abbrev pub bently_at : Crossing → ℕ → ℕ → List Best → List Attempt
-  bently_at Crossing.Nowhere i j st = []
-  bently_at (Crossing.At p) i j st =
+  abbrev pub bently_at : Option Point → ℕ → ℕ → List Best → List Attempt
+  bently_at None i j st = []
+  bently_at (Some p) i j st =
       let q = bent_quad measure breaks penalty i j p in
       scored_where (ok_for_half (best_at st i) q) true i j q st
 

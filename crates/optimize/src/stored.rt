@@ -10,11 +10,7 @@ pub fn clear(links: &mut [u32], n: usize)
     requires { n ≤ length links.old }
     ensures { links.new ≡ replicate n 0 ++ drop n links.old }
 {
-    let mut i = 0;
-    while i < n {
-        links[i] = 0;
-        i += 1;
-    }
+    links[..n].fill(0);
 }
 
 // The stored answer that stands at break b.

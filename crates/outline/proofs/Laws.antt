@@ -1,16 +1,9 @@
 -- One turn of each loop, as the code takes it. Assumes nothing.
-use Prim.Native.Nat.{ℕ, suc, ◌+◌, ◌-◌, ◌≤◌, ◌<◌}
-use mathlib.Core.Bool.{true, false}
-use mathlib.Core.List.{List}
-use mathlib.Core.Path.{◌≡◌, refl}
-use native.Mathlib.Numerals.{add-one}
-use native.Mathlib.Omega.{arith}
-use borrow.Author.Tests.{lt-ltb, le-ltb}
-use lib.IntN.{pos}
+use Rattle.std.proofs.Common.{ℕ, suc, ◌+◌, ◌-◌, ◌≤◌, ◌<◌, Bool, true, false, cond, List, length, drop, ◌≡◌, refl, sym, add-one, arith, lt-ltb, le-ltb, pos, count_by, drop-cons, drop_of_length-le}
 use lib.Ieee.{binary64, of_bits, of_int}
-use lib.ListN.{length, drop, drop_of_length-le}
-use lib.Seq.{drop-cons}
-use Rattle.outline.specs.Segments.{on_at, count_of, next_of}
+use Rattle.std.proofs.lemmas.List.Recursion.{is_count_by}
+use Rattle.refusals.specs.Refusals.{is_on}
+use Rattle.outline.specs.Segments.{on_at, count_of, one_more, next_of}
 
 -- 0 as a float, past the end of a row
 pub zero_is : of_bits binary64 0 ≡ of_int binary64 (pos 0)
@@ -30,6 +23,15 @@ module _ (fs : List ℕ) (i : ℕ) where
   pub count_end : length fs ≤ i → count_of (drop i fs) ≡ 0
   unfolding count_of
   count_end h = rw (drop_of_length-le fs h)
+
+-- that many of them pass the test
+one_more_is : (b : Bool) (n : ℕ) → one_more b n ≡ cond b (1 + n) n
+one_more_is true n = omega arith
+one_more_is false n = refl
+
+pub count_is : (fs : List ℕ) → count_by is_on fs ≡ count_of fs
+unfolding count_of
+count_is fs = sym (is_count_by count_of is_on refl (λ f rest. one_more_is (is_on f) (count_of rest)) fs)
 
 -- the next place, as `next` tests it
 module _ (i n : ℕ) where

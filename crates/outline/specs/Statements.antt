@@ -1,7 +1,6 @@
 -- What a reader should know of segments, as a type; the theorem `read_by_opentype` of proofs/Outline is of it. Statements only.
-use Rattle.std.specs.Prelude.{ℕ, ◌+◌, ◌<◌, List, ◌≡◌, ℤ, length, get_or}
+use Rattle.std.specs.Prelude.{ℕ, ◌+◌, ◌<◌, List, ◌≡◌, ℤ, length, get_or, Ok}
 use Rattle.refusals.specs.Refusals.{judged}
-use Rattle.refusals.specs.declared.Judged.TheVariants.{Fine}
 use Rattle.outline.specs.declared.Seg.{Seg}
 use Rattle.outline.specs.Segments.{count_of, seg_at}
 use Rattle.outline.specs.OpenType.{points, outline}
@@ -14,4 +13,4 @@ pub record ReadByOpenType (xs ys : List ℤ) (fs : List ℕ) : Type 0 where
 
 -- of every contour that refusals 1 to 5 let through
 abbrev pub SegmentsAreOpenTypes : Type 0
-SegmentsAreOpenTypes = (xs ys : List ℤ) (fs : List ℕ) → judged xs ys fs ≡ Fine → ReadByOpenType xs ys fs
+SegmentsAreOpenTypes = (xs ys : List ℤ) (fs : List ℕ) → judged xs ys fs ≡ Ok tt → ReadByOpenType xs ys fs

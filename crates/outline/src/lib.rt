@@ -8,7 +8,7 @@ ghost use Rattle.outline.specs.Segments.{is_quad_of, chord_of, leaving_of, arriv
 
 use geometry::Point;
 
-#[derive(Clone, Copy)]
+#[derive(Clone, Copy, Debug, PartialEq)]
 pub enum Seg {
     Line(f64, f64, f64, f64),
     Quad(f64, f64, f64, f64, f64, f64),
@@ -24,26 +24,14 @@ fn coordinate(row: &[i16], i: usize) -> f64
 fn on_at(flags: &[u8], i: usize) -> bool
     ensures { result ≡ on_at flags.now i }
 {
-    if i < flags.len() {
-        refusals::is_on(flags[i])
-    } else {
-        false
-    }
+    i < flags.len() && refusals::is_on(flags[i])
 }
 
 // How many segments: each on-curve point starts one.
 pub fn count(flags: &[u8]) -> usize
     ensures { result ≡ count_of flags.now }
 {
-    let mut k = 0;
-    let mut i = 0;
-    while i < flags.len() {
-        if refusals::is_on(flags[i]) {
-            k += 1;
-        }
-        i += 1;
-    }
-    k
+    flags.iter().filter(|flag| refusals::is_on(**flag)).count()
 }
 
 // The next of n places, going round.
@@ -70,10 +58,8 @@ pub fn place_after(flags: &[u8], a: usize, k: usize) -> usize
     ensures { result ≡ place_after flags.now a k }
 {
     let mut place = a;
-    let mut i = 0;
-    while i < k {
+    for _i in 0..k {
         place = end_of(flags, place);
-        i += 1;
     }
     place
 }
@@ -125,10 +111,7 @@ impl Seg {
     pub fn is_quad(self) -> bool
         ensures { result ≡ is_quad_of self }
     {
-        match self {
-            Seg::Line(_, _, _, _) => false,
-            Seg::Quad(_, _, _, _, _, _) => true,
-        }
+        matches!(self, Seg::Quad(..))
     }
 
     // The step from start to end.

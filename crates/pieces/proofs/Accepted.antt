@@ -1,5 +1,6 @@
 -- Demand 3, of the optimiser's own answers: the pieces of the answer that it ends with are a valid chain for the run, and its score is the sum that
 -- the checker works out: specs/Statements. Assumes nothing.
+use Rattle.std.specs.Prelude.{Option, Some, None}
 use Prim.Native.Nat.{ℕ, zero, suc, ◌-◌, ◌<◌}
 use native.Mathlib.Omega.{arith}
 use native.Mathlib.Decide.{dec_lt}
@@ -16,14 +17,10 @@ use Rattle.geometry.specs.declared.Break.{Break}
 use Rattle.geometry.specs.declared.Quad.{Quad}
 use Rattle.measure.specs.Measure.{measure_of}
 use Rattle.measure.specs.declared.Measure as M
-use Rattle.measure.specs.declared.Measured.{Measured}
 use Rattle.quickmeasure.proofs.Still.{still}
 use Rattle.breaks.specs.Breaks.{Row, break_at}
-use Rattle.chain.specs.declared.Before.TheVariants.{Start}
 use Rattle.chain.specs.declared.Piece as C
-use Rattle.chain.specs.declared.Summed.{Summed}
-use Rattle.chain.specs.declared.Checked.TheVariants as Checked
-use Rattle.chain.specs.Valid.{valid_piece, leads, joined, valid_from, good_shape, sum_from, yes_if, judged_by, verdict, checked_chain}
+use Rattle.chain.specs.Valid.{valid_piece, leads, joined, valid_from, good_shape, sum_from, judged_by, verdict, checked_chain}
 use Rattle.chain.specs.Laws.{equals_same}
 use Rattle.attempt.specs.Answers.{Statelet, first, score_of, leg_of, Best, none, total_of}
 use Rattle.optimize.specs.Optimize.{Measure, measure_by, States, states, Optimised, refused8, unchanged, solved, pairs_after_splits, pairs_after_search, ended, chosen_if, go_on, searched, splitted, tried, optimize_of}
@@ -34,6 +31,7 @@ use Rattle.pieces.specs.Pieces.{as_piece, pieces_of}
 use Rattle.pieces.specs.Statements.{EveryAnswerAccepted}
 use Rattle.pieces.proofs.Chained.{Good, Chained, chained}
 use Rattle.pieces.proofs.Phases.{totals, middle, line_valid, GoodAt, nothing, stands, All, Fair, stops, goes_on, pair_fair, all_fair, splits_rise, search_rise}
+use Rattle.std.specs.Prelude.{Option, Some, None}
 
 -- ---- a test that is passed
 passed : (t : Bool) → T t → t ≡ true
@@ -57,19 +55,19 @@ module _ (samples : List (List Float)) (breaks : Row) (penalty : Float) where
   measure = measure_by samples breaks
 
   abbrev Yes : Statelet → Type 0
-  Yes a = checked_chain samples breaks penalty (pieces_of a) (score_of a) ≡ Checked.Yes
+  Yes a = checked_chain samples breaks penalty (pieces_of a) (score_of a) ≡ Some true
 
   -- a good answer that ends at the last break
   abbrev AtLast : Statelet → Type 0
   AtLast a = Good samples breaks penalty a × ((leg_of a).to ≡ length breaks - 1)
 
   -- ---- what the checker says of a chain with a good shape and the score that it sums up to
-  says_yes : (ps : List C.Piece) (s : Float) → T (good_shape breaks ps) → sum_from samples breaks penalty Start (Summed.At nought) ps ≡ Summed.At s → checked_chain samples breaks penalty ps s ≡ Checked.Yes
+  says_yes : (ps : List C.Piece) (s : Float) → T (good_shape breaks ps) → sum_from samples breaks penalty None (Some nought) ps ≡ Some s → checked_chain samples breaks penalty ps s ≡ Some true
   unfolding checked_chain
   says_yes ps s shape sum =
       ap (λ (t : Bool). verdict samples breaks penalty t ps s) (passed (good_shape breaks ps) shape)
-      ∙ ap (λ (t : Summed). judged_by samples breaks penalty t s) sum
-      ∙ ap (yes_if samples breaks penalty) (equals_same s)
+      ∙ ap (λ (t : Option Float). judged_by samples breaks penalty t s) sum
+      ∙ ap Some (equals_same s)
 
   joined_up : (n : ℕ) (ps : List C.Piece) → 0 < n → T (leads n 0 ps) → T (joined n ps)
   joined_up zero ps some t = absurd (omega arith)
@@ -78,7 +76,7 @@ module _ (samples : List (List Float)) (breaks : Row) (penalty : Float) where
   shaped : (a : Statelet) (ps : List C.Piece) → 1 < length breaks → (leg_of a).to ≡ length breaks - 1 → Chained samples breaks penalty a ps → T (good_shape breaks ps)
   unfolding good_shape
   shaped a ps many e c =
-      and_i (joined (length breaks - 1) ps) (valid_from breaks Start ps)
+      and_i (joined (length breaks - 1) ps) (valid_from breaks None ps)
       (joined_up (length breaks - 1) ps (omega arith) (subst (λ (n : ℕ). T (leads n 0 ps)) e c.leading)) c.valid
 
   -- ---- what the optimiser ends with, in a run with two breaks or more
@@ -119,7 +117,7 @@ module _ (samples : List (List Float)) (breaks : Row) (penalty : Float) where
     unfolding optimize_of
     many_sound = after_first (pair_fair samples breaks penalty 0 n (omega arith) (replicate (length breaks) none) (none_good (length breaks)))
 
-    pub accepted : (a : Statelet) (pairs : ℕ) → optimize_of measure breaks penalty ≡ solved a pairs → checked_chain samples breaks penalty (pieces_of a) (score_of a) ≡ Checked.Yes
+    pub accepted : (a : Statelet) (pairs : ℕ) → optimize_of measure breaks penalty ≡ solved a pairs → checked_chain samples breaks penalty (pieces_of a) (score_of a) ≡ Some true
     accepted a pairs e =
         let (good, end) = answered a pairs many_sound e in
         let c = chained samples breaks penalty good in
@@ -137,33 +135,33 @@ module _ (samples : List (List Float)) (breaks : Row) (penalty : Float) where
     unfolding good_shape valid_from
     stays_shaped whole =
         let zero-last : length breaks - 1 ≡ 0 = omega arith in
-        rw zero-last (and_i (valid_piece Start there there (middle there there)) true (line_valid there there Start whole) tt)
+        rw zero-last (and_i (valid_piece None there there (middle there there)) true (line_valid there there None whole) tt)
 
-    answer_yes : (m : M.Measure) → measure_of samples there.s there.s line ≡ Measured.At m → is_whole there.xy ≡ true →
+    answer_yes : (m : M.Measure) → measure_of samples there.s there.s line ≡ Some m → is_whole there.xy ≡ true →
         Yes (first (record { from = 0; to = 0; quad = line }) (total_of none line m.error penalty))
     unfolding pieces_of sum_from
     answer_yes m made whole = says_yes _ _ (stays_shaped whole) (totals penalty none line m made)
 
-    bent_sound : (m : M.Measure) → measure_of samples there.s there.s line ≡ Measured.At m → is_whole there.xy ≡ true → (ok : Bool) → (bend_in_place samples there).ok ≡ ok →
+    bent_sound : (m : M.Measure) → measure_of samples there.s there.s line ≡ Some m → is_whole there.xy ≡ true → (ok : Bool) → (bend_in_place samples there).ok ≡ ok →
         Sound Yes (optimize_of measure breaks penalty)
     bent_sound m made whole true ok = rw (one_solved samples breaks penalty one whole m made (still samples there.s there.s there.xy fits-x fits-y whole m made) ok) (solves (answer_yes m made whole))
     bent_sound m made whole false bad = rw (one_bent_refused samples breaks penalty one whole m made (still samples there.s there.s there.xy fits-x fits-y whole m made) bad) refuses
 
-    line_sound : is_whole there.xy ≡ true → (w : Measured) → measure_of samples there.s there.s line ≡ w → Sound Yes (optimize_of measure breaks penalty)
-    line_sound whole Measured.Missing made = rw (one_refused samples breaks penalty one whole made) refuses
-    line_sound whole (Measured.At m) made = bent_sound m made whole (bend_in_place samples there).ok refl
+    line_sound : is_whole there.xy ≡ true → (w : Option M.Measure) → measure_of samples there.s there.s line ≡ w → Sound Yes (optimize_of measure breaks penalty)
+    line_sound whole None made = rw (one_refused samples breaks penalty one whole made) refuses
+    line_sound whole (Some m) made = bent_sound m made whole (bend_in_place samples there).ok refl
 
     one_sound : (whole : Bool) → is_whole there.xy ≡ whole → Sound Yes (optimize_of measure breaks penalty)
     one_sound true e = line_sound e (measure_of samples there.s there.s line) refl
     one_sound false e = rw (off_whole samples breaks penalty one e) leaves
 
-    pub accepted_one : (a : Statelet) (pairs : ℕ) → optimize_of measure breaks penalty ≡ solved a pairs → checked_chain samples breaks penalty (pieces_of a) (score_of a) ≡ Checked.Yes
+    pub accepted_one : (a : Statelet) (pairs : ℕ) → optimize_of measure breaks penalty ≡ solved a pairs → checked_chain samples breaks penalty (pieces_of a) (score_of a) ≡ Some true
     accepted_one a pairs e = answered a pairs (one_sound (is_whole there.xy) refl) e
 
   -- ---- any run
   pub accepted_any : EveryAnswerAccepted samples breaks penalty
   accepted_any some fits-x fits-y a pairs e = by (dec_lt 1 (length breaks))
     where
-      by : Dec (1 < length breaks) → checked_chain samples breaks penalty (pieces_of a) (score_of a) ≡ Checked.Yes
+      by : Dec (1 < length breaks) → checked_chain samples breaks penalty (pieces_of a) (score_of a) ≡ Some true
       by (yes many) = accepted many a pairs e
       by (no few) = accepted_one (omega arith) fits-x fits-y a pairs e

@@ -1,4 +1,5 @@
 -- The quads of an answer are its pieces drawn between their breaks: `QuadsAreDrawn` of specs/Statements. Assumes nothing.
+use Rattle.std.specs.Prelude.{Option, Some, None}
 use Prim.Native.Nat.{ℕ}
 use mathlib.Core.Bool.{Bool, true, false}
 use mathlib.Core.List.{List, [], ◌∷◌, ◌++◌, map}
@@ -6,9 +7,8 @@ use mathlib.Core.Path.{◌≡◌, refl, ap, ◌∙◌, subst}
 use lib.Ieee.{Float}
 use lib.ListN.{length}
 use Rattle.geometry.specs.Geometry.{is_whole, line_quad, intersect_of}
+use Rattle.geometry.specs.declared.Point.{Point}
 use Rattle.geometry.specs.declared.Quad.{Quad}
-use Rattle.geometry.specs.declared.Crossing.{Crossing}
-use Rattle.measure.specs.declared.Measured.{Measured}
 use Rattle.breaks.specs.Breaks.{Row, break_at}
 use Rattle.chain.specs.Valid.{piece_quad}
 use Rattle.attempt.specs.Answers.{Leg, Statelet, first, on, Best, none, best, ok_for_half, built_on, is_less, may_build, combined_if, combined}
@@ -17,6 +17,8 @@ use Rattle.optimize.proofs.Walk.{set_each, none_yet, After, stops, holds, answer
 use Rattle.pieces.specs.Pieces.{as_piece, pieces_of}
 use Rattle.pieces.specs.Slots.{quads_of}
 use Rattle.pieces.specs.Statements.{QuadsAreDrawn}
+use Rattle.measure.specs.declared.Measure as M
+use Rattle.std.specs.Prelude.{Option, Some, None}
 
 map_on : {A B : Type 0} (f : A → B) (l : List A) (a : A) → map f l ++ (f a ∷ []) ≡ map f (l ++ (a ∷ []))
 map_on f [] a = refl
@@ -43,11 +45,11 @@ module _ (measure : Measure) (breaks : Row) (penalty : Float) where
   combined_drawn true false old t p s e c d h = rw e c
 
   -- one attempt
-  measured_drawn : (w : Measured) (i j : ℕ) (q : Quad) (st : List Best) → AllDrawn st → q ≡ piece_quad breaks (as_piece (record { from = i; to = j; quad = q })) →
+  measured_drawn : (w : Option M.Measure) (i j : ℕ) (q : Quad) (st : List Best) → AllDrawn st → q ≡ piece_quad breaks (as_piece (record { from = i; to = j; quad = q })) →
       After AllDrawn (measured measure breaks penalty w i j q st)
   unfolding combined
-  measured_drawn Measured.Missing i j q st all e = stops
-  measured_drawn (Measured.At m) i j q st all e =
+  measured_drawn None i j q st all e = stops
+  measured_drawn (Some m) i j q st all e =
       holds (set_each (λ (b : ℕ) (t : Best). Drawn t) st j _ all (combined_drawn (may_build i (best_at st i)) _ (best_at st j) (best_at st i) (record { from = i; to = j; quad = q }) _ refl (all j) (all i) e))
 
   try_drawn : (b : Bool) (i j : ℕ) (q : Quad) (st : List Best) → AllDrawn st → q ≡ piece_quad breaks (as_piece (record { from = i; to = j; quad = q })) →
@@ -57,9 +59,9 @@ module _ (measure : Measure) (breaks : Row) (penalty : Float) where
   try_drawn false i j q st all e = holds all
 
   -- one pair
-  bent_drawn : (x : Crossing) (i j : ℕ) (st : List Best) → AllDrawn st → After AllDrawn (bent_at measure breaks penalty x i j st)
-  bent_drawn Crossing.Nowhere i j st all = holds all
-  bent_drawn (Crossing.At p) i j st all = let q = bent_quad measure breaks penalty i j p in try_drawn (ok_for_half (best_at st i) q) i j q st all refl
+  bent_drawn : (x : Option Point) (i j : ℕ) (st : List Best) → AllDrawn st → After AllDrawn (bent_at measure breaks penalty x i j st)
+  bent_drawn None i j st all = holds all
+  bent_drawn (Some p) i j st all = let q = bent_quad measure breaks penalty i j p in try_drawn (ok_for_half (best_at st i) q) i j q st all refl
 
   then_drawn : (i j : ℕ) {s : States} → After AllDrawn s → After AllDrawn (then_bent measure breaks penalty i j s)
   unfolding bent

@@ -1,5 +1,6 @@
 -- Every answer that stands at a break, in any phase, is a valid chain to that break: an attempt keeps it so, and the phases are attempts.
 -- Assumes nothing.
+use Rattle.std.specs.Prelude.{Option, Some, None}
 use Prim.Native.Nat.{ℕ, zero, suc, ◌+◌, ◌≤◌, ◌<◌}
 use native.Mathlib.Omega.{arith}
 use mathlib.Core.Bool.{Bool, true, false, ◌&&◌, ◌||◌}
@@ -12,27 +13,23 @@ use lib.Ieee.Fits.{and_i}
 use Rattle.float.specs.Numbers.{half}
 use Rattle.geometry.specs.Geometry.{is_line, is_whole, line_quad, lerp_of, round_point_of, intersect_of}
 use Rattle.geometry.specs.declared.Break.{Break}
-use Rattle.geometry.specs.declared.Crossing.{Crossing}
 use Rattle.geometry.specs.declared.Point.{Point}
 use Rattle.geometry.specs.declared.Quad.{Quad}
 use Rattle.measure.specs.declared.Measure as M
-use Rattle.measure.specs.declared.Measured.{Measured}
 use Rattle.breaks.specs.Breaks.{Row, break_at}
 use Rattle.chain.specs.Valid as Valid
 use Rattle.chain.specs.Valid.{equal_points, drawn, curved, follows_curve, valid_piece, added}
 use Rattle.chain.specs.Laws.{equals_same}
-use Rattle.chain.specs.declared.Before.{Before}
-use Rattle.chain.specs.declared.Before.TheVariants.{Start, After}
-use Rattle.chain.specs.declared.Summed.TheVariants as Summed
 use Rattle.attempt.specs.Answers.{Leg, Statelet, first, on, leg_of, Best, none, best, smooth_after, ok_for_half, one_or_two, joint_of, previous_score, total_of, is_less, replaced_if, may_build, combined_if, combined}
 use Rattle.optimize.specs.Optimize.{Measure, measure_by, best_at, States, refused, states, measured, try_quad, try_if, bent_quad, bent_at, bent, then_bent, try_line_quad, onward, try_all, splits_from, falling, search_from}
 use Rattle.optimize.proofs.Walk.{set_each}
 use Rattle.pieces.proofs.Chained.{Fine, Good, starts, goes}
+use Rattle.std.specs.Prelude.{Option, Some, None}
 
 -- ---- what stands at a break, as a chain has it before a piece from there
-abbrev pub before_of : Best → Before
-before_of none = Start
-before_of (best a) = After (leg_of a).quad
+abbrev pub before_of : Best → Option Quad
+before_of none = None
+before_of (best a) = Some (leg_of a).quad
 
 follows : (t : Best) (q : Quad) → follows_curve (before_of t) q ≡ smooth_after t q
 follows none q = refl
@@ -46,11 +43,11 @@ same_joint : (t : Best) (q : Quad) → Valid.joint_of (before_of t) q ≡ joint_
 same_joint t q = ap (λ (c : Bool). Valid.one_or_two (is_line q || c)) (follows t q) ∙ one_or_two_lem (is_line q || smooth_after t q)
 
 -- a piece with the measure m adds to the chain's sum as it does to the score
-pub totals : (penalty : Float) (t : Best) (q : Quad) (m : M.Measure) {w : Measured} → w ≡ Measured.At m →
-    added penalty (before_of t) q (Summed.At (previous_score t)) w ≡ Summed.At (total_of t q m.error penalty)
+pub totals : (penalty : Float) (t : Best) (q : Quad) (m : M.Measure) {w : Option M.Measure} → w ≡ Some m →
+    added penalty (before_of t) q (Some (previous_score t)) w ≡ Some (total_of t q m.error penalty)
 totals penalty t q m made =
-    ap (added penalty (before_of t) q (Summed.At (previous_score t))) made
-    ∙ ap (λ (k : Float). Summed.At (add binary64 (add binary64 (previous_score t) (mul binary64 penalty k)) m.error)) (same_joint t q)
+    ap (added penalty (before_of t) q (Some (previous_score t))) made
+    ∙ ap (λ (k : Float). (Some (add binary64 (add binary64 (previous_score t) (mul binary64 penalty k)) m.error))) (same_joint t q)
 
 -- ---- a piece that is tried is valid
 points_same : (p : Point) → T (equal_points p p)
@@ -69,12 +66,12 @@ module _ (a b : Break) where
   abbrev pub middle : Point
   middle = lerp_of a.xy b.xy half
 
-  pub line_valid : (before : Before) → is_whole a.xy ≡ true → T (valid_piece before a b middle)
+  pub line_valid : (before : Option Quad) → is_whole a.xy ≡ true → T (valid_piece before a b middle)
   unfolding valid_piece
   line_valid before whole = rw whole (and_i (Valid.straight a b middle || Valid.bent a b middle) true (or_l (Valid.straight a b middle) (Valid.bent a b middle) (points_same middle)) tt)
 
   -- bent, at the rounded crossing, where it is allowed
-  module _ (p : Point) (e : intersect_of a.xy a.dir b.xy b.dir ≡ Crossing.At p) where
+  module _ (p : Point) (e : intersect_of a.xy a.dir b.xy b.dir ≡ Some p) where
     abbrev control : Point
     control = round_point_of p
 
@@ -127,21 +124,21 @@ module _ (samples : List (List Float)) (breaks : Row) (penalty : Float) where
     abbrev to : Break
     to = break_at breaks j
 
-    abbrev stands_there : Before
+    abbrev stands_there : Option Quad
     stands_there = before_of (best_at st i)
 
     module _ (c : Point) (valid : T (valid_piece stands_there from to c)) where
       abbrev quad : Quad
       quad = drawn from to c
 
-      fine : (m : M.Measure) → measure i j quad ≡ Measured.At m →
+      fine : (m : M.Measure) → measure i j quad ≡ Some m →
           Fine samples breaks penalty stands_there (previous_score (best_at st i)) (record { from = i; to = j; quad = quad }) (total_of (best_at st i) quad m.error penalty)
       fine m made = record { rising = rising; between = refl; valid = valid; adds = totals penalty (best_at st i) quad m made }
 
-      measured_fair : (w : Measured) → measure i j quad ≡ w → Fair (measured measure breaks penalty w i j quad st)
+      measured_fair : (w : Option M.Measure) → measure i j quad ≡ w → Fair (measured measure breaks penalty w i j quad st)
       unfolding combined
-      measured_fair Measured.Missing e = stops
-      measured_fair (Measured.At m) e =
+      measured_fair None e = stops
+      measured_fair (Some m) e =
           goes_on (set_keeps st j _ all (combines (record { from = i; to = j; quad = quad }) (total_of (best_at st i) quad m.error penalty) (best_at st j) (all j) i refl (all i) (fine m e)))
 
       quad_fair : Fair (try_quad measure breaks penalty i j quad st)
@@ -152,14 +149,14 @@ module _ (samples : List (List Float)) (breaks : Row) (penalty : Float) where
     line_if true e = quad_fair (middle from to) (line_valid from to stands_there e)
     line_if false e = goes_on all
 
-    bent_if : (p : Point) → intersect_of from.xy from.dir to.xy to.dir ≡ Crossing.At p → (ok : Bool) → ok_for_half (best_at st i) (bent_quad measure breaks penalty i j p) ≡ ok →
+    bent_if : (p : Point) → intersect_of from.xy from.dir to.xy to.dir ≡ Some p → (ok : Bool) → ok_for_half (best_at st i) (bent_quad measure breaks penalty i j p) ≡ ok →
         Fair (try_if measure breaks penalty ok i j (bent_quad measure breaks penalty i j p) st)
     bent_if p e true ok = quad_fair (round_point_of p) (bent_valid from to p e (best_at st i) ok)
     bent_if p e false ok = goes_on all
 
-    crossed : (x : Crossing) → intersect_of from.xy from.dir to.xy to.dir ≡ x → Fair (bent_at measure breaks penalty x i j st)
-    crossed Crossing.Nowhere e = goes_on all
-    crossed (Crossing.At p) e = bent_if p e (ok_for_half (best_at st i) (bent_quad measure breaks penalty i j p)) refl
+    crossed : (x : Option Point) → intersect_of from.xy from.dir to.xy to.dir ≡ x → Fair (bent_at measure breaks penalty x i j st)
+    crossed None e = goes_on all
+    crossed (Some p) e = bent_if p e (ok_for_half (best_at st i) (bent_quad measure breaks penalty i j p)) refl
 
     bent_fair : Fair (bent measure breaks penalty i j st)
     unfolding bent

@@ -1,4 +1,5 @@
 -- A whole chain: the numbers of its stored answers stand at the end of a row, of 4096 where it is put. Assumes nothing.
+use Rattle.std.specs.Prelude.{Some, None}
 use Prim.Native.Nat.{ℕ, min, ◌-◌, ◌≤◌, ◌<◌}
 use native.Mathlib.Omega.{arith}
 use mathlib.Core.Bool.{Bool}
@@ -10,7 +11,6 @@ use lib.ListN.{length, drop, length-map, length-drop}
 use Rattle.breaks.specs.Breaks.{Row}
 use Rattle.attempt.specs.Answers.{Statelet, first, on}
 use Rattle.optimize.specs.Stored.{Anywhere, Holds}
-use Rattle.pieces.specs.declared.Put.TheVariants as Put
 use Rattle.pieces.specs.Pieces.{pieces_of}
 use Rattle.pieces.specs.Slots.{Falls, slots_of, piece_of, stored_quad, quads_of, Chain, chain, chained, left, room_of, put_if, put_of, Within, Legible, Each, Stored, Held}
 use Rattle.pieces.proofs.Slots.{falls, pieces_are, quads_are, last_legible, all_legible}
@@ -53,13 +53,13 @@ module _ (slots : List ℕ) (r : ℕ) {answers : List (List Float)} {links : Lis
     count = sym (ap length pieces_there) ∙ length-map (drop r slots) (piece_of answers links) ∙ length-drop r slots
 
     module _ (most : ℕ) (c : Chain) {room : ℕ} (room_is : room ≡ min most (room_of c)) (long : length slots ≡ 4096) where
-      pub put_over : room < 4096 - r → put_of most (pieces_of a) c ≡ left Put.Over c
+      pub put_over : room < 4096 - r → put_of most (pieces_of a) c ≡ left None c
       unfolding put_of
       put_over less =
           let more : min most (room_of c) < length (pieces_of a) = omega (arith, count) in
           ap (λ (b : Bool). put_if b (pieces_of a) c) (lt-ltb (min most (room_of c)) (length (pieces_of a)) more)
 
-      pub put_in : {d : Chain} → 4096 - r ≤ room → d ≡ chained (map (piece_of answers links) (drop r slots)) c → put_of most (pieces_of a) c ≡ left (Put.Pieces (4096 - r)) d
+      pub put_in : {d : Chain} → 4096 - r ≤ room → d ≡ chained (map (piece_of answers links) (drop r slots)) c → put_of most (pieces_of a) c ≡ left (Some (4096 - r)) d
       unfolding put_of
       put_in {d} fits e =
           let enough : length (pieces_of a) ≤ min most (room_of c) = omega (arith, count) in

@@ -1,4 +1,5 @@
 -- The pieces of the answer that the optimiser ends with start and end at breaks of the run: the checker says yes to them. Assumes nothing.
+use Rattle.std.specs.Prelude.{Some, None}
 use Prim.Native.Nat.{ℕ, zero, suc, ◌-◌, ◌≤◌, ◌<◌}
 use native.Mathlib.Omega.{arith}
 use mathlib.Core.Bool.{Bool, true, false}
@@ -10,8 +11,6 @@ use lib.Ieee.Fits.{and_l, and_r}
 use lib.ListN.{length}
 use Rattle.breaks.specs.Breaks.{Row, break_at}
 use Rattle.chain.specs.declared.Piece as C
-use Rattle.chain.specs.declared.Before.TheVariants.{Start}
-use Rattle.chain.specs.declared.Checked.TheVariants as Checked
 use Rattle.chain.specs.Valid.{leads, stays, joined, valid_from, good_shape, verdict, checked_chain}
 use Rattle.attempt.specs.Answers.{Statelet, first, on, score_of}
 use Rattle.optimize.specs.Optimize.{measure_by, solved, optimize_of}
@@ -65,20 +64,20 @@ inner_within n m (on a p s) h e =
 
 module _ (samples : List (List Float)) (breaks : Row) (penalty : Float) where
   -- a chain that the checker says yes to has a good shape
-  shape_good : (ps : List C.Piece) (score : Float) → checked_chain samples breaks penalty ps score ≡ Checked.Yes → T (good_shape breaks ps)
+  shape_good : (ps : List C.Piece) (score : Float) → checked_chain samples breaks penalty ps score ≡ Some true → T (good_shape breaks ps)
   unfolding checked_chain
   shape_good ps score e = by (good_shape breaks ps) e
     where
-      by : (t : Bool) → verdict samples breaks penalty t ps score ≡ Checked.Yes → T t
+      by : (t : Bool) → verdict samples breaks penalty t ps score ≡ Some true → T t
       by true e = tt
-      by false e = let z : ◌≡◌ {A = ℕ} 0 1 = cc in absurd (omega arith)
+      by false e = absurd cc
 
-  yes_within : 0 < length breaks → (a : Statelet) (score : Float) → checked_chain samples breaks penalty (pieces_of a) score ≡ Checked.Yes → Within (length breaks) a
+  yes_within : 0 < length breaks → (a : Statelet) (score : Float) → checked_chain samples breaks penalty (pieces_of a) score ≡ Some true → Within (length breaks) a
   unfolding good_shape
   yes_within some a score e =
       inner_within (length breaks - 1) (length breaks) a (omega arith)
       (joined_inner (length breaks - 1) (pieces_of a)
-      (and_l (joined (length breaks - 1) (pieces_of a)) (valid_from breaks Start (pieces_of a)) (shape_good (pieces_of a) score e)))
+      (and_l (joined (length breaks - 1) (pieces_of a)) (valid_from breaks None (pieces_of a)) (shape_good (pieces_of a) score e)))
 
   pub solved_within : 0 < length breaks → T (fits binary64 (break_at breaks 0).xy.x) → T (fits binary64 (break_at breaks 0).xy.y) → (a : Statelet) (pairs : ℕ) →
       optimize_of (measure_by samples breaks) breaks penalty ≡ solved a pairs → Within (length breaks) a

@@ -1,5 +1,5 @@
 -- The pieces of a stored answer, found by its links. Definitions only.
-use Rattle.std.specs.Prelude.{ℕ, zero, suc, min, ◌+◌, ◌-◌, ◌/◌, ◌<◌, ◌≤◌, Bool, true, false, List, [], ◌∷◌, ◌++◌, map, ◌≡◌, ltb, Float, length, get_or}
+use Rattle.std.specs.Prelude.{ℕ, zero, suc, min, ◌+◌, ◌-◌, ◌/◌, ◌<◌, ◌≤◌, Bool, true, false, List, [], ◌∷◌, ◌++◌, map, ◌≡◌, ltb, Float, length, get_or, Option, Some, None}
 use Rattle.std.specs.Float.{nan}
 use Rattle.breaks.specs.Breaks.{Row}
 use Rattle.geometry.specs.declared.Quad.{Quad}
@@ -7,8 +7,6 @@ use Rattle.contour.specs.Output.{front}
 use Rattle.chain.specs.declared.Piece.{Piece}
 use Rattle.attempt.specs.Answers.{Statelet}
 use Rattle.attempt.specs.Answers as A
-use Rattle.pieces.specs.declared.Put as P
-use Rattle.pieces.specs.declared.Put.TheVariants as Put
 use Rattle.optimize.specs.Stored.{Anywhere, Holds, from_break, quad_in}
 
 -- the links lead from stored answer k down to the start of the run
@@ -55,15 +53,15 @@ chained ps (chain starts ends xs ys) =
 
 -- what a chain leaves in the rows, with the answer of `put_chain`
 pub data Left : Type 0 where
-  left : P.Put → Chain → Left
+  left : Option ℕ → Chain → Left
 
 -- the shortest of the four rows
 abbrev pub room_of : Chain → ℕ
 room_of (chain starts ends xs ys) = min (min (length starts) (length ends)) (min (length xs) (length ys))
 
 abbrev pub put_if : Bool → List Piece → Chain → Left
-put_if true ps c = left Put.Over c
-put_if false ps c = left (Put.Pieces (length ps)) (chained ps c)
+put_if true ps c = left None c
+put_if false ps c = left (Some (length ps)) (chained ps c)
 
 -- all pieces, or none where they are more than `most` or the shortest row has no room for them
 unfoldable pub put_of : ℕ → List Piece → Chain → Left

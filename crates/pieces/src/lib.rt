@@ -65,27 +65,19 @@ fn put_pieces(
         ≡ chained (map (piece_of answers.now links.now) (drop first slots.now))
         (chain starts.old ends.old xs.old ys.old) }
 {
-    let mut i = first;
-    while i < slots.len() {
+    for i in first..slots.len() {
         let p = piece_of(answers, links, slots[i] as usize);
         let c = p.control;
         starts[i - first] = p.from as u32;
         ends[i - first] = p.to as u32;
         xs[i - first] = c.x;
         ys[i - first] = c.y;
-        i += 1;
     }
 }
 
-// How many pieces are written; or they are more than the shortest chain row: refusal 9.
-#[derive(Clone, Copy)]
-pub enum Put {
-    Over,
-    Pieces(usize),
-}
-
-// The chain of stored answer k, to the first places of the chain's rows. All or none of it is written, and
-// nothing where it has more than `most` pieces, which is the room of a row that is filled after these.
+// The chain of stored answer k, to the first places of the chain's rows: how many pieces are written. All or none of
+// it is, and nothing where it has more pieces than the shortest chain row, which is refusal 9, or more than `most`,
+// which is the room of a row that is filled after these.
 pub fn put_chain(
     answers: &[[f64; 3]],
     links: &[u32],
@@ -95,7 +87,7 @@ pub fn put_chain(
     ends: &mut [u32],
     xs: &mut [f64],
     ys: &mut [f64],
-) -> Put
+) -> Option<usize>
     requires { Held answers.now links.now k }
     ensures { (breaks : Row) (a : Statelet) → Holds Anywhere breaks answers.now links.now k a →
         put_of most (pieces_of a) (chain starts.old ends.old xs.old ys.old)
@@ -111,10 +103,10 @@ pub fn put_chain(
         ),
     );
     if room < 4096 - first {
-        return Put::Over;
+        return None;
     }
     put_pieces(answers, links, &slots, first, starts, ends, xs, ys);
-    Put::Pieces(4096 - first)
+    Some(4096 - first)
 }
 
 // The points of the pieces from place `first` of the slots on.
@@ -132,40 +124,19 @@ fn push_pieces(
         (pieces_points (map (stored_quad breaks.now answers.now links.now) (drop first slots.now))) }
 {
     let mut v = w;
-    let mut i = first;
-    while i < slots.len() {
+    for i in first..slots.len() {
         let k = slots[i] as usize;
         v = contour::push_piece(
             points,
             v,
             optimize::stored::quad_of(breaks, answers, k, links[k]),
         );
-        i += 1;
     }
     v
 }
 
-// What push_chain does, with a row lent for the numbers of the stored answers.
-fn push_slots(
-    breaks: &[[f64; 6]],
-    answers: &[[f64; 3]],
-    links: &[u32],
-    k: usize,
-    slots: &mut [u32],
-    points: &mut [[i16; 3]],
-    w: Written,
-) -> Written
-    requires { Stored breaks.now answers.now links.now k × (k < length slots.old) }
-    ensures { (a : Statelet) → Holds Anywhere breaks.now answers.now links.now k a →
-        Appended points.old w points.new result (pieces_points (quads_of a)) }
-{
-    let first = slots_to(links, k, slots);
-    push_pieces(breaks, answers, links, slots, first, points, w)
-}
-
-// What push_chain does near the start of a run. The numbers fall along the links, so a short row holds them all,
-// and the long one, which takes longer to zero than a short chain to write, is not made.
-fn push_short(
+// What push_chain does, by a row of N numbers of stored answers. They fall along the links, so that N is enough where k is less.
+fn push_slots<const N: usize>(
     breaks: &[[f64; 6]],
     answers: &[[f64; 3]],
     links: &[u32],
@@ -173,15 +144,17 @@ fn push_short(
     points: &mut [[i16; 3]],
     w: Written,
 ) -> Written
-    requires { Stored breaks.now answers.now links.now k × (k < 64) }
+    requires { Stored breaks.now answers.now links.now k × (k < N) × (N ≤ 4096) }
     ensures { (a : Statelet) → Holds Anywhere breaks.now answers.now links.now k a →
         Appended points.old w points.new result (pieces_points (quads_of a)) }
 {
-    let mut slots = [0; 64];
-    push_slots(breaks, answers, links, k, &mut slots, points, w)
+    let mut slots = [0; N];
+    let first = slots_to(links, k, &mut slots);
+    push_pieces(breaks, answers, links, &slots, first, points, w)
 }
 
-// The points of stored answer k, after those that are written.
+// The points of stored answer k, after those that are written. Near the start of a run a short row does: the long one takes longer to zero
+// than a short chain to write.
 pub fn push_chain(
     breaks: &[[f64; 6]],
     answers: &[[f64; 3]],
@@ -195,8 +168,7 @@ pub fn push_chain(
         Appended points.old w points.new result (pieces_points (quads_of a)) }
 {
     if k < 64 {
-        return push_short(breaks, answers, links, k, points, w);
+        return push_slots::<64>(breaks, answers, links, k, points, w);
     }
-    let mut slots = [0; 4096];
-    push_slots(breaks, answers, links, k, &mut slots, points, w)
+    push_slots::<4096>(breaks, answers, links, k, points, w)
 }

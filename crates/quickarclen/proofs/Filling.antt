@@ -1,12 +1,6 @@
 -- The loops of `fill_squares`, `fill_roots` and `lengths`: their invariants, and the 21 speeds. Assumes nothing.
-use Prim.Native.Nat.{ℕ, zero, suc, ◌+◌, ◌*◌, ◌/◌, ◌%◌, ◌≤◌, ◌<◌}
-use mathlib.Core.Path.{◌≡◌, refl, sym, ◌∙◌}
-use mathlib.Core.List.{List}
-use native.Mathlib.Numerals.{add-one}
-use native.Mathlib.Omega.{arith}
-use borrow.Author.Count.{below_more}
-use lib.ListN.{length, set, get_or, replicate, length-set, length-replicate, get_or-replicate}
-use lib.Seq.{get_or-set_same, get_or-set_other}
+use Rattle.std.proofs.Common.{ℕ, zero, suc, ◌+◌, ◌*◌, ◌/◌, ◌%◌, ◌<◌, ◌≡◌, refl, sym, ◌∙◌, List, add-one, arith, below_more, length, set, get_or, replicate, length-set, get_or-set_same, get_or-set_other}
+use lib.ListN.{length-replicate, get_or-replicate}
 use lib.Ieee.{Float, nan, binary64, add}
 use Rattle.float.specs.Float.{root_of}
 use Rattle.geometry.specs.Geometry.{square_norm_of}
@@ -71,27 +65,18 @@ two_more f h s w i t a b less time all ea eb =
     }
 
 -- ---- the roots: below k there are those of what w holds, after the first place
-pub record Rooting (w : List Float) (first : Float) (v : List Float) (k : ℕ) : Type 0 where
-  pub given : length w ≡ 20
-  pub most : k ≤ 20
-  pub done : Roots w first v k
+pub no_roots : {w v : List Float} → length v ≡ 21 → Roots w (get_or v 0 nan) v 0
+no_roots e = record { long = e; start = refl; is = λ j less. absurd (omega arith) }
 
-pub no_roots : {w v : List Float} → length w ≡ 20 → length v ≡ 21 → Rooting w (get_or v 0 nan) v 0
-no_roots d e = record { given = d; most = omega arith; done = record { long = e; start = refl; is = λ j less. absurd (omega arith) } }
-
-pub one_root : {w v : List Float} {first : Float} {k : ℕ} (a : Float) → Rooting w first v k → k < 20 → a ≡ root_of (get_or w k nan) →
-    Rooting w first (set v (k + 1) a) (k + 1)
+pub one_root : {w v : List Float} {first : Float} {k : ℕ} (a : Float) → Roots w first v k → k < 20 → a ≡ root_of (get_or w k nan) →
+    Roots w first (set v (k + 1) a) (k + 1)
 one_root {w} {v} {first} {k} a r less e =
     record {
-      given = r.given;
-      most = omega arith;
-      done = record {
-        long = simp length-set r.done.long;
-        start = get_or-set_other v (k + 1) 0 a nan (λ same. omega arith) ∙ r.done.start;
-        is =
-            below_more _ k (λ j low. get_or-set_other v (k + 1) (j + 1) a nan (λ same. omega arith) ∙ r.done.is j low)
-            (get_or-set_same v (k + 1) a nan (omega (arith, r.done.long)) ∙ e);
-      };
+      long = simp length-set r.long;
+      start = get_or-set_other v (k + 1) 0 a nan (λ same. omega arith) ∙ r.start;
+      is =
+          below_more _ k (λ j low. get_or-set_other v (k + 1) (j + 1) a nan (λ same. omega arith) ∙ r.is j low)
+          (get_or-set_same v (k + 1) a nan (omega (arith, r.long)) ∙ e);
     }
 
 -- ---- the speeds

@@ -6,7 +6,8 @@ use native.Mathlib.Omega.{arith}
 use lib.Ieee.{Float}
 use Rattle.float.specs.Numbers.{nought}
 use Rattle.geometry.specs.declared.Quad.{Quad}
-use Rattle.arclen.specs.Rk4.{at, Rates, rk4, walk}
+use Rattle.std.specs.Prelude.{Some}
+use Rattle.arclen.specs.Rk4.{Rates, rk4, walk}
 use Rattle.arclen.specs.Arclen.{tenth, arclen_functor_of, length_rates, arclen_of}
 use Rattle.arclen.specs.declared.ArclenFunctor.{ArclenFunctor}
 use Rattle.arclen.proofs.Laws.{goes, done, one_value}
@@ -15,7 +16,7 @@ use Rattle.quickarclen.specs.Stages.{time_at, length_at, stage_of, stage_at}
 -- n steps from the time 0, by the values z k after k steps
 module _ (f : Rates) (h : Float) (n : ℕ) (z : ℕ → List Float) where
   abbrev Reaches : ℕ → Type 0
-  Reaches i = (k : ℕ) → k < i → rk4 f h (time_at h k) (z k) ≡ at (z (suc k))
+  Reaches i = (k : ℕ) → k < i → rk4 f h (time_at h k) (z k) ≡ Some (z (suc k))
 
   pub reach : (i : ℕ) → i ≤ n → Reaches i → walk f h n nought (z 0) ≡ walk f h (n - i) (time_at h i) (z i)
   unfolding time_at
@@ -26,7 +27,7 @@ module _ (f : Rates) (h : Float) (n : ℕ) (z : ℕ → List Float) where
       let same : n - suc i ≡ n - (i + 1) = omega arith in
       reach i (omega arith) (λ k less. all k (omega arith)) ∙ rw same (goes f h (time_at h i) (z i) n i (omega arith) (all i (omega arith)))
 
-  pub all_steps : Reaches n → walk f h n nought (z 0) ≡ at (z n)
+  pub all_steps : Reaches n → walk f h n nought (z 0) ≡ Some (z n)
   all_steps all = reach n (omega arith) all ∙ done f h (time_at h n) (z n) n n (omega arith)
 
 -- ten steps give the length

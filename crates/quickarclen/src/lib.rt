@@ -27,10 +27,7 @@ fn unmoved(a: f64, b: f64) -> bool
 pub fn is_straight(f: ArclenFunctor) -> bool
     ensures { result ≡ true → Straight f }
 {
-    if unmoved(f.dx0, f.dx1) {
-        return unmoved(f.dy0, f.dy1);
-    }
-    false
+    unmoved(f.dx0, f.dx1) && unmoved(f.dy0, f.dy1)
 }
 
 // The square of the speed at t.
@@ -46,13 +43,11 @@ fn fill_squares(f: ArclenFunctor, h: f64, t: f64, w: &mut [f64; 20])
     ensures { Squares f h t w.new 20 }
 {
     let mut time = t;
-    let mut i = 0usize;
-    while i < 10 {
+    for i in 0..10 {
         let middle = square(f, time + h * 0.5);
-        time = time + h;
+        time += h;
         w[2 * i] = middle;
         w[2 * i + 1] = square(f, time);
-        i += 1;
     }
 }
 
@@ -61,10 +56,8 @@ fn fill_guesses(w: &[f64; 20], guesses: &mut [f64; 20])
     requires { (length w.now ≡ 20) × (length guesses.old ≡ 20) }
     ensures { length guesses.new ≡ 20 }
 {
-    let mut k = 0usize;
-    while k < 20 {
+    for k in 0..20 {
         guesses[k] = quickroot::likely(w[k]);
-        k += 1;
     }
 }
 
@@ -73,10 +66,8 @@ fn fill_roots(w: &[f64; 20], guesses: &[f64; 20], v: &mut [f64; 21])
     requires { (length w.now ≡ 20) × (length guesses.now ≡ 20) × (length v.old ≡ 21) }
     ensures { Roots w.now (get_or v.old 0 nan) v.new 20 }
 {
-    let mut k = 0usize;
-    while k < 20 {
+    for k in 0..20 {
         v[k + 1] = quickroot::root_by(w[k], guesses[k]);
-        k += 1;
     }
 }
 
@@ -116,11 +107,9 @@ pub fn lengths(h: f64, y: f64, v: &[f64; 21]) -> [f64; 11]
     ensures { Lengths h y v.now result 10 }
 {
     let mut at = [y; 11];
-    let mut i = 0usize;
-    while i < 10 {
+    for i in 0..10 {
         let middle = v[2 * i + 1];
         at[i + 1] = arclen::grown(h, at[i], v[2 * i], middle, middle, v[2 * i + 2]);
-        i += 1;
     }
     at
 }
@@ -130,10 +119,8 @@ pub fn later(h: f64, t: f64, n: usize) -> f64
     ensures { result ≡ time_from h t n }
 {
     let mut at = t;
-    let mut i = 0;
-    while i < n {
-        at = at + h;
-        i += 1;
+    for _i in 0..n {
+        at += h;
     }
     at
 }
@@ -161,11 +148,9 @@ fn walk_straight(f: ArclenFunctor, stages: &mut [[f64; 3]; 40]) -> f64
     let v = quickroot::root(square(f, 0.0));
     let mut t = 0.0;
     let mut y = 0.0;
-    let mut i = 0usize;
-    while i < 10 {
+    for i in 0..10 {
         y = write_step(i, t, y, v, v, v, stages);
-        t = t + h;
-        i += 1;
+        t += h;
     }
     y
 }
@@ -179,11 +164,9 @@ fn walk_bent(f: ArclenFunctor, stages: &mut [[f64; 3]; 40]) -> f64
     let v = speeds(f, h, 0.0);
     let mut t = 0.0;
     let mut y = 0.0;
-    let mut i = 0usize;
-    while i < 10 {
+    for i in 0..10 {
         y = write_step(i, t, y, v[2 * i], v[2 * i + 1], v[2 * i + 2], stages);
-        t = t + h;
-        i += 1;
+        t += h;
     }
     y
 }

@@ -1,19 +1,9 @@
--- The functions hold the squares of distances, where the definitions have the distances. Definitions only, for the contracts.
-use Rattle.std.specs.Prelude.{take}
+-- Distances are held by their squares, and so by roots that are not taken: no distance is held as 0. Assumes nothing.
+use Rattle.std.specs.Prelude.{◌≡◌, refl}
+use Rattle.std.specs.Float.Ieee.{of_bits}
+use Rattle.float.specs.Numbers.{nought}
 use Rattle.float.specs.Float.{root_of}
-use Rattle.breaks.specs.Breaks.{Row, Finding, so, full, last, past}
-use Rattle.breaks.specs.declared.Placed as P
-use Rattle.breaks.specs.declared.Placed.TheVariants as Placed
-use Rattle.breaks.specs.declared.Joined as J
-use Rattle.breaks.specs.declared.Joined.TheVariants as Joined
 
-abbrev pub rooted : P.Placed → P.Placed
-rooted (Placed.At b square) = Placed.At b (root_of square)
-rooted Placed.Missing = Placed.Missing
-rooted Placed.Past = Placed.Past
-
-abbrev pub rooted_in : Row → J.Joined → Finding
-rooted_in row (Joined.At p) = so (take p.count row) (root_of p.opened)
-rooted_in row Joined.Full = full
-rooted_in row Joined.Missing = last
-rooted_in row Joined.Past = past
+pub root_none : root_of nought ≡ nought
+unfolding root_of of_bits
+root_none = refl

@@ -16,13 +16,6 @@ pub struct Spot {
     pub dir: Point,
 }
 
-#[derive(Clone, Copy)]
-pub enum Looked {
-    At(Spot),
-    // At the last stored place: refusal 8.
-    Missing,
-}
-
 // The place of a sample.
 fn place(p: [f64; 4]) -> Point
     ensures { result ≡ point_from 0 p }
@@ -60,21 +53,21 @@ fn part(s: f64, b: usize) -> f64
     float::fract(s)
 }
 
-// Place and direction at the length s.
-pub fn lookup(row: &[[f64; 4]], s: f64) -> Looked
+// Place and direction at the length s. None at the last stored place: refusal 8.
+pub fn lookup(row: &[[f64; 4]], s: f64) -> Option<Spot>
     ensures { result ≡ spot_at row.now s }
 {
     let b = float::to_index(s);
     if row.len() <= b {
-        return Looked::At(Spot {
+        return Some(Spot {
             xy: Point { x: 0.0, y: 0.0 },
             dir: Point { x: 0.0, y: 0.0 },
         });
     }
     if row.len() - b <= 1 {
-        return Looked::Missing;
+        return None;
     }
-    Looked::At(between(row[b], row[b + 1], part(s, b)))
+    Some(between(row[b], row[b + 1], part(s, b)))
 }
 
 // The place of s, most often: 2^52 and s less half a unit is rounded to 2^52 and s cut, whose last digits
@@ -92,7 +85,7 @@ fn likely(s: f64) -> usize
 
 // The same, quick for what is most often asked for, an s with a fraction between two stored places. It is
 // a function of its own, so that the one loop that asks so often has it in place.
-pub fn quick_lookup(row: &[[f64; 4]], s: f64) -> Looked
+pub fn quick_lookup(row: &[[f64; 4]], s: f64) -> Option<Spot>
     ensures { result ≡ spot_at row.now s }
 {
     let b = likely(s);
@@ -100,7 +93,7 @@ pub fn quick_lookup(row: &[[f64; 4]], s: f64) -> Looked
     if f < s {
         if s < ((b + 1) as f64) {
             if b + 1 < row.len() {
-                return Looked::At(between(row[b], row[b + 1], s - f));
+                return Some(between(row[b], row[b + 1], s - f));
             }
         }
     }

@@ -19,24 +19,24 @@ use Rattle.measure.specs.Fallen.{fallen_by}
 use Rattle.quickmeasure.specs.Early.{step_by, summed, Shown, Sealed, Beyond}
 use Rattle.measure.specs.declared.MeasureFunctor.{MeasureFunctor}
 use Rattle.quickmeasure.specs.declared.Node.{Node}
-use Rattle.measure.specs.declared.Measured.{Measured}
-use Rattle.measure.specs.declared.Measured.TheVariants.{At, Missing}
 use Rattle.quickmeasure.proofs.Laws.{term_at, paired, rate_of, step_flat}
 use Rattle.quickmeasure.proofs.Stored.{whole, starts, middles}
 use Rattle.quickmeasure.proofs.Asked.{counted}
 use Rattle.quickmeasure.proofs.Signs.{term_plus}
 use Rattle.quickmeasure.proofs.Climb.{above_plus, sums_climb}
+use Rattle.measure.specs.declared.Measure.{Measure}
+use Rattle.std.specs.Prelude.{Option, Some, None}
 
-abbrev errors_in : Measured → Float
-errors_in (At m) = m.error
-errors_in Missing = nan
+abbrev errors_in : Option Measure → Float
+errors_in (Some m) = m.error
+errors_in None = nan
 
 module _ (row : List (List Float)) (m : MeasureFunctor) (stages : List (List Float)) where
-  abbrev rate : ℕ → Measured
+  abbrev rate : ℕ → Option Measure
   rate k = rate_of row m (get_or stages k [])
 
   -- the step i, from its four stages
-  abbrev pub fourth : ℕ → Float → Measured
+  abbrev pub fourth : ℕ → Float → Option Measure
   fourth i e = summed tenth e (rate (4 * i)) (rate (4 * i + 1)) (rate (4 * i + 2)) (rate (4 * i + 3))
 
   -- after i steps the error is e
@@ -85,7 +85,7 @@ module _ (row : List (List Float)) (m : MeasureFunctor) (stages : List (List Flo
           sums = λ g all. next_sum i e e' less is g all (on.sums g all);
         })
 
-    pub lost : (i : ℕ) (e : Float) → i < 10 → Going i e → fourth i e ≡ Missing → walked_by row m ≡ Missing
+    pub lost : (i : ℕ) (e : Float) → i < 10 → Going i e → fourth i e ≡ None → walked_by row m ≡ None
     lost i e less on is =
         on.walks ∙ rw (ends (apply_of row m) tenth (time_at tenth i) (length_at m.af i ∷ e ∷ []) 10 i less (flat i e less ∙ rw is))
 

@@ -13,11 +13,11 @@ use Rattle.quickmeasure.specs.Terms.{measured}
 use Rattle.quickmeasure.specs.Early.{node_in, rate_by, summed, step_by}
 use Rattle.measure.specs.declared.MeasureFunctor.{MeasureFunctor}
 use Rattle.quickmeasure.specs.declared.Node.{Node}
-use Rattle.measure.specs.declared.Measured.{Measured}
-use Rattle.measure.specs.declared.Measured.TheVariants.{Missing}
+use Rattle.measure.specs.declared.Measure.{Measure}
+use Rattle.std.specs.Prelude.{Option, None}
 
 module _ (row : List (List Float)) (m : MeasureFunctor) (stages : List (List Float)) (i : ℕ) (n middle end : Node) where
-  abbrev rate_in : ℕ → Measured
+  abbrev rate_in : ℕ → Option Measure
   rate_in k = rate_by row m (node_in n middle end k) (get_or stages (4 * i + k) [])
 
   -- the rates of the stages below k are written
@@ -40,7 +40,7 @@ module _ (row : List (List Float)) (m : MeasureFunctor) (stages : List (List Flo
       rw first
 
   -- the first that is missing ends it
-  ended : (e : Float) (rates : List Float) (k : ℕ) → k < 4 → Rated rates k → rate_in k ≡ Missing → summed tenth e (rate_in 0) (rate_in 1) (rate_in 2) (rate_in 3) ≡ Missing
+  ended : (e : Float) (rates : List Float) (k : ℕ) → k < 4 → Rated rates k → rate_in k ≡ None → summed tenth e (rate_in 0) (rate_in 1) (rate_in 2) (rate_in 3) ≡ None
   unfolding summed
   ended e rates zero less all gone = rw gone
   ended e rates (suc zero) less all gone = rw (all.is 0 (omega arith), gone)
@@ -48,7 +48,7 @@ module _ (row : List (List Float)) (m : MeasureFunctor) (stages : List (List Flo
   ended e rates (suc (suc (suc zero))) less all gone = rw (all.is 0 (omega arith), all.is 1 (omega arith), all.is 2 (omega arith), gone)
   ended e rates (suc (suc (suc (suc k)))) less all gone = absurd (omega arith)
 
-  pub step_missing : (e : Float) (rates : List Float) (k : ℕ) → k < 4 → Rated rates k → rate_in k ≡ Missing → step_by row m stages i e n middle end ≡ Missing
+  pub step_missing : (e : Float) (rates : List Float) (k : ℕ) → k < 4 → Rated rates k → rate_in k ≡ None → step_by row m stages i e n middle end ≡ None
   step_missing e rates k less all gone = by_rates e ∙ ended e rates k less all gone
 
   pub step_summed : (e : Float) (rates : List Float) → Rated rates 4 →

@@ -30,8 +30,6 @@ use Rattle.quickarclen.specs.Stages.{time_at, length_at, stage_of, stage_at}
 use Rattle.arclen.specs.declared.ArclenFunctor.{ArclenFunctor}
 use Rattle.lookup.specs.Lookup.{origin, looked_up}
 use Rattle.quicklookup.specs.Spots.{spot_at}
-use Rattle.quicklookup.specs.declared.Looked.{Looked}
-use Rattle.quicklookup.specs.declared.Looked.TheVariants as Looking
 use Rattle.quicklookup.specs.declared.Spot.{Spot}
 use Rattle.quicklookup.proofs.Laws.{past, last, inside}
 use Rattle.measure.specs.Measure.{dist_factor, angle_factor, angleerr_of, error_of, measure_functor_of, measure_of}
@@ -44,6 +42,7 @@ use Rattle.quickmeasure.proofs.Climb.{above_plus}
 use Rattle.quickmeasure.proofs.NoMore.{NoMore, than_nan, no_more_than, first_part, last_part, times_more, over_more, still_less}
 use Rattle.quickmeasure.proofs.Ahead.{sixth_is, two_is, Gap, gap}
 use Rattle.quickmeasure.proofs.Early.{falls, told}
+use Rattle.std.specs.Prelude.{Option, Some, None}
 
 -- ---- the speed is no more than w, by their squares
 more_is : Ratio one_and_more 1025 1024
@@ -182,24 +181,24 @@ nan_along : (a b : Float) → along_of a b (fract_of nan) ≡ nan
 unfolding sub mul
 nan_along a b = plus_nan a
 
-abbrev direction_in : Looked → Point
-direction_in (Looking.At c) = c.dir
-direction_in Looking.Missing = origin
+abbrev direction_in : Option Spot → Point
+direction_in (Some c) = c.dir
+direction_in None = origin
 
-abbrev is_seen : Looked → Bool
-is_seen (Looking.At c) = true
-is_seen Looking.Missing = false
+abbrev is_seen : Option Spot → Bool
+is_seen (Some c) = true
+is_seen None = false
 
-nan_spot : (row : List (List Float)) (s : Float) {a b : Spot} → spot_at row nan ≡ Looking.At a → spot_at row s ≡ Looking.At b → (a.dir ≡ b.dir) ⊎ (a.dir.x ≡ nan)
+nan_spot : (row : List (List Float)) (s : Float) {a b : Spot} → spot_at row nan ≡ Some a → spot_at row s ≡ Some b → (a.dir ≡ b.dir) ⊎ (a.dir.x ≡ nan)
 nan_spot [] s p q = inl (ap direction_in (sym p ∙ past [] nan _ refl (omega arith) ∙ sym (past [] s _ refl (omega arith)) ∙ q))
 nan_spot (r ∷ []) s p q = absurd (false≢true (ap is_seen (sym (last (r ∷ []) nan 0 at_nan (omega arith) (omega arith)) ∙ p)))
 nan_spot (r ∷ t ∷ rs) s p q = inr (ap (λ l. (direction_in l).x) (sym p ∙ inside (r ∷ t ∷ rs) nan 0 at_nan (omega arith)) ∙ nan_along _ _)
 
-seen_first : (row : List (List Float)) (s y : Float) {a b : Spot} → T (fits binary64 s) → spot_at row (add binary64 s (mul binary64 nought y)) ≡ Looking.At a →
-    spot_at row s ≡ Looking.At b → (a.dir ≡ b.dir) ⊎ (a.dir.x ≡ nan)
+seen_first : (row : List (List Float)) (s y : Float) {a b : Spot} → T (fits binary64 s) → spot_at row (add binary64 s (mul binary64 nought y)) ≡ Some a →
+    spot_at row s ≡ Some b → (a.dir ≡ b.dir) ⊎ (a.dir.x ≡ nan)
 seen_first row s y {a} {b} f p q = by (zero_times y) p
   where
-    by : {z : Float} → IsBlank z → spot_at row (add binary64 s z) ≡ Looking.At a → (a.dir ≡ b.dir) ⊎ (a.dir.x ≡ nan)
+    by : {z : Float} → IsBlank z → spot_at row (add binary64 s z) ≡ Some a → (a.dir ≡ b.dir) ⊎ (a.dir.x ≡ nan)
     by (blank z) p = inl (ap direction_in (sym p ∙ zero_further row s f z ∙ q))
     by blank_nan p = nan_spot row s (rw (plus_nan s) at p) q
 

@@ -16,23 +16,21 @@ use Rattle.arclen.specs.Rk4.{and_then, grown_by, walk}
 use Rattle.arclen.specs.Arclen.{tenth, doubled, arclen_functor_of, deriv_of, speed_of}
 use Rattle.quickarclen.specs.Stages.{time_at, length_at, stage_of}
 use Rattle.quicklookup.specs.Spots.{spot_at}
-use Rattle.quicklookup.specs.declared.Looked.{Looked}
-use Rattle.quicklookup.specs.declared.Looked.TheVariants as Looking
 use Rattle.measure.specs.Measure.{dist_factor, error_of, along_samples, apply_of, error_in, walked_by, measure_functor_of, measure_of}
 use Rattle.quickmeasure.specs.Terms.{measured, error_at, term_of}
 use Rattle.quickmeasure.specs.Early.{summed}
 use Rattle.quickmeasure.specs.Statements.{has_nan, NanControlMeasuresNan}
 use Rattle.measure.specs.declared.MeasureFunctor.{MeasureFunctor}
 use Rattle.measure.specs.declared.Measure.{Measure}
-use Rattle.measure.specs.declared.Measured.{Measured}
-use Rattle.measure.specs.declared.Measured.TheVariants.{At, Missing}
 use Rattle.quickmeasure.proofs.Laws.{paired, part, step_flat}
+use Rattle.quicklookup.specs.declared.Spot.{Spot}
+use Rattle.std.specs.Prelude.{Option, Some, None}
 
 -- ---- where the first rate of the error is a NaN, the error stays one
 
 -- no score, or NaN
-pub data Spoilt : Measured → Type 0 where
-  none : Spoilt Missing
+pub data Spoilt : Option Measure → Type 0 where
+  none : Spoilt None
   spoilt : Spoilt (measured nan)
 
 -- at the start the rate of the error is NaN, whatever is looked up
@@ -44,11 +42,11 @@ term_spoilt : (row : List (List Float)) (m : MeasureFunctor) → StartsNan m →
 unfolding term_of
 term_spoilt row m s = by (spot_at row (along_samples m nought))
   where
-    by : (c : Looked) → Spoilt (error_at (speed_of m.af nought) (deriv_of m.af nought) (point_at_t m.q nought) c)
-    by (Looking.At c) = rw (s c.xy c.dir) spoilt
-    by Looking.Missing = none
+    by : (c : Option Spot) → Spoilt (error_at (speed_of m.af nought) (deriv_of m.af nought) (point_at_t m.q nought) c)
+    by (Some c) = rw (s c.xy c.dir) spoilt
+    by None = none
 
-pub spoilt_is : {r : Measured} → Spoilt r → (a : Measure) → r ≡ At a → a.error ≡ nan
+pub spoilt_is : {r : Option Measure} → Spoilt r → (a : Measure) → r ≡ Some a → a.error ≡ nan
 spoilt_is spoilt a h = cc
 spoilt_is none a h = cc
 
@@ -59,18 +57,18 @@ first_nan h e b c d = simp (nan_plus, times_nan, plus_nan)
 from_nan : (h a b c d : Float) → grown_by h nan a b c d ≡ nan
 from_nan h a b c d = rw nan_plus
 
-summed_spoilt : (h e : Float) (r1 r2 r3 r4 : Measured) → ((a : Measure) (b c d : Float) → r1 ≡ At a → grown_by h e a.error b c d ≡ nan) →
+summed_spoilt : (h e : Float) (r1 r2 r3 r4 : Option Measure) → ((a : Measure) (b c d : Float) → r1 ≡ Some a → grown_by h e a.error b c d ≡ nan) →
     Spoilt (summed h e r1 r2 r3 r4)
 unfolding summed
-summed_spoilt h e (At a) (At b) (At c) (At d) all = rw (all a b.error c.error d.error refl) spoilt
-summed_spoilt h e (At a) (At b) (At c) Missing all = none
-summed_spoilt h e (At a) (At b) Missing u all = none
-summed_spoilt h e (At a) Missing w u all = none
-summed_spoilt h e Missing r w u all = none
+summed_spoilt h e (Some a) (Some b) (Some c) (Some d) all = rw (all a b.error c.error d.error refl) spoilt
+summed_spoilt h e (Some a) (Some b) (Some c) None all = none
+summed_spoilt h e (Some a) (Some b) None u all = none
+summed_spoilt h e (Some a) None w u all = none
+summed_spoilt h e None r w u all = none
 
 module _ (row : List (List Float)) (m : MeasureFunctor) where
   -- n steps from the step i, at the error e
-  abbrev steps : ℕ → ℕ → Float → Measured
+  abbrev steps : ℕ → ℕ → Float → Option Measure
   steps n i e = error_in (walk (apply_of row m) tenth n (time_at tenth i) (length_at m.af i ∷ e ∷ []))
 
   next : (n i : ℕ) (e : Float) → Spoilt (summed tenth e (part row m i 0) (part row m i 1) (part row m i 2) (part row m i 3)) →
@@ -78,7 +76,7 @@ module _ (row : List (List Float)) (m : MeasureFunctor) where
   unfolding walk time_at
   next n i e s later = rw (step_flat row m i e) (by s)
     where
-      by : {r : Measured} → Spoilt r →
+      by : {r : Option Measure} → Spoilt r →
           Spoilt (error_in (and_then (paired (length_at m.af (suc i)) r) (walk (apply_of row m) tenth n (add binary64 (time_at tenth i) tenth))))
       by spoilt = later
       by none = none

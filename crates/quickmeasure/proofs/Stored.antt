@@ -9,27 +9,26 @@ use borrow.Author.Count.{below_more}
 use lib.ListN.{length, set, get_or}
 use lib.Seq.{get_or-set_same, get_or-set_other}
 use lib.Ieee.{Float, nan}
-use Rattle.arclen.specs.Rk4.{at, rk4}
+use Rattle.arclen.specs.Rk4.{rk4}
 use Rattle.arclen.specs.Arclen.{tenth}
 use Rattle.arclen.specs.declared.ArclenFunctor.{ArclenFunctor}
 use Rattle.quickarclen.specs.Stages.{time_at, length_at, stage_of, Written}
 use Rattle.arclen.proofs.Laws.{ends}
 use Rattle.quickarclen.proofs.Laws.{reach, all_steps, stage_first, stage_next}
 use Rattle.quicklookup.specs.Spots.{spot_at}
-use Rattle.quicklookup.specs.declared.Looked.TheVariants as Looking
 use Rattle.measure.specs.Measure.{along_samples, apply_of, walked_by}
 use Rattle.quickmeasure.specs.Terms.{measured, spot_in, term_in, sums_of, Seen}
 use Rattle.quickmeasure.specs.Early.{summed}
 use Rattle.measure.specs.declared.MeasureFunctor.{MeasureFunctor}
-use Rattle.measure.specs.declared.Measured.{Measured}
-use Rattle.measure.specs.declared.Measured.TheVariants.{Missing}
 use Rattle.quickmeasure.proofs.Laws.{term_at, term_last, rate_of, part, step_flat}
+use Rattle.measure.specs.declared.Measure.{Measure}
+use Rattle.std.specs.Prelude.{Option, Some, None}
 
 pub none : {row : List (List Float)} {m : MeasureFunctor} {stages seen : List (List Float)} → Seen row m stages seen 0
 none = record { is = λ j less. absurd (omega arith) }
 
 pub one_more : {row : List (List Float)} {m : MeasureFunctor} {stages seen : List (List Float)} {k : ℕ} (a : List Float) → Seen row m stages seen k →
-    k < length seen → spot_at row (along_samples m (get_or (get_or stages k []) 2 nan)) ≡ Looking.At (spot_in a) → Seen row m stages (set seen k a) (k + 1)
+    k < length seen → spot_at row (along_samples m (get_or (get_or stages k []) 2 nan)) ≡ Some (spot_in a) → Seen row m stages (set seen k a) (k + 1)
 one_more {row} {m} {stages} {seen} {k} a all h e =
     record {
       is = below_more _ k (λ j less. rw (get_or-set_other seen k j a [] (λ same. omega arith)) (all.is j less)) (rw (get_or-set_same seen k a [] h) e);
@@ -40,7 +39,7 @@ module _ (row : List (List Float)) (m : MeasureFunctor) (stages : List (List Flo
   abbrev g : ℕ → Float
   g = term_in m.af m.q stages seen
 
-  abbrev rate : ℕ → Measured
+  abbrev rate : ℕ → Option Measure
   rate k = rate_of row m (get_or stages k [])
 
   part_first : (i : ℕ) → i < 10 → part row m i 0 ≡ rate (4 * i)
@@ -63,7 +62,7 @@ module _ (row : List (List Float)) (m : MeasureFunctor) (stages : List (List Flo
     got_next : (i j : ℕ) → j < 4 → 4 * i + j < k → part row m i j ≡ measured (g (4 * i + j))
     got_next i j less h = part_next i j (omega arith) less ∙ got (4 * i + j) h
 
-    step_done : (i : ℕ) → 4 * i + 3 < k → rk4 (apply_of row m) tenth (time_at tenth i) (after i) ≡ at (after (suc i))
+    step_done : (i : ℕ) → 4 * i + 3 < k → rk4 (apply_of row m) tenth (time_at tenth i) (after i) ≡ Some (after (suc i))
     unfolding sums_of summed
     step_done i h =
         step_flat row m i (sums_of g i)
@@ -75,15 +74,15 @@ module _ (row : List (List Float)) (m : MeasureFunctor) (stages : List (List Flo
         )
 
     -- the term k is refused, that of the stage j of the step i
-    refused_at : (i j : ℕ) → j < 4 → k ≡ 4 * i + j → i < 10 → rate k ≡ Missing → part row m i j ≡ Missing
+    refused_at : (i j : ℕ) → j < 4 → k ≡ 4 * i + j → i < 10 → rate k ≡ None → part row m i j ≡ None
     refused_at i j h p less e = part_next i j less h ∙ rw (sym p) e
 
-    step_refused : (i j : ℕ) → j < 4 → k ≡ 4 * i + j → i < 10 → rate k ≡ Missing →
-        summed tenth (sums_of g i) (part row m i 0) (part row m i 1) (part row m i 2) (part row m i 3) ≡ Missing
+    step_refused : (i j : ℕ) → j < 4 → k ≡ 4 * i + j → i < 10 → rate k ≡ None →
+        summed tenth (sums_of g i) (part row m i 0) (part row m i 1) (part row m i 2) (part row m i 3) ≡ None
     unfolding summed
     step_refused i zero h p less e =
         let here : 4 * i ≡ k = omega arith in
-        let last : part row m i 0 ≡ Missing = part_first i less ∙ rw here e in
+        let last : part row m i 0 ≡ None = part_first i less ∙ rw here e in
         rw last
     step_refused i (suc zero) h p less e = rw (got_first i (omega arith), refused_at i 1 h p less e)
     step_refused i (suc (suc zero)) h p less e =
@@ -98,7 +97,7 @@ module _ (row : List (List Float)) (m : MeasureFunctor) (stages : List (List Flo
     step_refused i (suc (suc (suc (suc j)))) h p less e = absurd (omega arith)
 
     -- the lookup k is refused
-    pub broken : k < 40 → spot_at row (along_samples m (get_or (get_or stages k []) 2 nan)) ≡ Looking.Missing → Missing ≡ walked_by row m
+    pub broken : k < 40 → spot_at row (along_samples m (get_or (get_or stages k []) 2 nan)) ≡ None → None ≡ walked_by row m
     unfolding walked_by length_at sums_of
     broken less e =
         sym (rw (reach (apply_of row m) tenth 10 after (k / 4) (omega arith) (λ n h. step_done n (omega arith))

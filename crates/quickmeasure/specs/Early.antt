@@ -1,5 +1,5 @@
 -- A measure that stops as soon as it cannot win, for the contracts: the term of a stage, a step, and what is told. Definitions only.
-use Rattle.std.specs.Prelude.{ℕ, zero, suc, ◌+◌, ◌*◌, true, false, ◌≡◌, List, [], get_or, Float}
+use Rattle.std.specs.Prelude.{ℕ, zero, suc, ◌+◌, ◌*◌, true, false, ◌≡◌, List, [], get_or, Float, Option, Some, None}
 use Rattle.std.specs.Float.{nan, binary64}
 use Rattle.std.specs.Float.Ieee.{add, lt}
 use Rattle.float.specs.Numbers.{nought}
@@ -13,13 +13,12 @@ use Rattle.quickmeasure.specs.Terms.{measured, error_at, Seen}
 use Rattle.quickmeasure.specs.Counting.{fallen_below}
 use Rattle.quickmeasure.specs.declared.Node.{Node}
 use Rattle.measure.specs.declared.MeasureFunctor.{MeasureFunctor}
-use Rattle.measure.specs.declared.Measured.{Measured}
-use Rattle.measure.specs.declared.Measured.TheVariants.{At, Missing}
 use Rattle.quickmeasure.specs.declared.Judged.{Judged}
 use Rattle.quickmeasure.specs.declared.Judged.TheVariants as Judging
+use Rattle.measure.specs.declared.Measure.{Measure}
 
 -- the term of the stage a at the node n
-abbrev pub rate_by : List (List Float) → MeasureFunctor → Node → List Float → Measured
+abbrev pub rate_by : List (List Float) → MeasureFunctor → Node → List Float → Option Measure
 rate_by row m n a = error_at (get_or a 1 nan) n.d n.p (spot_at row (along_samples m (get_or a 2 nan)))
 
 -- the node of a step's stage k: that of its start, of its middle twice, of its end
@@ -30,15 +29,15 @@ node_in n middle end (suc (suc zero)) = middle
 node_in n middle end (suc (suc (suc k))) = end
 
 -- the error after a step, from its four terms
-unfoldable pub summed : Float → Float → Measured → Measured → Measured → Measured → Measured
-summed h e (At a) (At b) (At c) (At d) = measured (grown_by h e a.error b.error c.error d.error)
-summed h e (At a) (At b) (At c) Missing = Missing
-summed h e (At a) (At b) Missing u = Missing
-summed h e (At a) Missing w u = Missing
-summed h e Missing r w u = Missing
+unfoldable pub summed : Float → Float → Option Measure → Option Measure → Option Measure → Option Measure → Option Measure
+summed h e (Some a) (Some b) (Some c) (Some d) = measured (grown_by h e a.error b.error c.error d.error)
+summed h e (Some a) (Some b) (Some c) None = None
+summed h e (Some a) (Some b) None u = None
+summed h e (Some a) None w u = None
+summed h e None r w u = None
 
 -- the step i, with the nodes of its start, middle and end
-abbrev pub step_by : List (List Float) → MeasureFunctor → List (List Float) → ℕ → Float → Node → Node → Node → Measured
+abbrev pub step_by : List (List Float) → MeasureFunctor → List (List Float) → ℕ → Float → Node → Node → Node → Option Measure
 step_by row m stages i e n middle end =
     summed tenth e (rate_by row m n (get_or stages (4 * i) [])) (rate_by row m middle (get_or stages (4 * i + 1) []))
     (rate_by row m middle (get_or stages (4 * i + 2) [])) (rate_by row m end (get_or stages (4 * i + 3) []))
@@ -62,14 +61,14 @@ pub record Sealed (row : List (List Float)) (m : MeasureFunctor) (stages : List 
   pub most : lt (add binary64 base e) limit ≡ false
 
 -- there is a measure, a score with it is not less than the limit, and of the n lookups that fell there is none
-pub record Beyond (x : Measured) (n : ℕ) (base limit : Float) : Type 0 where
+pub record Beyond (x : Option Measure) (n : ℕ) (base limit : Float) : Type 0 where
   pub error : Float
-  pub is : x ≡ At (record { error = error })
+  pub is : x ≡ Some (record { error = error })
   pub most : lt (add binary64 base error) limit ≡ false
   pub none : n ≡ 0
 
 -- what is told of the measure x and the number n
-abbrev pub Judges : Measured → ℕ → Float → Float → Judged → Type 0
-Judges x n base limit (Judging.At m k) = (x ≡ At m) × (k ≡ n)
-Judges x n base limit Judging.Missing = x ≡ Missing
-Judges x n base limit Judging.Over = Beyond x n base limit
+abbrev pub Judges : Option Measure → ℕ → Float → Float → Option Judged → Type 0
+Judges x n base limit (Some (Judging.Measured c)) = (x ≡ Some c.measure) × (c.fallen ≡ n)
+Judges x n base limit (Some Judging.Over) = Beyond x n base limit
+Judges x n base limit None = x ≡ None

@@ -1,5 +1,5 @@
 -- A measure that is given up at its first stage, for the contracts: there the time and the length are 0. Definitions only.
-use Rattle.std.specs.Prelude.{true, false, ◌≡◌, List, T, Float}
+use Rattle.std.specs.Prelude.{true, false, ◌≡◌, List, T, Float, Some}
 use Rattle.std.specs.Float.{binary64}
 use Rattle.std.specs.Float.Ieee.{fits, add, mul, div, lt, of_bits}
 use Rattle.float.specs.Numbers.{nought, six}
@@ -9,7 +9,6 @@ use Rattle.geometry.specs.declared.Quad.{Quad}
 use Rattle.arclen.specs.Arclen.{tenth}
 use Rattle.quicklookup.specs.Spots.{spot_at}
 use Rattle.quicklookup.specs.declared.Spot.{Spot}
-use Rattle.quicklookup.specs.declared.Looked.TheVariants as Looking
 use Rattle.measure.specs.Measure.{angle_factor, angleerr_of, measure_of}
 use Rattle.measure.specs.Fallen.{fallen_of}
 use Rattle.quickmeasure.specs.Early.{Shows, Beyond}
@@ -28,7 +27,7 @@ pub record Off (row : List (List Float)) (s0 : Float) (d : Point) (w base limit 
   pub from : T (fits binary64 s0)
   pub whole : T (fits binary64 w)
   pub spot : Spot
-  pub is : spot_at row s0 ≡ Looking.At spot
+  pub is : spot_at row s0 ≡ Some spot
   pub most : lt (add binary64 base (share_of w d spot.dir)) limit ≡ false
   pub above : lt nought base ≡ true
   pub some : lt least_gap w ≡ true

@@ -17,14 +17,12 @@ ghost use Rattle.quickmeasure.specs.Turned.{Off, Turned};
 
 use arclen::ArclenFunctor;
 use geometry::{Point, Quad};
-use measure::{Counted, Measure, MeasureFunctor, Measured};
-use quicklookup::Looked;
+use measure::{Counted, Measure, MeasureFunctor};
 
 // A measure that may stop early.
 #[derive(Clone, Copy)]
 pub enum Judged {
-    At(Measure, usize),
-    Missing,
+    Measured(Counted),
     // No sample that is asked for is missing, no lookup fell, and the error is so large that it cannot win.
     Over,
 }
@@ -69,8 +67,7 @@ fn total(af: ArclenFunctor, q: Quad, stages: &[[f64; 3]; 40], seen: &[[f64; 4]; 
     let h = 1.0 / 10.0;
     let mut e = 0.0;
     let mut n = node_at(af, q, 0.0);
-    let mut i = 0usize;
-    while i < 10 {
+    for i in 0..10usize {
         let first = stages[4 * i];
         let second = stages[4 * i + 1];
         let third = stages[4 * i + 2];
@@ -83,7 +80,6 @@ fn total(af: ArclenFunctor, q: Quad, stages: &[[f64; 3]; 40], seen: &[[f64; 4]; 
         let d = term(end, last[1], seen[4 * i + 3]);
         e = arclen::grown(h, e, a, b, c, d);
         n = end;
-        i += 1;
     }
     e
 }
@@ -99,22 +95,20 @@ fn look(
     requires { Written m.af stages.now × (length seen.old ≡ 40) }
     ensures { Looks row.now m stages.now seen.new result }
 {
-    let mut k = 0usize;
-    while k < 40 {
+    for k in 0..40usize {
         let stage = stages[k];
-        let Looked::At(spot) = quicklookup::quick_lookup(row, m.s0 + stage[2] * m.ss) else {
+        let Some(spot) = quicklookup::quick_lookup(row, m.s0 + stage[2] * m.ss) else {
             return false;
         };
         let xy = spot.xy;
         let dir = spot.dir;
         seen[k] = [xy.x, xy.y, dir.x, dir.y];
-        k += 1;
     }
     true
 }
 
 // The error from the 40 stages, of which the first refused one ends the work.
-fn walk(m: MeasureFunctor, row: &[[f64; 4]], stages: &[[f64; 3]; 40]) -> Measured
+fn walk(m: MeasureFunctor, row: &[[f64; 4]], stages: &[[f64; 3]; 40]) -> Option<Measure>
     requires { Written m.af stages.now }
     ensures { result ≡ walked_by row.now m }
 {
@@ -122,11 +116,11 @@ fn walk(m: MeasureFunctor, row: &[[f64; 4]], stages: &[[f64; 3]; 40]) -> Measure
     let q = m.q;
     let mut seen = [[0.0; 4]; 40];
     if look(m, row, stages, &mut seen) {
-        return Measured::At(Measure {
+        return Some(Measure {
             error: total(af, q, stages, &seen),
         });
     }
-    Measured::Missing
+    None
 }
 
 // The work on q between the lengths s0 and s1, with its 40 stages written.
@@ -143,12 +137,9 @@ fn set_out(s0: f64, s1: f64, q: Quad, stages: &mut [[f64; 3]; 40]) -> MeasureFun
 fn all_before(m: MeasureFunctor, stages: &[[f64; 3]; 40], end: f64) -> bool
     ensures { result ≡ true → Before m stages.now end 40 }
 {
-    let mut k = 0usize;
-    while k < 40 {
+    for k in 0..40usize {
         let stage = stages[k];
-        if m.s0 + stage[2] * m.ss < end {
-            k += 1;
-        } else {
+        if !(m.s0 + stage[2] * m.ss < end) {
             return false;
         }
     }
@@ -161,10 +152,7 @@ fn surely(m: MeasureFunctor, row: &[[f64; 4]], stages: &[[f64; 3]; 40]) -> bool
     ensures { result ≡ true → Shown row.now m stages.now }
 {
     let n = row.len();
-    if n < 2 {
-        return false;
-    }
-    if n > 0x20_0000_0000_0000 {
+    if n < 2 || n > 0x20_0000_0000_0000 {
         return false;
     }
     all_before(m, stages, (n - 1) as f64)
@@ -176,22 +164,12 @@ fn well_before(row: &[[f64; 4]], s0: f64, s1: f64, factor: f64) -> bool
     ensures { result ≡ true → WellBefore row.now s0 s1 factor }
 {
     let n = row.len();
-    if n < 2 {
-        return false;
-    }
-    if n > 0x20_0000_0000_0000 {
+    if n < 2 || n > 0x20_0000_0000_0000 {
         return false;
     }
     let last = n - 1;
     let ahead = s1 - s0;
-    if s0 >= 0.0 {
-        if ahead > 0.0009765625 {
-            if ahead < 16777216.0 {
-                return s0 + factor * ahead < (last as f64);
-            }
-        }
-    }
-    false
+    s0 >= 0.0 && ahead > 0.0009765625 && ahead < 16777216.0 && s0 + factor * ahead < (last as f64)
 }
 
 // Whether the speeds of a step differ little, by their squares at its start, middle and end: the start is at most twice as fast as the
@@ -201,14 +179,7 @@ fn is_even_step(a: f64, b: f64, d: f64) -> bool
     ensures { result ≡ true → EvenStep a b d }
 {
     let ends = a + d;
-    if a < 4.0 * b {
-        if 1.9375 * b < ends {
-            if b > 0.0009765625 {
-                return ends < 1152921504606846976.0;
-            }
-        }
-    }
-    false
+    a < 4.0 * b && 1.9375 * b < ends && b > 0.0009765625 && ends < 1152921504606846976.0
 }
 
 // Whether the speed of a quad changes evenly, in each of ten steps. No root is taken.
@@ -218,17 +189,14 @@ fn is_even_in_steps(f: ArclenFunctor) -> bool
     let h = 1.0 / 10.0;
     let mut time = 0.0;
     let mut first = f.deriv(time).square_norm();
-    let mut i = 0usize;
-    while i < 10 {
+    for _ in 0..10usize {
         let middle = f.deriv(time + h * 0.5).square_norm();
         time = time + h;
         let end = f.deriv(time).square_norm();
-        if is_even_step(first, middle, end) {
-            first = end;
-            i += 1;
-        } else {
+        if !is_even_step(first, middle, end) {
             return false;
         }
+        first = end;
     }
     true
 }
@@ -261,10 +229,8 @@ fn shows(row: &[[f64; 4]], s0: f64, s1: f64, q: Quad) -> bool
     if shows_any(row, s0, s1) {
         return true;
     }
-    if well_before(row, s0, s1, 1.125) {
-        if is_even(ArclenFunctor::new(q)) {
-            return true;
-        }
+    if well_before(row, s0, s1, 1.125) && is_even(ArclenFunctor::new(q)) {
+        return true;
     }
     let mut stages = [[0.0; 3]; 40];
     let m = set_out(s0, s1, q, &mut stages);
@@ -296,10 +262,8 @@ fn count(m: MeasureFunctor, row: &[[f64; 4]], stages: &[[f64; 3]; 40]) -> usize
     ensures { result ≡ fallen_below row.now m stages.now 40 }
 {
     let mut n = 0usize;
-    let mut k = 0usize;
-    while k < 40 {
+    for k in 0..40usize {
         n += fallen_at(m, row, stages[k]);
-        k += 1;
     }
     n
 }
@@ -319,26 +283,25 @@ fn fallen(m: MeasureFunctor, row: &[[f64; 4]], stages: &[[f64; 3]; 40], sure: bo
     count(m, row, stages)
 }
 
-// How far q is from the samples between the lengths s0 and s1.
-pub fn measure_quad(row: &[[f64; 4]], s0: f64, s1: f64, q: Quad) -> Counted
+// How far q is from the samples between the lengths s0 and s1. None where a sample is asked for at the last stored place: refusal 8.
+pub fn measure_quad(row: &[[f64; 4]], s0: f64, s1: f64, q: Quad) -> Option<Counted>
     ensures { Counts (measure_of row.now s0 s1 q) (fallen_of row.now s0 s1 q) result }
 {
     let mut stages = [[0.0; 3]; 40];
     let m = set_out(s0, s1, q, &mut stages);
-    let Measured::At(r) = walk(m, row, &stages) else {
-        return Counted::Missing;
-    };
-    Counted::At(r, fallen(m, row, &stages, shows_any(row, s0, s1)))
+    let measure = walk(m, row, &stages)?;
+    Some(Counted {
+        measure,
+        fallen: fallen(m, row, &stages, shows_any(row, s0, s1)),
+    })
 }
 
 // The term of a stage at its node.
-fn rate(m: MeasureFunctor, row: &[[f64; 4]], n: Node, stage: [f64; 3]) -> Measured
+fn rate(m: MeasureFunctor, row: &[[f64; 4]], n: Node, stage: [f64; 3]) -> Option<Measure>
     ensures { result ≡ rate_by row.now m n stage }
 {
-    let Looked::At(spot) = quicklookup::quick_lookup(row, m.s0 + stage[2] * m.ss) else {
-        return Measured::Missing;
-    };
-    Measured::At(Measure {
+    let spot = quicklookup::quick_lookup(row, m.s0 + stage[2] * m.ss)?;
+    Some(Measure {
         error: measure::error(stage[1], n.d, n.p, spot.xy, spot.dir),
     })
 }
@@ -368,20 +331,16 @@ fn step(
     n: Node,
     middle: Node,
     end: Node,
-) -> Measured
+) -> Option<Measure>
     requires { i < 10 }
     ensures { result ≡ step_by row.now m stages.now i e n middle end }
 {
     let mut rates = [0.0; 4];
-    let mut k = 0usize;
-    while k < 4 {
-        let Measured::At(r) = rate(m, row, node_of(k, n, middle, end), stages[4 * i + k]) else {
-            return Measured::Missing;
-        };
+    for k in 0..4usize {
+        let r = rate(m, row, node_of(k, n, middle, end), stages[4 * i + k])?;
         rates[k] = r.error;
-        k += 1;
     }
-    Measured::At(Measure {
+    Some(Measure {
         error: arclen::grown(1.0 / 10.0, e, rates[0], rates[1], rates[2], rates[3]),
     })
 }
@@ -421,27 +380,26 @@ fn judge(
     base: f64,
     limit: f64,
     sure: bool,
-) -> Judged
+) -> Option<Judged>
     requires { Written m.af stages.now × (sure ≡ true → Shown row.now m stages.now) }
     ensures { Judges (walked_by row.now m) (fallen_by row.now m) base limit result }
 {
     let mut e = 0.0;
     let mut n = node_at(m.af, m.q, 0.0);
-    let mut i = 0usize;
-    while i < 10 {
+    for i in 0..10usize {
         let middle = node_at(m.af, m.q, stages[4 * i + 1][0]);
         let end = node_at(m.af, m.q, stages[4 * i + 3][0]);
-        let Measured::At(r) = step(m, row, stages, i, e, n, middle, end) else {
-            return Judged::Missing;
-        };
+        let r = step(m, row, stages, i, e, n, middle, end)?;
         e = r.error;
         n = end;
-        i += 1;
         if beyond(m, row, stages, base, e, limit, sure) {
-            return Judged::Over;
+            return Some(Judged::Over);
         }
     }
-    Judged::At(Measure { error: e }, fallen(m, row, stages, sure))
+    Some(Judged::Measured(Counted {
+        measure: Measure { error: e },
+        fallen: fallen(m, row, stages, sure),
+    }))
 }
 
 // No less than the root of x * x + y * y, and little more: the larger and half of the other, where neither is negative. No contract is
@@ -459,7 +417,7 @@ fn no_shorter(x: f64, y: f64) -> f64 {
 fn is_off(row: &[[f64; 4]], s0: f64, d: Point, w: f64, base: f64, limit: f64) -> bool
     ensures { result ≡ true → Off row.now s0 d w base limit }
 {
-    let Looked::At(spot) = quicklookup::lookup(row, s0) else {
+    let Some(spot) = quicklookup::lookup(row, s0) else {
         return false;
     };
     let dir = spot.dir;
@@ -494,13 +452,18 @@ fn turned(row: &[[f64; 4]], s0: f64, q: Quad, base: f64, limit: f64) -> bool
 
 // How far q is from the samples between the lengths s0 and s1, unless a score of base and that error is not
 // less than the limit: then the measure may stop as soon as that is known. Of a straight piece that is most often known before any root.
-pub fn measure_below(row: &[[f64; 4]], s0: f64, s1: f64, q: Quad, base: f64, limit: f64) -> Judged
+pub fn measure_below(
+    row: &[[f64; 4]],
+    s0: f64,
+    s1: f64,
+    q: Quad,
+    base: f64,
+    limit: f64,
+) -> Option<Judged>
     ensures { Judges (measure_of row.now s0 s1 q) (fallen_of row.now s0 s1 q) base limit result }
 {
-    if turned(row, s0, q, base, limit) {
-        if shows(row, s0, s1, q) {
-            return Judged::Over;
-        }
+    if turned(row, s0, q, base, limit) && shows(row, s0, s1, q) {
+        return Some(Judged::Over);
     }
     let mut stages = [[0.0; 3]; 40];
     let m = set_out(s0, s1, q, &mut stages);

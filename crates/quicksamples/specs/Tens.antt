@@ -1,12 +1,11 @@
 -- The steps over a quad, ten at a time, as the code takes them. Definitions only, for the contracts.
-use Rattle.std.specs.Prelude.{ℕ, zero, suc, ◌+◌, ◌<◌, ◌≤◌, false, List, ◌≡◌, length, get_or, Float}
+use Rattle.std.specs.Prelude.{ℕ, zero, suc, ◌+◌, ◌<◌, ◌≤◌, false, List, ◌≡◌, length, get_or, Float, Option}
 use Rattle.std.specs.Float.{nan, binary64}
 use Rattle.std.specs.Float.Ieee.{add, le}
 use Rattle.geometry.specs.declared.Quad.{Quad}
 use Rattle.arclen.specs.Arclen.{hundredth}
 use Rattle.samples.specs.Samples.{Sample, Walked, step_at, step_to, walked_in, swept_in, places_swept, length_swept}
 use Rattle.samples.specs.declared.Walk.{Walk}
-use Rattle.samples.specs.declared.Swept.{Swept}
 
 -- k steps from the time t on, which start at the lengths from place i on
 unfoldable pub steps_along : ℕ → ℕ → Quad → Float → List Float → ℕ → Walked → Walked
@@ -19,7 +18,7 @@ pub record NoneDue (starts : List Float) (ix : Float) (k : ℕ) : Type 0 where
   pub is : (i : ℕ) → i < k → le ix (get_or starts i nan) ≡ false
 
 -- what ten steps from the time t on leave, which start at these lengths: the row, where the walk stands, and the length after them
-pub record TenSteps (q : Quad) (t : Float) (starts : List Float) (from : Walk) (before after : List Sample) (r : Swept) : Type 0 where
+pub record TenSteps (q : Quad) (t : Float) (starts : List Float) (from : Walk) (before after : List Sample) (r : Option Walk) : Type 0 where
   pub row : steps_along 10 (length before) q t starts 0 (walked_in before from) ≡ swept_in after r
   pub places : places_swept r ≤ length before
   pub len : length_swept (get_or starts 10 nan) r ≡ get_or starts 10 nan

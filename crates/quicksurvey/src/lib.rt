@@ -5,11 +5,16 @@ ghost use Rattle.std.specs.Prelude.{◌≡◌, ◌≤◌, length};
 ghost use Rattle.breaks.specs.Breaks.{breaks_of};
 ghost use Rattle.survey.specs.Survey.{break_room, searched, survey_of, survey_in, samples_used, breaks_used};
 
-use breaks::{Breaks, Grid};
-use samples::Thetas;
+use breaks::{Grid, Stopped};
+use refusals::Refusal;
 use survey::Surveyed;
 
-fn search(samples: &[[f64; 4]], len: f64, g: Grid, breaks: &mut [[f64; 6]]) -> Surveyed
+fn search(
+    samples: &[[f64; 4]],
+    len: f64,
+    g: Grid,
+    breaks: &mut [[f64; 6]],
+) -> Result<Option<Surveyed>, Refusal>
     ensures breaks { searched samples.now (breaks_of (break_room (length breaks.old)) samples.now g len)
         ≡ survey_in samples.now breaks.new result }
     ensures samples { samples_used result ≤ length samples.now }
@@ -17,10 +22,13 @@ fn search(samples: &[[f64; 4]], len: f64, g: Grid, breaks: &mut [[f64; 6]]) -> S
 {
     let room = rows::least(2048, breaks.len());
     match quickbreaks::find_breaks(samples, len, g, &mut breaks[..room]) {
-        Breaks::Found(n) => Surveyed::Rows(samples.len(), n),
-        Breaks::Full => Surveyed::Refused(7),
-        Breaks::Missing => Surveyed::Refused(8),
-        Breaks::Past => Surveyed::Past,
+        Ok(n) => Ok(Some(Surveyed {
+            samples: samples.len(),
+            breaks: n,
+        })),
+        Err(Stopped::Full) => Err(Refusal::TooManyBreaks),
+        Err(Stopped::Missing) => Err(Refusal::PastLastSample),
+        Err(Stopped::Past) => Ok(None),
     }
 }
 
@@ -33,7 +41,7 @@ pub fn survey(
     g: Grid,
     samples: &mut [[f64; 4]],
     breaks: &mut [[f64; 6]],
-) -> Surveyed
+) -> Result<Option<Surveyed>, Refusal>
     ensures rows { survey_of (length samples.old) (length breaks.old)
         xs.now ys.now flags.now first count g
         ≡ survey_in samples.new breaks.new result }
@@ -42,7 +50,7 @@ pub fn survey(
 {
     let room = rows::least(16384, samples.len());
     match quicksamples::sample_run(xs, ys, flags, first, count, &mut samples[..room]) {
-        Thetas::Full => Surveyed::Refused(6),
-        Thetas::Sampled(n, len) => search(&samples[..n], len, g, breaks),
+        None => Err(Refusal::TooManySamples),
+        Some(thetas) => search(&samples[..thetas.count], thetas.length, g, breaks),
     }
 }

@@ -7,8 +7,8 @@ use native.Mathlib.Omega.{arith}
 use lib.ListN.{length, get_or, drop, length-drop}
 use lib.Seq.{drop-cons}
 use Rattle.refusals.specs.Refusals.{is_on, both_off, first_off, off_neighbours, refuse}
-use Rattle.refusals.specs.declared.Judged.{Judged}
-use Rattle.refusals.specs.declared.Judged.TheVariants.{Refused}
+use Rattle.std.specs.Prelude.{Result, Err}
+use Rattle.refusals.specs.declared.refusal.Refusal.{Refusal}
 
 -- ---- the first flag
 
@@ -41,8 +41,8 @@ module _ (fs : List ℕ) (i : ℕ) where
 
 -- ---- the order of the tests: one that holds, and one that does not
 
-pub refuses : (k : ℕ) {r t : Bool} (later : Judged) → r ≡ t → r ≡ true → Refused k ≡ refuse k t later
+pub refuses : (k : Refusal) {r t : Bool} (later : Result Unit Refusal) → r ≡ t → r ≡ true → Err k ≡ refuse k t later
 refuses k later is h = rw (← is, h)
 
-pub passes : (k : ℕ) {r t : Bool} {later j : Judged} → r ≡ t → r ≡ false → j ≡ later → j ≡ refuse k t later
+pub passes : (k : Refusal) {r t : Bool} {later j : Result Unit Refusal} → r ≡ t → r ≡ false → j ≡ later → j ≡ refuse k t later
 passes k is h e = rw (← is, h) e

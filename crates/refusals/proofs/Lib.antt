@@ -1,2 +1,3 @@
 -- What the proofs share.
 mod Laws
+pub mod Passing

@@ -1,11 +1,11 @@
 -- A contour that none of refusals 1 to 5 is given for. What works such a contour requires `Accepted`, and whoever judged it has that
 -- by `accepted`. Assumes nothing.
-use Rattle.std.specs.Prelude.{ℕ, zero, suc, ◌≤◌, ◌<◌, Bool, true, false, not, ◌&&◌, ◌||◌, List, [], ◌∷◌, ◌≡◌, refl, eqb, ℤ, length, get_or}
+use Rattle.std.specs.Prelude.{ℕ, zero, suc, ◌≤◌, ◌<◌, Bool, true, false, not, ◌&&◌, ◌||◌, List, [], ◌∷◌, ◌≡◌, refl, eqb, ℤ, length, get_or, Result, Ok, Err}
 use Rattle.std.proofs.Common.{true≢false, sym, ap, ◌∙◌, pos_of_ne-zero, le_of_suc-le-suc, arith, ltb-false, eqb-true, eq-eqb, ne_eqb, le-ltb}
 use Rattle.std.proofs.lemmas.Bool.{eqb-false, not-false}
 use Rattle.refusals.specs.Refusals.{is_on, both_off, rows_differ, no_point, too_many, first_off, off_neighbours, refuse, judged}
-use Rattle.refusals.specs.declared.Judged.{Judged}
-use Rattle.refusals.specs.declared.Judged.TheVariants.{Fine}
+use Rattle.refusals.specs.declared.refusal.Refusal.{Refusal}
+use Rattle.refusals.specs.declared.refusal.Refusal.TheVariants.{UnevenRows, NoPoint, TooManyPoints, StartsOffCurve, OffCurveNeighbours}
 
 -- three rows of one length, 1 to 1,024 points, the first on-curve, no two neighbours off-curve
 pub record Accepted (xs ys : List ℤ) (fs : List ℕ) : Type 0 where
@@ -17,8 +17,8 @@ pub record Accepted (xs ys : List ℤ) (fs : List ℕ) : Type 0 where
   pub apart : off_neighbours fs ≡ false
 
 -- a test that does not refuse
-open_to : (k : ℕ) (t : Bool) (later : Judged) → refuse k t later ≡ Fine → (t ≡ false) × (later ≡ Fine)
-open_to k true later h = let z : ◌≡◌ {A = ℕ} 0 1 = cc in absurd (omega arith)
+open_to : (k : Refusal) (t : Bool) (later : Result Unit Refusal) → refuse k t later ≡ Ok tt → (t ≡ false) × (later ≡ Ok tt)
+open_to k true later h = absurd cc
 open_to k false later h = (refl, h)
 
 neither : (a b : Bool) → (not a || not b) ≡ false → (a ≡ true) × (b ≡ true)
@@ -33,15 +33,15 @@ first_on : (fs : List ℕ) → 0 < length fs → first_off fs ≡ false → is_o
 first_on [] some h = absurd (omega arith)
 first_on (f ∷ fs) some h = not-false _ h
 
-pub accepted : (xs ys : List ℤ) (fs : List ℕ) → judged xs ys fs ≡ Fine → Accepted xs ys fs
+pub accepted : (xs ys : List ℤ) (fs : List ℕ) → judged xs ys fs ≡ Ok tt → Accepted xs ys fs
 unfolding judged
 accepted xs ys fs h =
     let n = length fs in
-    let one = open_to 1 (rows_differ (length xs) (length ys) n) _ h in
-    let two = open_to 2 (no_point n) _ one.1 in
-    let three = open_to 3 (too_many n) _ two.1 in
-    let four = open_to 4 (first_off fs) _ three.1 in
-    let five = open_to 5 (off_neighbours fs) Fine four.1 in
+    let one = open_to UnevenRows (rows_differ (length xs) (length ys) n) _ h in
+    let two = open_to NoPoint (no_point n) _ one.1 in
+    let three = open_to TooManyPoints (too_many n) _ two.1 in
+    let four = open_to StartsOffCurve (first_off fs) _ three.1 in
+    let five = open_to OffCurveNeighbours (off_neighbours fs) (Ok tt) four.1 in
     let same = neither (eqb (length xs) (length ys)) (eqb (length xs) n) one.0 in
     let as_y : length xs ≡ length ys = eqb-true _ _ same.0 in
     let as-f : length xs ≡ n = eqb-true _ _ same.1 in
@@ -60,7 +60,7 @@ first_test : (fs : List ℕ) → is_on (get_or fs 0 0) ≡ true → first_off fs
 first_test [] h = refl
 first_test (f ∷ fs) h = ap not h
 
-pub judged_fine : {xs ys : List ℤ} {fs : List ℕ} → Accepted xs ys fs → judged xs ys fs ≡ Fine
+pub judged_fine : {xs ys : List ℤ} {fs : List ℕ} → Accepted xs ys fs → judged xs ys fs ≡ Ok tt
 unfolding judged
 judged_fine {xs} {ys} {fs} a =
     let none : length fs ≡ 0 → ⊥ = λ z. omega (arith, a.some) in

@@ -1,7 +1,7 @@
 -- What a contour is refused for before it is worked, in document 01's words: refusals 1 to 5, and their order. Definitions only.
-use Rattle.std.specs.Prelude.{ℕ, ◌%◌, Bool, true, false, not, ◌&&◌, ◌||◌, List, [], ◌∷◌, eqb, ltb, ℤ, length}
-use Rattle.refusals.specs.declared.Judged.{Judged}
-use Rattle.refusals.specs.declared.Judged.TheVariants.{Fine, Refused}
+use Rattle.std.specs.Prelude.{ℕ, ◌%◌, Bool, true, false, not, ◌&&◌, ◌||◌, List, [], ◌∷◌, eqb, ltb, ℤ, length, Result, Ok, Err}
+use Rattle.refusals.specs.declared.refusal.Refusal.{Refusal}
+use Rattle.refusals.specs.declared.refusal.Refusal.TheVariants.{UnevenRows, NoPoint, TooManyPoints, StartsOffCurve, OffCurveNeighbours}
 
 -- bit 0 of a flag means on-curve; other bits are not looked at
 abbrev pub is_on : ℕ → Bool
@@ -33,16 +33,17 @@ off_neighbours [] = false
 off_neighbours (a ∷ []) = false
 off_neighbours (a ∷ b ∷ fs) = both_off a b || off_neighbours (b ∷ fs)
 
--- refused with the number k if the test holds, else what the later tests say
-abbrev pub refuse : ℕ → Bool → Judged → Judged
-refuse k true later = Refused k
+-- refused for the reason k if the test holds, else what the later tests say
+abbrev pub refuse : Refusal → Bool → Result Unit Refusal → Result Unit Refusal
+refuse k true later = Err k
 refuse k false later = later
 
 -- 1 to 5 are tested in that order
-unfoldable pub judged : List ℤ → List ℤ → List ℕ → Judged
+unfoldable pub judged : List ℤ → List ℤ → List ℕ → Result Unit Refusal
 judged xs ys fs =
     let n = length fs in
-    refuse 1 (rows_differ (length xs) (length ys) n)
-    (refuse 2 (no_point n)
-    (refuse 3 (too_many n)
-    (refuse 4 (first_off fs) (refuse 5 (off_neighbours fs) Fine))))
+    refuse UnevenRows (rows_differ (length xs) (length ys) n)
+    (refuse NoPoint (no_point n)
+    (refuse TooManyPoints (too_many n)
+    (refuse StartsOffCurve (first_off fs)
+    (refuse OffCurveNeighbours (off_neighbours fs) (Ok tt)))))

@@ -3,15 +3,12 @@
 // contract equates the result with a definition of specs/, and asks nothing.
 #![tactic(auto)]
 
+mod refusal;
+
 ghost use Rattle.std.specs.Prelude.{◌≡◌};
 ghost use Rattle.refusals.specs.Refusals.{is_on, both_off, rows_differ, no_point, too_many, first_off, off_neighbours, judged};
 
-// The answer of the five tests: none holds, or the number of the first that does.
-#[derive(Clone, Copy)]
-pub enum Judged {
-    Fine,
-    Refused(u8),
-}
+pub use refusal::Refusal;
 
 pub fn is_on(flag: u8) -> bool
     ensures { result ≡ is_on flag }
@@ -50,44 +47,39 @@ pub fn too_many(n: usize) -> bool
 pub fn first_off(flags: &[u8]) -> bool
     ensures { result ≡ first_off flags.now }
 {
-    if flags.len() == 0 {
-        return false;
-    }
-    !is_on(flags[0])
+    !flags.is_empty() && !is_on(flags[0])
 }
 
 // Refusal 5: the last and the first are no neighbours in the row.
 pub fn off_neighbours(flags: &[u8]) -> bool
     ensures { result ≡ off_neighbours flags.now }
 {
-    let mut i = 1;
-    while i < flags.len() {
+    for i in 1..flags.len() {
         if both_off(flags[i - 1], flags[i]) {
             return true;
         }
-        i += 1;
     }
     false
 }
 
-// The five tests, in their order.
-pub fn judge(xs: &[i16], ys: &[i16], flags: &[u8]) -> Judged
+// The five tests, in their order: the first that holds refuses the contour.
+pub fn judge(xs: &[i16], ys: &[i16], flags: &[u8]) -> Result<(), Refusal>
     ensures { result ≡ judged xs.now ys.now flags.now }
 {
     if rows_differ(xs.len(), ys.len(), flags.len()) {
-        return Judged::Refused(1);
+        return Err(Refusal::UnevenRows);
     }
     if no_point(flags.len()) {
-        return Judged::Refused(2);
+        return Err(Refusal::NoPoint);
     }
     if too_many(flags.len()) {
-        return Judged::Refused(3);
+        return Err(Refusal::TooManyPoints);
     }
     if first_off(flags) {
-        return Judged::Refused(4);
+        return Err(Refusal::StartsOffCurve);
     }
     if off_neighbours(flags) {
-        return Judged::Refused(5);
+        return Err(Refusal::OffCurveNeighbours);
     }
-    Judged::Fine
+    Ok(())
 }

@@ -8,15 +8,10 @@
 ghost use Rattle.std.specs.Io.{ReadsAtMost};
 
 use chains::Chained;
-use checks::Verdict;
-use lines::Parsed;
+use refusals::Refusal;
 use settings::Settings;
 use std::io;
 use std::io::{Read, Write};
-
-fn wide(x: u32) -> u64 {
-    x as u64
-}
 
 fn put_word(text: &mut [u8], at: usize, n: u64) -> usize {
     let a = lines::put_byte(text, at, b' ');
@@ -28,25 +23,7 @@ fn put_float(text: &mut [u8], at: usize, x: f64) -> usize {
     lines::put_bits(text, a, x)
 }
 
-// The piece at place i of these rows, which are equally long.
-fn put_piece(
-    text: &mut [u8],
-    at: usize,
-    starts: &[u32],
-    ends: &[u32],
-    cxs: &[f64],
-    cys: &[f64],
-    i: usize,
-) -> usize {
-    if i < starts.len() && i < ends.len() && i < cxs.len() && i < cys.len() {
-        let a = put_word(text, at, wide(starts[i]));
-        let b = put_word(text, a, wide(ends[i]));
-        let c = put_float(text, b, cxs[i]);
-        return put_float(text, c, cys[i]);
-    }
-    at
-}
-
+// The pieces of these rows, which are equally long.
 fn put_pieces(
     text: &mut [u8],
     from: usize,
@@ -56,17 +33,20 @@ fn put_pieces(
     cys: &[f64],
 ) -> usize {
     let mut at = from;
-    for i in 0..starts.len() {
-        at = put_piece(text, at, starts, ends, cxs, cys, i);
+    for (((start, end), cx), cy) in starts.iter().zip(ends).zip(cxs).zip(cys) {
+        at = put_word(text, at, u64::from(*start));
+        at = put_word(text, at, u64::from(*end));
+        at = put_float(text, at, *cx);
+        at = put_float(text, at, *cy);
     }
     at
 }
 
-fn put_verdict(text: &mut [u8], at: usize, v: Verdict) -> usize {
+fn put_verdict(text: &mut [u8], at: usize, v: Result<bool, Refusal>) -> usize {
     match v {
-        Verdict::Refused(k) => put_word(text, at, k as u64),
-        Verdict::Yes => lines::put_all(text, at, b" yes"),
-        Verdict::No => lines::put_all(text, at, b" no"),
+        Err(k) => put_word(text, at, u64::from(k.number())),
+        Ok(true) => lines::put_all(text, at, b" yes"),
+        Ok(false) => lines::put_all(text, at, b" no"),
     }
 }
 
@@ -176,14 +156,14 @@ fn put_run(text: &mut [u8], xs: &[i16], ys: &[i16], flags: &[u8], k: usize) -> u
         &mut answers,
         &mut links,
     ) {
-        Chained::Refused(n) => lines::put_refused(text, 0, n),
-        Chained::Unchanged(t) => {
+        Err(k) => lines::put_refused(text, 0, k.number()),
+        Ok(Chained::Unchanged(t)) => {
             let a = put_pairs(text, 0, t.pairs);
             lines::put_all(text, a, b" unchanged")
         }
-        Chained::Pieces(n, score, t) => {
+        Ok(Chained::Pieces(n, score, t)) => {
             let a = put_pairs(text, 0, t.pairs);
-            let m = rows::least(n, 2047);
+            let m = n.min(2047);
             put_chain(
                 text,
                 a,
@@ -201,24 +181,19 @@ fn put_run(text: &mut [u8], xs: &[i16], ys: &[i16], flags: &[u8], k: usize) -> u
     }
 }
 
-fn index(x: u8) -> usize {
-    x as usize
-}
-
 // The contour stands after the run number.
 fn put_line(text: &mut [u8], line: &[u8]) -> usize {
     let mut xs = [0i16; 1026];
     let mut ys = [0i16; 1026];
     let mut flags = [0u8; 1026];
-    let Parsed::Points(n) = lines::parse(line, &mut xs, &mut ys, &mut flags) else {
-        return lines::put_all(text, 0, b"malformed");
-    };
-    if n == 0 {
-        return lines::put_all(text, 0, b"malformed");
+    match lines::parse(line, &mut xs, &mut ys, &mut flags) {
+        None | Some(0) => lines::put_all(text, 0, b"malformed"),
+        Some(n) => {
+            let k = usize::from(flags[0]);
+            let m = n.min(1026);
+            put_run(text, &xs[1..m], &ys[1..m], &flags[1..m], k)
+        }
     }
-    let k = index(flags[0]);
-    let m = rows::least(n, 1026);
-    put_run(text, &xs[1..m], &ys[1..m], &flags[1..m], k)
 }
 
 fn write_out<W: Write>(to: &mut W, text: &[u8], n: usize) -> io::Result<bool> {

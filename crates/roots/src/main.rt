@@ -8,34 +8,19 @@ ghost use Rattle.std.specs.Io.{ReadsAtMost};
 use std::io;
 use std::io::{Read, Write};
 
-fn wide(x: u8) -> u64 {
-    x as u64
-}
-
 // The pattern at a place of the input.
 fn pattern(input: &[u8; 32768], at: usize) -> u64
     requires { at + 8 ≤ 32768 }
 {
-    wide(input[at])
-        | (wide(input[at + 1]) << 8)
-        | (wide(input[at + 2]) << 16)
-        | (wide(input[at + 3]) << 24)
-        | (wide(input[at + 4]) << 32)
-        | (wide(input[at + 5]) << 40)
-        | (wide(input[at + 6]) << 48)
-        | (wide(input[at + 7]) << 56)
+    let mut bytes = [0u8; 8];
+    bytes.copy_from_slice(&input[at..at + 8]);
+    u64::from_le_bytes(bytes)
 }
 
 fn put(output: &mut [u8], at: usize, w: u64)
     requires { at + 8 ≤ length output.old }
 {
-    let mut left = w;
-    let mut i = 0;
-    while i < 8 {
-        output[at + i] = (left % 256) as u8;
-        left = left / 256;
-        i += 1;
-    }
+    output[at..at + 8].copy_from_slice(&w.to_le_bytes());
 }
 
 // The roots of one pattern.
@@ -52,10 +37,8 @@ fn answer(input: &[u8; 32768], output: &mut [u8], i: usize)
 fn answers(input: &[u8; 32768], output: &mut [u8], count: usize)
     requires { (count ≤ 4096) × (65536 ≤ length output.old) }
 {
-    let mut i = 0;
-    while i < count {
+    for i in 0..count {
         answer(input, output, i);
-        i += 1;
     }
 }
 

@@ -1,70 +1,44 @@
 // What a line says.
-ghost use Rattle.std.specs.Prelude.{◌<◌, ◌≤◌};
+ghost use Rattle.std.specs.Prelude.{◌<◌, IfSome};
 
-#[derive(Clone, Copy)]
-pub enum Given {
-    Number(f64),
-    Malformed,
-}
-
-// A digit of base 16, in lower case; 16 where a byte is none.
-fn digit(b: u8) -> u64
-    ensures { result ≤ 16 }
+// A digit of base 16, in lower case.
+fn digit(b: u8) -> Option<u64>
+    ensures { IfSome result (λ d. d < 16) }
 {
-    if b < 48 {
-        return 16;
+    match b {
+        b'0'..=b'9' => Some(u64::from(b - b'0')),
+        b'a'..=b'f' => Some(u64::from(b - b'a' + 10)),
+        _ => None,
     }
-    if b < 58 {
-        return (b - 48) as u64;
-    }
-    if b < 97 {
-        return 16;
-    }
-    if b < 103 {
-        return (b - 87) as u64;
-    }
-    16
 }
 
 // The f64 whose bits these 16 digits of base 16 say.
-fn read_bits(line: &[u8]) -> Given {
+fn read_bits(line: &[u8]) -> Option<f64> {
     let mut v = 0u64;
-    let mut i = 0;
-    while i < line.len() {
-        let d = digit(line[i]);
-        if 15 < d {
-            return Given::Malformed;
-        }
-        v = (v << 4) | d;
-        i += 1;
+    for &b in line {
+        v = (v << 4) | digit(b)?;
     }
-    Given::Number(float::of_bits(v))
+    Some(float::of_bits(v))
 }
 
 // The whole number that decimal digits say. Below 10^15 an f64 holds every one.
-fn read_whole(line: &[u8]) -> Given {
+fn read_whole(line: &[u8]) -> Option<f64> {
     let mut v = 0u64;
-    let mut i = 0;
-    while i < line.len() {
-        let d = digit(line[i]);
-        if 9 < d {
-            return Given::Malformed;
-        }
+    for &b in line {
+        let d = digit(b)?;
         v = v * 10 + d;
-        if 999_999_999_999_999 < v {
-            return Given::Malformed;
+        if 9 < d || 999_999_999_999_999 < v {
+            return None;
         }
-        i += 1;
     }
-    Given::Number(v as f64)
+    Some(v as f64)
 }
 
-pub fn read(line: &[u8]) -> Given {
-    if line.len() == 0 {
-        return Given::Malformed;
+// None is malformed.
+pub fn read(line: &[u8]) -> Option<f64> {
+    match line.len() {
+        0 => None,
+        16 => read_bits(line),
+        _ => read_whole(line),
     }
-    if line.len() == 16 {
-        return read_bits(line);
-    }
-    read_whole(line)
 }

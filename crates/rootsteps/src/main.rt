@@ -9,7 +9,6 @@ mod text;
 
 ghost use Rattle.std.specs.Io.{ReadsAtMost};
 
-use given::Given;
 use std::io;
 use std::io::{Read, Write};
 
@@ -17,12 +16,12 @@ use std::io::{Read, Write};
 fn put_line(out: &mut [u8], line: &[u8]) -> usize {
     let a = lines::put_all(out, 0, line);
     match given::read(line) {
-        Given::Number(x) => {
+        Some(x) => {
             let b = lines::put_byte(out, a, b'\n');
             let t = steps::put_root(out, b, x);
             lines::put_byte(out, t.at, b'\n')
         }
-        Given::Malformed => lines::put_all(out, a, b": malformed\n\n"),
+        None => lines::put_all(out, a, b": malformed\n\n"),
     }
 }
 

@@ -6,18 +6,11 @@ ghost use Rattle.float.specs.Steps.{Rooted, Normal, scaled};
 use crate::text;
 use float::{Radicand, Underway, WholeRoot};
 
-// The place after what was written, and the root.
+// The place after what was written, and the root, or its digits alone.
 #[derive(Clone, Copy)]
-pub struct Stepped {
+pub struct Stepped<T: Copy> {
     pub at: usize,
-    pub root: f64,
-}
-
-// The same of the digits alone.
-#[derive(Clone, Copy)]
-pub struct Turns {
-    pub at: usize,
-    pub whole: WholeRoot,
+    pub root: T,
 }
 
 // The columns: a turn's number, the two digits that it takes in, what it has in hand, the trial, the
@@ -36,8 +29,8 @@ fn put_turn(out: &mut [u8], at: usize, i: u64, s: Underway, next: Underway) -> u
 }
 
 // The turns of `float::by_digits`, 53 of them.
-fn put_turns(out: &mut [u8], at: usize, word: u64) -> Turns
-    ensures { Rooted (word * 4 ^ 53 / 2 ^ 64) result.whole.root result.whole.rest }
+fn put_turns(out: &mut [u8], at: usize, word: u64) -> Stepped<WholeRoot>
+    ensures { Rooted (word * 4 ^ 53 / 2 ^ 64) result.root.root result.root.rest }
 {
     let mut a = lines::put_all(
         out,
@@ -49,18 +42,16 @@ fn put_turns(out: &mut [u8], at: usize, word: u64) -> Turns
         rest: 0,
         left: word,
     };
-    let mut i = 0u64;
-    while i < 53 {
+    for i in 0..53u64 {
         let next = float::turn(s);
         a = put_turn(out, a, i + 1, s, next);
         s = next;
-        i += 1;
     }
-    let whole = WholeRoot {
+    let root = WholeRoot {
         root: s.root,
         rest: s.rest,
     };
-    Turns { at: a, whole }
+    Stepped { at: a, root }
 }
 
 // A line of a name, ten bytes wide, and a number.
@@ -105,17 +96,17 @@ fn put_rounding(out: &mut [u8], at: usize, whole: WholeRoot) -> usize {
 }
 
 // The steps for a word and its power.
-fn put_scaled(out: &mut [u8], at: usize, word: u64, power: u64) -> Stepped
+fn put_scaled(out: &mut [u8], at: usize, word: u64, power: u64) -> Stepped<f64>
     requires { Normal word × (power < 2046) }
     ensures { result.root ≡ scaled (root_near 53 (word * 2 ^ 42)) power }
 {
     let a = put_digits(out, at, b"word      ", word, 64);
     let b = put_named(out, a, b"power     ", power);
     let t = put_turns(out, b, word);
-    let c = put_rounding(out, t.at, t.whole);
+    let c = put_rounding(out, t.at, t.root);
     Stepped {
         at: c,
-        root: float::from_digits(float::rounded(t.whole), power),
+        root: float::from_digits(float::rounded(t.root), power),
     }
 }
 
@@ -127,7 +118,7 @@ fn put_fields(out: &mut [u8], at: usize, bits: u64) -> usize {
 }
 
 // Nothing is left to do where x has its answer at once.
-fn put_steps(out: &mut [u8], at: usize, x: f64) -> Stepped
+fn put_steps(out: &mut [u8], at: usize, x: f64) -> Stepped<f64>
     ensures { result.root ≡ root_of x }
 {
     match float::radicand_of(x) {
@@ -137,7 +128,7 @@ fn put_steps(out: &mut [u8], at: usize, x: f64) -> Stepped
 }
 
 // All that becomes of x. The root is that of the crate float.
-pub fn put_root(out: &mut [u8], at: usize, x: f64) -> Stepped
+pub fn put_root(out: &mut [u8], at: usize, x: f64) -> Stepped<f64>
     ensures { result.root ≡ root_of x }
 {
     let a = put_fields(out, at, float::bits(x));

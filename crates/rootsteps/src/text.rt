@@ -22,9 +22,7 @@ pub fn put_binary(out: &mut [u8], at: usize, w: u64, digits: u32) -> usize
     requires { digits ≤ 64 }
 {
     let mut a = at;
-    let mut k = digits;
-    while 0 < k {
-        k -= 1;
+    for k in (0..digits).rev() {
         a = lines::put_byte(out, a, 48 + (((w >> k) % 2) as u8));
     }
     a

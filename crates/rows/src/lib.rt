@@ -12,44 +12,10 @@ pub fn least(a: usize, b: usize) -> usize
     if a < b { a } else { b }
 }
 
-fn clear_samples(samples: &mut [[f64; 4]])
-    ensures { samples.new ≡ replicate (length samples.old) sample_zero }
-{
-    for i in 0..samples.len() {
-        samples[i] = [0.0; 4];
-    }
-}
-
-fn clear_breaks(breaks: &mut [[f64; 6]])
-    ensures { breaks.new ≡ replicate (length breaks.old) break_zero }
-{
-    for i in 0..breaks.len() {
-        breaks[i] = [0.0; 6];
-    }
-}
-
-fn clear_answers(answers: &mut [[f64; 3]])
-    ensures { answers.new ≡ replicate (length answers.old) answer_zero }
-{
-    for i in 0..answers.len() {
-        answers[i] = [0.0; 3];
-    }
-}
-
-fn clear_links(links: &mut [u32])
-    ensures { links.new ≡ replicate (length links.old) link_zero }
-{
-    for i in 0..links.len() {
-        links[i] = 0;
-    }
-}
-
 pub fn clear_points(points: &mut [[i16; 3]])
     ensures { points.new ≡ replicate (length points.old) point_zero }
 {
-    for i in 0..points.len() {
-        points[i] = [0; 3];
-    }
+    points.fill([0; 3]);
 }
 
 // The four rows that a run is worked in.
@@ -62,8 +28,8 @@ pub fn clear_work(
     ensures { work samples.new breaks.new answers.new links.new
         ≡ zero_work (length samples.old) (length breaks.old) (length answers.old) (length links.old) }
 {
-    clear_samples(samples);
-    clear_breaks(breaks);
-    clear_answers(answers);
-    clear_links(links);
+    samples.fill([0.0; 4]);
+    breaks.fill([0.0; 6]);
+    answers.fill([0.0; 3]);
+    links.fill(0);
 }

@@ -1,4 +1,5 @@
 -- Run k of a contour of at most 1,024 points starts at a segment of at most 2,048, counted on going round, and has at most so many. Assumes nothing.
+use Rattle.std.specs.Prelude.{Option, Some, None}
 use Prim.Native.Nat.{ℕ, zero, suc, ◌+◌, ◌≤◌, ◌<◌}
 use native.Mathlib.Omega.{arith}
 use mathlib.Core.Bool.{Bool, true, false, true≢false}
@@ -12,7 +13,6 @@ use Rattle.outline.specs.Laws.{count_few}
 use Rattle.corners.proofs.Reasons.{no_corner_past}
 use Rattle.runs.specs.Runs.{marks_from, corner_list, between, stops_in, stops_of, runs_of, run_at, is_copied, unless_copied, numbered_run}
 use Rattle.runs.specs.declared.Run.{Run}
-use Rattle.runs.specs.declared.Run.TheVariants.{Between, Nothing}
 
 -- each is at most n
 data Low (n : ℕ) : List ℕ → Type 0 where
@@ -47,22 +47,22 @@ stops_few true segments n (a ∷ corners) (one h low) = then_one {b = a + segmen
 stops_few false segments n corners low = lower (omega arith) low
 
 -- a run's first segment, and how many it has
-record Few (n : ℕ) (r : Run) : Type 0 where
-  all : {first count : ℕ} → r ≡ Between first count → (first ≤ n) × (count ≤ n)
+record Few (n : ℕ) (r : Option Run) : Type 0 where
+  all : {first count : ℕ} → r ≡ Some (record { first = first; count = count }) → (first ≤ n) × (count ≤ n)
 
-abbrev first_in : Run → ℕ
-first_in (Between first count) = first
-first_in Nothing = 0
+abbrev first_in : Option Run → ℕ
+first_in (Some r) = r.first
+first_in None = 0
 
-abbrev count_in : Run → ℕ
-count_in (Between first count) = count
-count_in Nothing = 0
+abbrev count_in : Option Run → ℕ
+count_in (Some r) = r.count
+count_in None = 0
 
-low_run : {n first count : ℕ} → first ≤ n → count ≤ n → Few n (Between first count)
+low_run : {n first count : ℕ} → first ≤ n → count ≤ n → Few n (Some (record { first = first; count = count }))
 low_run f c = record { all = λ e. (omega (arith, ap first_in e), omega (arith, ap count_in e)) }
 
-no_run : {n : ℕ} → Few n Nothing
-no_run = record { all = λ e. let z : ◌≡◌ {A = ℕ} 0 1 = cc in absurd (omega arith) }
+no_run : {n : ℕ} → Few n None
+no_run = record { all = λ e. absurd cc }
 
 runs_few : {n : ℕ} (k : ℕ) (l : List ℕ) → Low n l → Few n (run_at (between l) k)
 unfolding between run_at
@@ -71,12 +71,12 @@ runs_few k (a ∷ []) low = no_run
 runs_few zero (a ∷ b ∷ l) (one h (one g low)) = low_run h (omega arith)
 runs_few (suc k) (a ∷ b ∷ l) (one h low) = runs_few k (b ∷ l) low
 
-copied_few : {n : ℕ} (t : Bool) {r : Run} → Few n r → Few n (unless_copied t r)
+copied_few : {n : ℕ} (t : Bool) {r : Option Run} → Few n r → Few n (unless_copied t r)
 copied_few true f = no_run
 copied_few false f = f
 
-pub run_few : (closed : Bool) (xs ys : List ℤ) (fs : List ℕ) (k : ℕ) {r : Run} {first count : ℕ} → length fs ≤ 1024 →
-    r ≡ numbered_run closed xs ys fs k → r ≡ Between first count → (first ≤ 2048) × (count ≤ 2048)
+pub run_few : (closed : Bool) (xs ys : List ℤ) (fs : List ℕ) (k : ℕ) {r : Option Run} {first count : ℕ} → length fs ≤ 1024 →
+    r ≡ numbered_run closed xs ys fs k → r ≡ Some (record { first = first; count = count }) → (first ≤ 2048) × (count ≤ 2048)
 unfolding numbered_run runs_of stops_of corner_list
 run_few closed xs ys fs k {r} few e is =
     let m = count_of fs in

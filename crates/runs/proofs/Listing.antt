@@ -1,4 +1,5 @@
 -- The corners listed, one mark after the other; and run k between listed corners. Assumes nothing.
+use Rattle.std.specs.Prelude.{Some, None}
 use Prim.Native.Nat.{ℕ, zero, suc, ◌+◌, ◌-◌, ◌≤◌, ◌<◌, min}
 use native.Mathlib.Numerals.{add-one}
 use native.Mathlib.Omega.{arith}
@@ -14,7 +15,6 @@ use Rattle.outline.specs.Laws.{count_few}
 use Rattle.corners.specs.Corners.{corners_of}
 use Rattle.corners.proofs.Reasons.{corner_when, no_corner_past}
 use Rattle.runs.specs.Runs.{marks_from, corner_list, going_round, between, run_at, Listed}
-use Rattle.runs.specs.declared.Run.TheVariants.{Between, Nothing}
 
 -- what is listed after i marks, of which n were set, and what is left to list
 pub record Listing (marks : List Bool) (long : ℕ) (row : List ℕ) (n i : ℕ) : Type 0 where
@@ -139,14 +139,14 @@ none_round segments {row} {corners} {n} l e =
 
 -- ---- run k
 
-pub run_is : (corners : List ℕ) (k : ℕ) → k < length corners - 1 → run_at (between corners) k ≡ Between (get_or corners k 0) (get_or corners (suc k) 0 - get_or corners k 0)
+pub run_is : (corners : List ℕ) (k : ℕ) → k < length corners - 1 → run_at (between corners) k ≡ Some (record { first = (get_or corners k 0); count = (get_or corners (suc k) 0 - get_or corners k 0) })
 unfolding run_at between
 run_is [] k h = absurd (omega arith)
 run_is (a ∷ []) k h = absurd (omega arith)
 run_is (a ∷ b ∷ corners) zero h = refl
 run_is (a ∷ b ∷ corners) (suc k) h = run_is (b ∷ corners) k (omega arith)
 
-pub run_past : (corners : List ℕ) (k : ℕ) → length corners - 1 ≤ k → run_at (between corners) k ≡ Nothing
+pub run_past : (corners : List ℕ) (k : ℕ) → length corners - 1 ≤ k → run_at (between corners) k ≡ None
 unfolding run_at between
 run_past [] k h = refl
 run_past (a ∷ []) k h = refl

@@ -1,10 +1,11 @@
 -- Corners rise, each above the one before it, so that each run has a segment; and none goes round twice: `RunHasSegments` holds. Assumes nothing.
+use Rattle.std.specs.Prelude.{Option, Some}
 use Prim.Native.Nat.{ℕ, zero, suc, ◌+◌, ◌-◌, ◌≤◌, ◌<◌}
 use native.Mathlib.Nat.{lt_of_not-le}
 use native.Mathlib.Omega.{arith}
 use mathlib.Core.Bool.{Bool, true, false, false≢true}
 use mathlib.Core.List.{List, [], ◌∷◌, ◌++◌}
-use mathlib.Core.Path.{◌≡◌, sym}
+use mathlib.Core.Path.{◌≡◌, sym, ap}
 use lib.ListN.{get_or}
 use Rattle.outline.specs.Segments.{count_of}
 use Rattle.corners.specs.Corners.{corners_of}
@@ -12,7 +13,6 @@ use Rattle.corners.proofs.Reasons.{no_corner_past}
 use Rattle.runs.specs.Runs.{marks_from, corner_list, between, stops_in, stops_of, runs_of, run_at, is_copied, unless_copied, numbered_run}
 use Rattle.runs.specs.Numbered.{RunHasSegments}
 use Rattle.runs.specs.declared.Run.{Run}
-use Rattle.runs.specs.declared.Run.TheVariants.{Between}
 
 -- numbers from lo on and below hi, each above the one before it
 data Up : ℕ → ℕ → List ℕ → Type 0 where
@@ -54,18 +54,19 @@ stops_up true segments (a ∷ corners) (next h u) =
     wider (suc (segments + segments)) (omega (arith, low)) (more (a + segments) (omega arith) (next h u))
 
 -- run k of these stops
-run_up : {lo hi : ℕ} (stops : List ℕ) (k first count : ℕ) → Up lo hi stops → run_at (between stops) k ≡ Between first count → (0 < count) × (first + count < hi)
+run_up : {lo hi : ℕ} (stops : List ℕ) (k first count : ℕ) → Up lo hi stops → run_at (between stops) k ≡ Some (record { first = first; count = count }) → (0 < count) × (first + count < hi)
 unfolding between run_at
-run_up [] k first count u e = absurd (let q : ◌≡◌ {A = ℕ} 0 1 = cc in omega arith)
-run_up (a ∷ []) k first count u e = absurd (let q : ◌≡◌ {A = ℕ} 0 1 = cc in omega arith)
+run_up [] k first count u e = absurd cc
+run_up (a ∷ []) k first count u e = absurd cc
 run_up (a ∷ b ∷ stops) zero first count (next h (next p u)) e =
-    let f : a ≡ first = cc in
-    let c : b - a ≡ count = cc in
+    let same : record { first = a; count = b - a } ≡ record { first = first; count = count } = cc in
+    let f : a ≡ first = ap (λ (r : Run). r.first) same in
+    let c : b - a ≡ count = ap (λ (r : Run). r.count) same in
     (omega arith, omega (arith, spread u))
 run_up (a ∷ b ∷ stops) (suc k) first count (next h u) e = run_up (b ∷ stops) k first count u e
 
-not_copied : (t : Bool) {r : Run} {first count : ℕ} → unless_copied t r ≡ Between first count → r ≡ Between first count
-not_copied true e = absurd (let q : ◌≡◌ {A = ℕ} 0 1 = cc in omega arith)
+not_copied : (t : Bool) {r : Option Run} {first count : ℕ} → unless_copied t r ≡ Some (record { first = first; count = count }) → r ≡ Some (record { first = first; count = count })
+not_copied true e = absurd cc
 not_copied false e = e
 
 pub run_has_segments : RunHasSegments

@@ -1,7 +1,8 @@
 -- Which segments of a contour the runs hold, as types; proofs/Covered has a proof of each. Definitions only.
 use Rattle.std.specs.Prelude.{ℕ, zero, suc, ◌-◌, ◌%◌, ◌<◌, Bool, true, false, List, [], ◌∷◌, ◌++◌, map, ◌≡◌, eqb, ℤ}
 use Rattle.outline.specs.Segments.{one_more, count_of}
-use Rattle.runs.specs.Runs.{Span, corner_list, runs_of}
+use Rattle.runs.specs.Runs.{corner_list, runs_of}
+use Rattle.runs.specs.declared.Run.{Run}
 
 -- so many numbers, from a on
 unfoldable pub upward : ℕ → ℕ → List ℕ
@@ -9,7 +10,7 @@ upward a zero = []
 upward a (suc count) = a ∷ upward (suc a) count
 
 -- the segments of one run after the other, by their numbers; going round, segment 0 comes after the last of n
-unfoldable pub segments_in : ℕ → List Span → List ℕ
+unfoldable pub segments_in : ℕ → List Run → List ℕ
 segments_in n [] = []
 segments_in n (r ∷ rs) = map (λ (i : ℕ). i % n) (upward r.first r.count) ++ segments_in n rs
 

@@ -1,9 +1,8 @@
 -- Corner k and run k, as types; proofs/Numbered has a proof of each. Definitions and statements only.
-use Rattle.std.specs.Prelude.{ℕ, zero, suc, ◌+◌, ◌-◌, ◌≤◌, ◌<◌, Bool, true, false, List, [], ◌∷◌, ◌≡◌, ℤ, length, get_or}
+use Rattle.std.specs.Prelude.{ℕ, zero, suc, ◌+◌, ◌-◌, ◌≤◌, ◌<◌, Bool, true, false, List, [], ◌∷◌, ◌≡◌, ℤ, length, get_or, Some, None}
 use Rattle.outline.specs.Segments.{one_more, count_of}
 use Rattle.corners.specs.Corners.{corners_of}
 use Rattle.runs.specs.Runs.{corner_list, stops_of, runs_of, run_at, numbered_run}
-use Rattle.runs.specs.declared.Run.TheVariants.{Between, Nothing}
 
 -- how many indices below i are marked
 unfoldable pub marked_below : List Bool → ℕ → ℕ
@@ -29,13 +28,13 @@ abbrev pub RunLiesBetween : Type 0
 RunLiesBetween =
     (closed : Bool) (xs ys : List ℤ) (fs : List ℕ) (k : ℕ) →
     let stops = stops_of closed xs ys fs in
-    suc k < length stops → run_at (runs_of closed xs ys fs) k ≡ Between (get_or stops k 0) (get_or stops (suc k) 0 - get_or stops k 0)
+    suc k < length stops → run_at (runs_of closed xs ys fs) k ≡ Some (record { first = (get_or stops k 0); count = (get_or stops (suc k) 0 - get_or stops k 0) })
 
 abbrev pub NoRunPast : Type 0
-NoRunPast = (closed : Bool) (xs ys : List ℤ) (fs : List ℕ) (k : ℕ) → length (stops_of closed xs ys fs) ≤ suc k → run_at (runs_of closed xs ys fs) k ≡ Nothing
+NoRunPast = (closed : Bool) (xs ys : List ℤ) (fs : List ℕ) (k : ℕ) → length (stops_of closed xs ys fs) ≤ suc k → run_at (runs_of closed xs ys fs) k ≡ None
 
 -- A run has a segment at least, and it ends before it has gone round twice.
 abbrev pub RunHasSegments : Type 0
 RunHasSegments =
-    (closed : Bool) (xs ys : List ℤ) (fs : List ℕ) (k first count : ℕ) → numbered_run closed xs ys fs k ≡ Between first count →
+    (closed : Bool) (xs ys : List ℤ) (fs : List ℕ) (k first count : ℕ) → numbered_run closed xs ys fs k ≡ Some (record { first = first; count = count }) →
     (0 < count) × (first + count ≤ count_of fs + count_of fs)

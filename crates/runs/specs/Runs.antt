@@ -1,10 +1,9 @@
 -- The runs of a contour, as a list. Corner k is the k-th marked index, and run k lies between corners k and k + 1; in closed mode the last one goes
 -- round from the last corner to the first. A run is its first segment and how many segments it has, going round. Definitions only.
-use Rattle.std.specs.Prelude.{ℕ, zero, suc, ◌+◌, ◌-◌, ◌≤◌, Bool, true, false, not, ◌&&◌, List, [], ◌∷◌, ◌++◌, ◌≡◌, eqb, ℤ, length, take}
+use Rattle.std.specs.Prelude.{ℕ, zero, suc, ◌+◌, ◌-◌, ◌≤◌, Bool, true, false, not, ◌&&◌, List, [], ◌∷◌, ◌++◌, ◌≡◌, eqb, ℤ, length, take, Option, Some, None}
 use Rattle.outline.specs.Segments.{count_of, start_of, seg_from, is_quad_of}
 use Rattle.corners.specs.Corners.{corners_of}
 use Rattle.runs.specs.declared.Run.{Run}
-use Rattle.runs.specs.declared.Run.TheVariants.{Between, Nothing}
 
 -- ---- corners, in order
 
@@ -19,12 +18,8 @@ corner_list xs ys fs = marks_from (corners_of xs ys fs 1024) 0
 
 -- ---- runs
 
-pub record Span : Type 0 where
-  pub first : ℕ
-  pub count : ℕ
-
 -- from each corner to the next
-unfoldable pub between : List ℕ → List Span
+unfoldable pub between : List ℕ → List Run
 between [] = []
 between (a ∷ []) = []
 between (a ∷ b ∷ corners) = record { first = a; count = b - a } ∷ between (b ∷ corners)
@@ -42,13 +37,13 @@ stops_in false segments corners = corners
 unfoldable pub stops_of : Bool → List ℤ → List ℤ → List ℕ → List ℕ
 stops_of closed xs ys fs = stops_in closed (count_of fs) (corner_list xs ys fs)
 
-unfoldable pub runs_of : Bool → List ℤ → List ℤ → List ℕ → List Span
+unfoldable pub runs_of : Bool → List ℤ → List ℤ → List ℕ → List Run
 runs_of closed xs ys fs = between (stops_of closed xs ys fs)
 
 -- run k of a list
-unfoldable pub run_at : List Span → ℕ → Run
-run_at [] k = Nothing
-run_at (r ∷ rs) zero = Between r.first r.count
+unfoldable pub run_at : List Run → ℕ → Option Run
+run_at [] k = None
+run_at (r ∷ rs) zero = Some r
 run_at (r ∷ rs) (suc k) = run_at rs k
 
 -- ---- a run of one segment that is a line is copied
@@ -58,20 +53,20 @@ abbrev pub copied_from : List ℤ → List ℤ → List ℕ → ℕ → ℕ → 
 copied_from xs ys fs a count = eqb count 1 && not (is_quad_of (seg_from xs ys fs a))
 
 -- and of a run by its first segment
-abbrev pub is_copied : List ℤ → List ℤ → List ℕ → Run → Bool
-is_copied xs ys fs (Between first count) = copied_from xs ys fs (start_of fs first) count
-is_copied xs ys fs Nothing = false
+abbrev pub is_copied : List ℤ → List ℤ → List ℕ → Option Run → Bool
+is_copied xs ys fs (Some r) = copied_from xs ys fs (start_of fs r.first) r.count
+is_copied xs ys fs None = false
 
 -- ---- run k, for the entries that work one run alone: there is none where the contour has no such run, or where it is one copied line: refusal 10
 
-abbrev pub unless_copied : Bool → Run → Run
-unless_copied true r = Nothing
+abbrev pub unless_copied : Bool → Option Run → Option Run
+unless_copied true r = None
 unless_copied false r = r
 
-abbrev pub workable : List ℤ → List ℤ → List ℕ → Run → Run
+abbrev pub workable : List ℤ → List ℤ → List ℕ → Option Run → Option Run
 workable xs ys fs r = unless_copied (is_copied xs ys fs r) r
 
-unfoldable pub numbered_run : Bool → List ℤ → List ℤ → List ℕ → ℕ → Run
+unfoldable pub numbered_run : Bool → List ℤ → List ℤ → List ℕ → ℕ → Option Run
 numbered_run closed xs ys fs k = workable xs ys fs (run_at (runs_of closed xs ys fs) k)
 
 -- ---- what the code leaves: the first n places of a row are the list

@@ -5,11 +5,11 @@
 ghost use Rattle.std.specs.Prelude.{◌≡◌, ◌-◌, ◌≤◌, ◌<◌, min, length, get_or};
 ghost use Rattle.runs.specs.Runs.{marks_from, corner_list, stops_of, between, run_at, copied_from, is_copied, workable, numbered_run, Listed};
 
-// A run, from one corner up to the next: its first segment, and how many it has. Nothing where no such run is.
-#[derive(Clone, Copy)]
-pub enum Run {
-    Between(usize, usize),
-    Nothing,
+// A run, from one corner up to the next: its first segment, and how many it has.
+#[derive(Clone, Copy, Debug, PartialEq, Eq)]
+pub struct Run {
+    pub first: usize,
+    pub count: usize,
 }
 
 // Writes the marked indices to the first places of the row, upward; says how many.
@@ -19,13 +19,11 @@ fn list_marks(marks: &[bool], list: &mut [usize]) -> usize
     ensures few { result ≤ length marks.now }
 {
     let mut n = 0;
-    let mut i = 0;
-    while i < marks.len() {
-        if marks[i] {
+    for (i, marked) in marks.iter().enumerate() {
+        if *marked {
             list[n] = i;
             n += 1;
         }
-        i += 1;
     }
     n
 }
@@ -62,37 +60,26 @@ fn list_marked(
     ensures { Listed list.new result (stops_of closed xs.now ys.now flags.now) }
 {
     let n = list_corners(xs, ys, flags, marks, list);
-    if closed {
-        if n == 0 {
-            return n;
-        }
+    if closed && n > 0 {
         list[n] = list[0] + outline::count(flags);
         return n + 1;
     }
     n
 }
 
-// Where the runs begin and end.
-pub fn list_stops(xs: &[i16], ys: &[i16], flags: &[u8], closed: bool, list: &mut [usize]) -> usize
-    requires { 1025 ≤ length list.old }
-    ensures { Listed list.new result (stops_of closed xs.now ys.now flags.now) }
-{
-    let mut marks = [false; 1024];
-    list_marked(xs, ys, flags, closed, &mut marks, list)
-}
-
-// The same for a contour of few points, which has no more segments: short rows take less time to clear.
-pub fn list_few_stops(
+// Where the runs begin and end, by a row of N marks: 1024 serve any contour. One of at most N points has no more segments than that, and a
+// short row takes less time to clear.
+pub fn list_stops<const N: usize>(
     xs: &[i16],
     ys: &[i16],
     flags: &[u8],
     closed: bool,
     list: &mut [usize],
 ) -> usize
-    requires { (length flags.now ≤ 32) × (33 ≤ length list.old) }
+    requires { (min (length flags.now) 1024 ≤ N) × (N ≤ 1024) × (N < length list.old) }
     ensures { Listed list.new result (stops_of closed xs.now ys.now flags.now) }
 {
-    let mut marks = [false; 32];
+    let mut marks = [false; N];
     list_marked(xs, ys, flags, closed, &mut marks, list)
 }
 
@@ -100,20 +87,22 @@ pub fn list_few_stops(
 fn gap(a: usize, b: usize) -> usize
     ensures { result ≡ b - a }
 {
-    if a < b { b - a } else { 0 }
+    b.saturating_sub(a)
 }
 
-// Run k between listed corners.
-pub fn run_at(corners: &[usize], k: usize) -> Run
+// Run k between listed corners, if there is one.
+pub fn run_at(corners: &[usize], k: usize) -> Option<Run>
     ensures { result ≡ run_at (between corners.now) k }
 {
     if corners.len() == 0 {
-        return Run::Nothing;
+        return None;
     }
     if k < corners.len() - 1 {
-        return Run::Between(corners[k], gap(corners[k], corners[k + 1]));
+        let first = corners[k];
+        let count = gap(first, corners[k + 1]);
+        return Some(Run { first, count });
     }
-    Run::Nothing
+    None
 }
 
 // Whether the run of so many segments from place a on is one line, which is copied.
@@ -123,32 +112,38 @@ pub fn is_copied_from(xs: &[i16], ys: &[i16], flags: &[u8], a: usize, count: usi
     count == 1 && !outline::read_from(xs, ys, flags, a).is_quad()
 }
 
-pub fn is_copied(xs: &[i16], ys: &[i16], flags: &[u8], r: Run) -> bool
+pub fn is_copied(xs: &[i16], ys: &[i16], flags: &[u8], r: Option<Run>) -> bool
     ensures { result ≡ is_copied xs.now ys.now flags.now r }
 {
     match r {
-        Run::Between(first, count) => {
-            is_copied_from(xs, ys, flags, outline::start_of(flags, first), count)
+        Some(run) => {
+            is_copied_from(
+                xs,
+                ys,
+                flags,
+                outline::start_of(flags, run.first),
+                run.count,
+            )
         }
-        Run::Nothing => false,
+        None => false,
     }
 }
 
-// The run itself, or Nothing where it is one copied line.
-fn unless_copied(xs: &[i16], ys: &[i16], flags: &[u8], r: Run) -> Run
+// The run itself, or none where it is one copied line.
+fn unless_copied(xs: &[i16], ys: &[i16], flags: &[u8], r: Option<Run>) -> Option<Run>
     ensures { result ≡ workable xs.now ys.now flags.now r }
 {
     if is_copied(xs, ys, flags, r) {
-        return Run::Nothing;
+        return None;
     }
     r
 }
 
 // Run k of a contour, for the entries that work one run alone.
-pub fn numbered_run(xs: &[i16], ys: &[i16], flags: &[u8], closed: bool, k: usize) -> Run
+pub fn numbered_run(xs: &[i16], ys: &[i16], flags: &[u8], closed: bool, k: usize) -> Option<Run>
     ensures { result ≡ numbered_run closed xs.now ys.now flags.now k }
 {
     let mut list = [0usize; 1025];
-    let n = list_stops(xs, ys, flags, closed, &mut list);
+    let n = list_stops::<1024>(xs, ys, flags, closed, &mut list);
     unless_copied(xs, ys, flags, run_at(&list[..n], k))
 }

@@ -1,5 +1,5 @@
 -- Module 5, the Rust's `Thetas::new`: a place and a unit direction at each whole arc length of a run, up to its length + 2. Definitions only.
-use Rattle.std.specs.Prelude.{ℕ, zero, suc, ◌-◌, Bool, true, false, List, [], ◌∷◌, ◌++◌, ℤ, length, take, Float}
+use Rattle.std.specs.Prelude.{ℕ, zero, suc, ◌-◌, Bool, true, false, List, [], ◌∷◌, ◌++◌, ℤ, length, take, Float, Option, Some, None}
 use Rattle.std.specs.Float.{binary64}
 use Rattle.std.specs.Float.Ieee.{add, sub, div, neg, le}
 use Rattle.float.specs.Numbers.{nought, one, two}
@@ -13,12 +13,8 @@ use Rattle.outline.specs.declared.Seg.TheVariants as Seg
 use Rattle.outline.specs.Segments.{point, start_of, end_of, seg_from, origin}
 use Rattle.samples.specs.declared.Step.{Step}
 use Rattle.samples.specs.declared.Walk.{Walk}
-use Rattle.samples.specs.declared.Filled as F
-use Rattle.samples.specs.declared.Filled.TheVariants as Filled
-use Rattle.samples.specs.declared.Swept as W
-use Rattle.samples.specs.declared.Swept.TheVariants as Swept
-use Rattle.samples.specs.declared.Thetas as T
-use Rattle.samples.specs.declared.Thetas.TheVariants as Thetas
+use Rattle.samples.specs.declared.Filled.{Filled}
+use Rattle.samples.specs.declared.Thetas.{Thetas}
 
 -- ---- the quads of a run
 
@@ -156,31 +152,31 @@ start = record { n = 0; ix = nought; last = before_all; len = nought }
 abbrev pub walked_in : List Sample → Walk → Walked
 walked_in row w = at (take w.n row) w.ix w.last
 
-abbrev pub filled_in : List Sample → Step → F.Filled → Walked
-filled_in row last Filled.Full = full
-filled_in row last (Filled.At n ix) = at (take n row) ix last
+abbrev pub filled_in : List Sample → Step → Option Filled → Walked
+filled_in row last None = full
+filled_in row last (Some f) = at (take f.count row) f.ix last
 
-abbrev pub places_filled : F.Filled → ℕ
-places_filled Filled.Full = 0
-places_filled (Filled.At n ix) = n
+abbrev pub places_filled : Option Filled → ℕ
+places_filled None = 0
+places_filled (Some f) = f.count
 
-abbrev pub swept_in : List Sample → W.Swept → Walked
-swept_in row Swept.Full = full
-swept_in row (Swept.At w) = walked_in row w
+abbrev pub swept_in : List Sample → Option Walk → Walked
+swept_in row None = full
+swept_in row (Some w) = walked_in row w
 
-abbrev pub places_swept : W.Swept → ℕ
-places_swept Swept.Full = 0
-places_swept (Swept.At w) = w.n
+abbrev pub places_swept : Option Walk → ℕ
+places_swept None = 0
+places_swept (Some w) = w.n
 
 -- the length of a walk that goes on; where it does not, y
-abbrev pub length_swept : Float → W.Swept → Float
-length_swept y Swept.Full = y
-length_swept y (Swept.At w) = w.len
+abbrev pub length_swept : Float → Option Walk → Float
+length_swept y None = y
+length_swept y (Some w) = w.len
 
-abbrev pub run_in : List Sample → T.Thetas → Run
-run_in row Thetas.Full = refused
-run_in row (Thetas.Sampled n y) = sampled (take n row) y
+abbrev pub run_in : List Sample → Option Thetas → Run
+run_in row None = refused
+run_in row (Some t) = sampled (take t.count row) t.length
 
-abbrev pub places_sampled : T.Thetas → ℕ
-places_sampled Thetas.Full = 0
-places_sampled (Thetas.Sampled n y) = n
+abbrev pub places_sampled : Option Thetas → ℕ
+places_sampled None = 0
+places_sampled (Some t) = t.count

@@ -5,6 +5,7 @@
 ghost use Rattle.std.specs.Prelude.{◌≡◌, ◌≤◌, length, take};
 ghost use Rattle.float.specs.Numbers.{nought};
 ghost use Rattle.arclen.specs.Arclen.{arclen_functor_of};
+ghost use Rattle.geometry.specs.Geometry.{unitize_of};
 ghost use Rattle.samples.specs.Samples.{quad_of, quads_of, sample_from, sample_at, step_at, fill_to, sweep_from, length_after};
 ghost use Rattle.samples.specs.Samples.{finished, thetas_of, start, walked_in, filled_in, places_filled};
 ghost use Rattle.samples.specs.Samples.{swept_in, places_swept, length_swept, run_in, places_sampled};
@@ -21,11 +22,11 @@ pub struct Step {
     pub s: f64,
 }
 
-// `At(n, ix)`: n places are used, and ix is the next whole length. Full: the row has no place left.
+// A row after some samples: the places used, and the next whole length.
 #[derive(Clone, Copy)]
-pub enum Filled {
-    Full,
-    At(usize, f64),
+pub struct Filled {
+    pub count: usize,
+    pub ix: f64,
 }
 
 // Where the walk along a run stands: the places used, the next whole length, the last step, and the
@@ -38,18 +39,31 @@ pub struct Walk {
     pub len: f64,
 }
 
+// The samples of a run: the places used, and the length.
 #[derive(Clone, Copy)]
-pub enum Swept {
-    Full,
-    At(Walk),
+pub struct Thetas {
+    pub count: usize,
+    pub length: f64,
 }
 
-// The places used and the length of the run; Full: refusal 6.
-#[derive(Clone, Copy)]
-pub enum Thetas {
-    Full,
-    Sampled(usize, f64),
+// How a direction gets the length 1: as the Rust does, or quicker.
+pub trait Unitize {
+    fn unitize(p: Point) -> Point
+        ensures { result ≡ unitize_of p };
 }
+
+// How a quad is sampled: as the Rust does, or quicker.
+pub trait Sampling: Unitize {
+    // 100 steps over one quad. None: the row is full.
+    fn sweep(row: &mut [[f64; 4]], from: Walk, q: Quad) -> Option<Walk>
+        requires { from.n ≤ length row.old }
+        ensures row { sweep_from 100 (length row.old) q nought from.len (walked_in row.old from) ≡ swept_in row.new result }
+        ensures places { places_swept result ≤ length row.old }
+        ensures length { length_swept (length_after q from.len) result ≡ length_after q from.len };
+}
+
+// Step by step, as the Rust does.
+pub struct Plain;
 
 // A segment as a quad: a line's control is the lerp of its ends at 0.5.
 pub fn as_quad(s: Seg) -> Quad
@@ -67,24 +81,31 @@ pub fn as_quad(s: Seg) -> Quad
 }
 
 // A place and a direction, as a row has them.
-pub fn packed(p: Point, d: Point) -> [f64; 4]
+fn packed(p: Point, d: Point) -> [f64; 4]
     ensures { result ≡ sample_from p d }
 {
     [p.x, p.y, d.x, d.y]
 }
 
 // The sample at the length ix, between the last step and this one.
-fn sample(last: Step, this: Step, ix: f64) -> [f64; 4]
+fn sample<S: Unitize>(last: Step, this: Step, ix: f64) -> [f64; 4]
     ensures { result ≡ sample_at last this ix }
 {
     let u = (ix - last.s) / (this.s - last.s);
     let from = last.xy;
     let turn = last.d;
-    packed(from.lerp(this.xy, u), turn.lerp(this.d, u).unitize())
+    packed(from.lerp(this.xy, u), S::unitize(turn.lerp(this.d, u)))
 }
 
-// Samples while the next whole length is at most limit.
-fn fill(row: &mut [[f64; 4]], n: usize, ix: f64, last: Step, this: Step, limit: f64) -> Filled
+// Samples while the next whole length is at most limit. None: the row is full.
+pub fn fill<S: Unitize>(
+    row: &mut [[f64; 4]],
+    n: usize,
+    ix: f64,
+    last: Step,
+    this: Step,
+    limit: f64,
+) -> Option<Filled>
     requires { n ≤ length row.old }
     ensures row { fill_to (length row.old) this limit (take n row.old) ix last ≡ filled_in row.new last result }
     ensures places { places_filled result ≤ length row.old }
@@ -93,13 +114,13 @@ fn fill(row: &mut [[f64; 4]], n: usize, ix: f64, last: Step, this: Step, limit: 
     let mut x = ix;
     while x <= limit {
         if row.len() <= m {
-            return Filled::Full;
+            return None;
         }
-        row[m] = sample(last, this, x);
+        row[m] = sample::<S>(last, this, x);
         m += 1;
         x = x + 1.0;
     }
-    Filled::At(m, x)
+    Some(Filled { count: m, ix: x })
 }
 
 // Where the quad is at the time t, with the length y there.
@@ -112,43 +133,8 @@ pub fn step_at(q: Quad, f: ArclenFunctor, t: f64, y: f64) -> Step
     Step { xy, d, s: y }
 }
 
-// 100 steps over one quad.
-fn sweep(row: &mut [[f64; 4]], from: Walk, q: Quad) -> Swept
-    requires { from.n ≤ length row.old }
-    ensures row { sweep_from 100 (length row.old) q nought from.len (walked_in row.old from) ≡ swept_in row.new result }
-    ensures places { places_swept result ≤ length row.old }
-    ensures length { length_swept (length_after q from.len) result ≡ length_after q from.len }
-{
-    let f = ArclenFunctor::new(q);
-    let h = 1.0 / 100.0;
-    let mut n = from.n;
-    let mut ix = from.ix;
-    let mut last = from.last;
-    let mut t = 0.0;
-    let mut y = from.len;
-    let mut k = 0usize;
-    while k < 100 {
-        let this = step_at(q, f, t, y);
-        let Filled::At(m, x) = fill(row, n, ix, last, this, y) else {
-            return Swept::Full;
-        };
-        n = m;
-        ix = x;
-        last = this;
-        y = arclen::rk4(f, h, t, y);
-        t = t + h;
-        k += 1;
-    }
-    Swept::At(Walk {
-        n,
-        ix,
-        last,
-        len: y,
-    })
-}
-
-// The samples after the last step, up to the length + 2.
-pub fn finish(row: &mut [[f64; 4]], w: Walk, q: Quad) -> Thetas
+// The samples after the last step, up to the length + 2. None: the row is full, refusal 6.
+fn finish<S: Unitize>(row: &mut [[f64; 4]], w: Walk, q: Quad) -> Option<Thetas>
     requires { w.n ≤ length row.old }
     ensures row { finished (length row.old) q w.len (walked_in row.old w) ≡ run_in row.new result }
     ensures places { places_sampled result ≤ length row.old }
@@ -159,14 +145,15 @@ pub fn finish(row: &mut [[f64; 4]], w: Walk, q: Quad) -> Thetas
     let len = w.len;
     let last = w.last;
     let this = Step { xy, d, s: len };
-    match fill(row, w.n, w.ix, last, this, len + 2.0) {
-        Filled::At(n, _) => Thetas::Sampled(n, len),
-        Filled::Full => Thetas::Full,
-    }
+    let filled = fill::<S>(row, w.n, w.ix, last, this, len + 2.0)?;
+    Some(Thetas {
+        count: filled.count,
+        length: len,
+    })
 }
 
 // Before the first segment.
-pub fn begin() -> Walk
+fn begin() -> Walk
     ensures { result ≡ start }
 {
     let here = Point { x: 0.0, y: 0.0 };
@@ -182,15 +169,15 @@ pub fn begin() -> Walk
     }
 }
 
-// The run of `count` segments from segment `first` on. Each starts at the place where the one before it ended.
-pub fn sample_run(
+// The run of `count` segments from segment `first` on. Each starts at the place where the one before it ended. None: the row is full, refusal 6.
+pub fn run<S: Sampling>(
     xs: &[i16],
     ys: &[i16],
     flags: &[u8],
     first: usize,
     count: usize,
     row: &mut [[f64; 4]],
-) -> Thetas
+) -> Option<Thetas>
     ensures row { thetas_of (length row.old) (quads_of xs.now ys.now flags.now first count)
         ≡ run_in row.new result }
     ensures places { places_sampled result ≤ length row.old }
@@ -203,15 +190,59 @@ pub fn sample_run(
     };
     let mut w = begin();
     let mut a = outline::start_of(flags, first);
-    let mut k = 0;
-    while k < count {
+    for _ in 0..count {
         q = as_quad(outline::read_from(xs, ys, flags, a));
-        let Swept::At(v) = sweep(row, w, q) else {
-            return Thetas::Full;
-        };
-        w = v;
+        w = S::sweep(row, w, q)?;
         a = outline::end_of(flags, a);
-        k += 1;
     }
-    finish(row, w, q)
+    finish::<S>(row, w, q)
+}
+
+// The same, step by step.
+pub fn sample_run(
+    xs: &[i16],
+    ys: &[i16],
+    flags: &[u8],
+    first: usize,
+    count: usize,
+    row: &mut [[f64; 4]],
+) -> Option<Thetas>
+    ensures row { thetas_of (length row.old) (quads_of xs.now ys.now flags.now first count)
+        ≡ run_in row.new result }
+    ensures places { places_sampled result ≤ length row.old }
+{
+    run::<Plain>(xs, ys, flags, first, count, row)
+}
+
+impl Unitize for Plain {
+    fn unitize(p: Point) -> Point {
+        p.unitize()
+    }
+}
+
+impl Sampling for Plain {
+    fn sweep(row: &mut [[f64; 4]], from: Walk, q: Quad) -> Option<Walk> {
+        let f = ArclenFunctor::new(q);
+        let h = 1.0 / 100.0;
+        let mut n = from.n;
+        let mut ix = from.ix;
+        let mut last = from.last;
+        let mut t = 0.0;
+        let mut y = from.len;
+        for _ in 0..100usize {
+            let this = step_at(q, f, t, y);
+            let filled = fill::<Plain>(row, n, ix, last, this, y)?;
+            n = filled.count;
+            ix = filled.ix;
+            last = this;
+            y = arclen::rk4(f, h, t, y);
+            t = t + h;
+        }
+        Some(Walk {
+            n,
+            ix,
+            last,
+            len: y,
+        })
+    }
 }

@@ -19,7 +19,7 @@ fn length_after(q: Quad, y: f64) -> f64
     let h = 1.0 / 100.0;
     let mut t = 0.0;
     let mut at = y;
-    for k in 0..100usize {
+    for _ in 0..100usize {
         at = arclen::rk4(f, h, t, at);
         t = t + h;
     }
@@ -33,12 +33,10 @@ fn fill_ends(xs: &[i16], ys: &[i16], flags: &[u8], first: usize, n: usize, ends:
 {
     let mut a = outline::start_of(flags, first);
     let mut y = 0.0;
-    let mut k = 0;
-    while k < n {
+    for k in 0..n {
         y = length_after(samples::as_quad(outline::read_from(xs, ys, flags, a)), y);
         ends[k] = y;
         a = outline::end_of(flags, a);
-        k += 1;
     }
 }
 
@@ -50,12 +48,10 @@ fn place_in(ends: &[f64], s: f64) -> usize
     if s != s {
         return 0;
     }
-    let mut k = 0;
-    while k < ends.len() {
-        if s <= ends[k] {
+    for (k, end) in ends.iter().enumerate() {
+        if s <= *end {
             return k;
         }
-        k += 1;
     }
     ends.len()
 }
@@ -81,18 +77,9 @@ fn name_each(ends: &[f64], first: usize, total: usize, row: &mut [[f64; 6]])
     requires { (first ≤ 2048) × (length ends.now ≤ 2048) }
     ensures { row.new ≡ map (named_of ends.now first total) row.old }
 {
-    let mut i = 0;
-    while i < row.len() {
-        row[i] = named(ends, first, total, row[i]);
-        i += 1;
+    for b in row {
+        *b = named(ends, first, total, *b);
     }
-}
-
-// All segments of a run but its last.
-fn inner(count: usize) -> usize
-    ensures { result ≡ count - 1 }
-{
-    if 0 < count { count - 1 } else { 0 }
 }
 
 // Names the segment of every break of the run of `count` segments from segment `first` on. Of the last
@@ -102,7 +89,7 @@ pub fn name(xs: &[i16], ys: &[i16], flags: &[u8], first: usize, count: usize, ro
     ensures { row.new ≡ carried xs.now ys.now flags.now first count row.old }
 {
     let mut ends = [0.0; 2048];
-    let n = inner(count);
+    let n = count.saturating_sub(1);
     fill_ends(xs, ys, flags, first, n, &mut ends);
     name_each(&ends[..n], first, outline::count(flags), row);
 }
@@ -112,12 +99,7 @@ pub fn segment_at(row: &[[f64; 6]], i: usize) -> u32
     ensures { result ≡ segment_at row.now i }
 {
     if i < row.len() {
-        let n = float::to_index(row[i][5]);
-        if n < 0x7fff_ffff {
-            n as u32
-        } else {
-            0x7fff_ffff
-        }
+        float::to_index(row[i][5]).min(0x7fff_ffff) as u32
     } else {
         0
     }

@@ -1,10 +1,11 @@
 -- What a caller chooses, what the work takes of it, and refusal 16. Definitions only.
-use Rattle.std.specs.Prelude.{ℕ, Bool, true, false, not, ◌&&◌, List, eqb, leb, ltb, Float, ℤ, pos}
+use Rattle.std.specs.Prelude.{ℕ, Bool, true, false, not, ◌&&◌, List, eqb, leb, ltb, Float, ℤ, pos, Result, Ok, Err}
 use Rattle.std.specs.Float.{binary64}
 use Rattle.std.specs.Float.Ieee.{of_int, div}
 use Rattle.float.specs.Numbers.{sixteen}
 use Rattle.refusals.specs.Refusals.{judged, refuse}
-use Rattle.refusals.specs.declared.Judged.{Judged}
+use Rattle.refusals.specs.declared.refusal.Refusal.TheVariants.{NoSuchPenalty}
+use Rattle.refusals.specs.declared.refusal.Refusal.{Refusal}
 use Rattle.breaks.specs.Breaks.{half_grid, whole_grid}
 use Rattle.breaks.specs.declared.Grid.{Grid}
 use Rattle.settings.specs.declared.Settings.{Settings}
@@ -44,10 +45,10 @@ abbrev pub settings_fine : Settings → Bool
 settings_fine s = ltb 0 s.penalty && leb s.penalty 256
 
 -- 16: a penalty outside the range, after all refusals of the input rows
-abbrev pub then_settings : Settings → Judged → Judged
-then_settings s (Judged.Refused k) = Judged.Refused k
-then_settings s Judged.Fine = refuse 16 (not (settings_fine s)) Judged.Fine
+abbrev pub then_settings : Settings → Result Unit Refusal → Result Unit Refusal
+then_settings s (Err k) = Err k
+then_settings s (Ok _) = refuse NoSuchPenalty (not (settings_fine s)) (Ok tt)
 
 -- what a contour and the choice for it are refused for before any run is worked
-unfoldable pub judged_for : Settings → List ℤ → List ℤ → List ℕ → Judged
+unfoldable pub judged_for : Settings → List ℤ → List ℤ → List ℕ → Result Unit Refusal
 judged_for s xs ys fs = then_settings s (judged xs ys fs)

@@ -5,7 +5,7 @@ ghost use Rattle.std.specs.Prelude.{◌≡◌};
 ghost use Rattle.settings.specs.Settings.{penalty_of, grid_of, crate_settings, settings_fine, judged_for};
 
 use breaks::Grid;
-use refusals::Judged;
+use refusals::Refusal;
 
 #[derive(Clone, Copy)]
 pub struct Settings {
@@ -60,17 +60,13 @@ impl Settings {
     }
 
     // Refusals 1 to 5 of the rows first, whatever was chosen, then 16.
-    pub fn judge(self, xs: &[i16], ys: &[i16], flags: &[u8]) -> Judged
+    pub fn judge(self, xs: &[i16], ys: &[i16], flags: &[u8]) -> Result<(), Refusal>
         ensures { result ≡ judged_for self xs.now ys.now flags.now }
     {
-        match refusals::judge(xs, ys, flags) {
-            Judged::Refused(k) => Judged::Refused(k),
-            Judged::Fine => {
-                if self.is_fine() {
-                    return Judged::Fine;
-                }
-                Judged::Refused(16)
-            }
+        refusals::judge(xs, ys, flags)?;
+        if self.is_fine() {
+            return Ok(());
         }
+        Err(Refusal::NoSuchPenalty)
     }
 }

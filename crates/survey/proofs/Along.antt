@@ -21,13 +21,15 @@ use Rattle.geometry.specs.declared.Break.{Break}
 use Rattle.geometry.specs.declared.Quad.{Quad}
 use Rattle.outline.specs.Segments.{start_of}
 use Rattle.breaks.specs.declared.Grid.{Grid}
-use Rattle.breaks.specs.declared.Placed as P
-use Rattle.breaks.specs.declared.Placed.TheVariants as Placed
-use Rattle.breaks.specs.Breaks.{Row, packed_of, break_at, place_at, place_of, places_of, length_at, unless_past, placed, Finding, so, full, last, past, pushed_if, opened}
+use Rattle.breaks.specs.declared.Placed.{Placed}
+use Rattle.breaks.specs.declared.Stopped as S
+use Rattle.breaks.specs.declared.Stopped.TheVariants as Stopped
+use Rattle.geometry.specs.declared.Point.{Point}
+use Rattle.std.specs.Prelude.{Option, Some, None, Result, Ok, Err}
+use Rattle.breaks.specs.Breaks.{Row, packed_of, break_at, place_at, place_of, places_of, length_at, unless_past, placed, Finding, so, stopped, pushed_if, opened}
 use Rattle.breaks.specs.Breaks as Breaks
-use Rattle.breaks.specs.Breaks.{replaced_if, joined_if, opens, join_of, stepped, walk, RunBreaks, breaks, run_breaks_of, breaks_of}
-use Rattle.lookup.specs.Lookup as Lookup
-use Rattle.lookup.specs.Lookup.{Found, found, xy_at, dir_at}
+use Rattle.breaks.specs.Breaks.{replaced_if, joined_if, opens, join_of, stepped, walk, RunBreaks, breaks, stopped_as, run_breaks_of, breaks_of}
+use Rattle.lookup.specs.Lookup.{xy_at, dir_at}
 use Rattle.samples.specs.Samples.{Sample, Run, thetas_of, quads_of, length_all, finished, filled, last_step, last_of, nowhere, sweep_all, begun, run_of}
 use Rattle.samples.specs.Samples as Samples
 use Rattle.survey.specs.Survey.{surveyed, sample_room, break_room, searched, after_sampling, survey_of}
@@ -104,17 +106,14 @@ module _ (f : ℕ → Float) where
 
   data Walked : ℕ → Finding → Type 0 where
     rows : {k : ℕ} (row : Row) {d : Float} → Along 0 k row → Walked k (so row d)
-    is_full : {k : ℕ} → Walked k full
-    is_last : {k : ℕ} → Walked k last
-    is_past : {k : ℕ} → Walked k past
+    is_stopped : {k : ℕ} {e : S.Stopped} → Walked k (stopped e)
 
-  data Has (k : ℕ) : P.Placed → Type 0 where
-    has : (b : Break) (dist : Float) → b.s ≡ f k → Has k (Placed.At b dist)
-    has_none : Has k Placed.Missing
-    has_past : Has k Placed.Past
+  data Has (k : ℕ) : Result Placed S.Stopped → Type 0 where
+    has : (p : Placed) → p.place.s ≡ f k → Has k (Ok p)
+    has_none : {e : S.Stopped} → Has k (Err e)
 
   pushes : (t : Bool) (room k : ℕ) (row : Row) (b : Break) (dist : Float) → b.s ≡ f k → Along 0 k row → Walked (suc k) (pushed_if t row b dist)
-  pushes true room k row b dist e a = is_full
+  pushes true room k row b dist e a = is_stopped
   pushes false room k row b dist e a = rows _ (more (packed_of b) k (omega arith) e a)
 
   replaces : (t : Bool) (k : ℕ) (y : List Float) (row : Row) (d : Float) (b : Break) → b.s ≡ f k → Along 0 k (y ∷ row) →
@@ -130,17 +129,14 @@ module _ (f : ℕ → Float) where
   joins true room k y row d b dist e a = pushes (leb room (length (y ∷ row))) room k (y ∷ row) b dist e a
   joins false room k y row d b dist e a = replaces (lt dist d) k y row d b e a
 
-  steps : (room k : ℕ) {g : Finding} {p : P.Placed} → Walked k g → Has k p → Walked (suc k) (stepped room g p)
+  steps : (room k : ℕ) {g : Finding} {p : Result Placed S.Stopped} → Walked k g → Has k p → Walked (suc k) (stepped room g p)
   unfolding join_of opened opens
-  steps room k (rows [] a) (has b dist e) = pushes (leb room 0) room k [] b dist e a
-  steps room k (rows (y ∷ row) {d} a) (has b dist e) = joins (opens (y ∷ row) b.xy) room k y row d b dist e a
-  steps room k (rows row a) has_none = is_last
-  steps room k (rows row a) has_past = is_past
-  steps room k is_full p = is_full
-  steps room k is_last p = is_last
-  steps room k is_past p = is_past
+  steps room k (rows [] a) (has p e) = pushes (leb room 0) room k [] p.place p.dist e a
+  steps room k (rows (y ∷ row) {d} a) (has p e) = joins (opens (y ∷ row) p.place.xy) room k y row d p.place p.dist e a
+  steps room k (rows row a) has_none = is_stopped
+  steps room k is_stopped p = is_stopped
 
-  walks : (n room : ℕ) (place : ℕ → P.Placed) (i : ℕ) {g : Finding} → ((k : ℕ) → Has k (place k)) → Walked i g → Walked (i + n) (walk n room place i g)
+  walks : (n room : ℕ) (place : ℕ → Result Placed S.Stopped) (i : ℕ) {g : Finding} → ((k : ℕ) → Has k (place k)) → Walked i g → Walked (i + n) (walk n room place i g)
   unfolding walk
   walks zero room place i {g} all w =
       let e : i + 0 ≡ i = omega arith in
@@ -152,7 +148,7 @@ module _ (f : ℕ → Float) where
       (walks n room place (i + 1) all (subst (λ (m : ℕ). Walked m (stepped room g (place i))) s (steps room i w (all i))))
 
   -- from the first place on
-  walked : (n room : ℕ) (place : ℕ → P.Placed) → ((k : ℕ) → Has k (place k)) → Walked n (walk n room place 0 (so [] nought))
+  walked : (n room : ℕ) (place : ℕ → Result Placed S.Stopped) → ((k : ℕ) → Has k (place k)) → Walked n (walk n room place 0 (so [] nought))
   walked n room place all =
       let e : 0 + n ≡ n = omega arith in
       let start : 0 ≤ 0 = omega arith in
@@ -160,13 +156,13 @@ module _ (f : ℕ → Float) where
 
 -- ---- the places of a run
 
-placed_has : (f : ℕ → Float) (g : Grid) (k : ℕ) (s : Float) → s ≡ f k → (o d : Found) → Has f k (placed g s o d)
-placed_has f g k s e (found o) (found d) = has _ _ e
-placed_has f g k s e (found o) Lookup.refused = has_none
-placed_has f g k s e Lookup.refused d = has_none
+placed_has : (f : ℕ → Float) (g : Grid) (k : ℕ) (s : Float) → s ≡ f k → (o d : Option Point) → Has f k (placed g s o d)
+placed_has f g k s e (Some o) (Some d) = has _ e
+placed_has f g k s e (Some o) None = has_none
+placed_has f g k s e None d = has_none
 
-unless_has : (f : ℕ → Float) (k : ℕ) (t : Bool) {p : P.Placed} → Has f k p → Has f k (unless_past t p)
-unless_has f k true h = has_past
+unless_has : (f : ℕ → Float) (k : ℕ) (t : Bool) {p : Result Placed S.Stopped} → Has f k p → Has f k (unless_past t p)
+unless_has f k true h = has_none
 unless_has f k false h = h
 
 place_has : (samples : List Sample) (g : Grid) (len : Float) (k : ℕ) → Has (length_at len (places_of len)) k (place_of samples g len k)
@@ -247,7 +243,7 @@ length_is room qs row len e = by (filled room (last_step (last_of nowhere qs) y)
     y = length_all qs nought
 
     by : (w : Samples.Walked) → run_of y w ≡ Samples.sampled row len → y ≡ len
-    by Samples.full h = let q : ◌≡◌ {A = ℕ} 0 1 = cc in absurd (omega arith)
+    by Samples.full h = absurd cc
     by (Samples.at r ix step) h = cc
 
 -- a row of breaks at the places of a run, whose length is no NaN, not negative and bounded
@@ -259,14 +255,18 @@ pub record Lies (row : Row) : Type 0 where
   within : Within most len
   along : Along (length_at len (places_of len)) 0 (suc (places_of len)) row
 
+-- a run that is stopped has no breaks
+none_found : (e : S.Stopped) (row : Row) → stopped_as e ≡ breaks row → ⊥
+none_found Stopped.Full row h = cc
+none_found Stopped.Missing row h = cc
+none_found Stopped.Past row h = cc
+
 found_lies : (len : Float) → Size len → (k : ℕ) → k ≤ 2 ^ 22 → Within k len → {g : Finding} (row : Row) →
     Walked (length_at len (places_of len)) (suc (places_of len)) g → run_breaks_of g ≡ breaks row → Lies row
 found_lies len size k small w row (rows r a) e =
     let same : r ≡ row = cc in
     subst Lies same (record { len = len; size = size; most = k; small = small; within = w; along = a })
-found_lies len size k small w row is_full e = absurd (let q : ◌≡◌ {A = ℕ} 0 1 = cc in omega arith)
-found_lies len size k small w row is_last e = absurd (let q : ◌≡◌ {A = ℕ} 0 1 = cc in omega arith)
-found_lies len size k small w row is_past e = absurd (let q : ◌≡◌ {A = ℕ} 0 1 = cc in omega arith)
+found_lies len size k small w row (is_stopped {e = stop}) e = absurd (none_found stop row e)
 
 module _ (sampleRow breakRow : ℕ) (xs ys : List ℤ) (fs : List ℕ) (first count : ℕ) (g : Grid) (samples : List Sample) (row : Row) (sx : Sixteen xs)
     (sy : Sixteen ys) where
@@ -283,11 +283,11 @@ module _ (sampleRow breakRow : ℕ) (xs ys : List ℤ) (fs : List ℕ) (first co
       found_lies len (subst Size (length_is (sample_room sampleRow) quads drawn len e) size) reach.1.size (omega (arith, reach.0, reach.1.more))
       reach.1.is row (walked (length_at len (places_of len)) (suc (places_of len)) (break_room breakRow) (place_of drawn g len) (place_has drawn g len))
       (is ∙ ap breaks same)
-  searched_lies len drawn e (Breaks.refused k) is h = absurd (let q : ◌≡◌ {A = ℕ} 0 1 = cc in omega arith)
-  searched_lies len drawn e Breaks.unchanged is h = absurd (let q : ◌≡◌ {A = ℕ} 0 1 = cc in omega arith)
+  searched_lies len drawn e (Breaks.refused k) is h = absurd cc
+  searched_lies len drawn e Breaks.unchanged is h = absurd cc
 
   sampled_lies : (r : Run) → thetas_of (sample_room sampleRow) quads ≡ r → after_sampling (break_room breakRow) g r ≡ surveyed samples row → Lies row
-  sampled_lies Samples.refused e h = absurd (let q : ◌≡◌ {A = ℕ} 0 1 = cc in omega arith)
+  sampled_lies Samples.refused e h = absurd cc
   sampled_lies (Samples.sampled drawn len) e h = searched_lies len drawn e (breaks_of (break_room breakRow) drawn g len) refl h
 
   pub lies : survey_of sampleRow breakRow xs ys fs first count g ≡ surveyed samples row → Lies row

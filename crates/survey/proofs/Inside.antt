@@ -17,11 +17,14 @@ use lib.Ieee.Casts.{to_unsigned-lt}
 use Rattle.float.specs.Float.{fract_of}
 use Rattle.float.specs.Numbers.{nought}
 use Rattle.geometry.specs.declared.Break.{Break}
-use Rattle.lookup.specs.Lookup.{found, looked_up, point_between}
+use Rattle.lookup.specs.Lookup.{looked_up, point_between}
 use Rattle.breaks.specs.declared.Grid.{Grid}
-use Rattle.breaks.specs.declared.Placed as P
-use Rattle.breaks.specs.declared.Placed.TheVariants as Placed
-use Rattle.breaks.specs.Breaks.{Row, place_at, place_of, places_of, length_at, Finding, so, full, pushed_if, opened, replaced_if, joined_if, opens, join_of, stepped, walk, RunBreaks, breaks, refused, run_breaks_of, breaks_of}
+use Rattle.breaks.specs.declared.Placed.{Placed}
+use Rattle.breaks.specs.declared.Stopped as S
+use Rattle.breaks.specs.declared.Stopped.TheVariants as Stopped
+use Rattle.std.specs.Prelude.{Some, Result, Ok}
+use Rattle.refusals.specs.declared.refusal.Refusal.TheVariants.{TooManyBreaks}
+use Rattle.breaks.specs.Breaks.{Row, place_at, place_of, places_of, length_at, Finding, so, stopped, pushed_if, opened, replaced_if, joined_if, opens, join_of, stepped, walk, RunBreaks, breaks, refused, run_breaks_of, breaks_of}
 use Rattle.survey.proofs.Bounded.{Within, round_within, mul_within, div_within, none_over_none, place_within}
 
 -- ---- one place: a length of at most k is looked up at a place of at most k
@@ -59,11 +62,11 @@ module _ (len : Float) (k : ℕ) (small : k ≤ 2 ^ 22) (w : Within k len) where
 
 -- ---- and is found there, before the last sample
 
-pub data IsAt : P.Placed → Type 0 where
-  is_at : (b : Break) (dist : Float) → IsAt (Placed.At b dist)
+pub data IsAt : Result Placed S.Stopped → Type 0 where
+  is_at : (p : Placed) → IsAt (Ok p)
 
 looks : (j : ℕ) (samples : List (List Float)) (s : Float) → to_unsigned 64 s + 1 < length samples →
-    looked_up j samples s ≡ found (point_between j (get_or samples (to_unsigned 64 s) []) (get_or samples (to_unsigned 64 s + 1) []) (fract_of s))
+    looked_up j samples s ≡ Some (point_between j (get_or samples (to_unsigned 64 s) []) (get_or samples (to_unsigned 64 s + 1) []) (fract_of s))
 unfolding looked_up
 looks j samples s h =
     let less : to_unsigned 64 s < length samples = omega arith in
@@ -73,13 +76,13 @@ places : (samples : List (List Float)) (g : Grid) (s : Float) → to_unsigned 64
 unfolding place_at
 places samples g s h =
     let less : to_unsigned 64 s < length samples = omega arith in
-    rw (lt-leb (length samples) (to_unsigned 64 s) less, looks 0 samples s h, looks 2 samples s h) (is_at _ _)
+    rw (lt-leb (length samples) (to_unsigned 64 s) less, looks 0 samples s h, looks 2 samples s h) (is_at _)
 
 -- ---- the breaks so far: some, or more than there is room for
 
 data Sound : Finding → Type 0 where
   is_so : (row : Row) (d : Float) → Sound (so row d)
-  is_full : Sound full
+  is_full : Sound (stopped Stopped.Full)
 
 pushed_sound : (t : Bool) (row : Row) (b : Break) (dist : Float) → Sound (pushed_if t row b dist)
 pushed_sound true row b dist = is_full
@@ -94,13 +97,13 @@ unfolding opened
 joined_sound true room row d b dist = pushed_sound (leb room (length row)) row b dist
 joined_sound false room row d b dist = replaced_sound (lt dist d) row d b
 
-step_sound : (room : ℕ) {f : Finding} {p : P.Placed} → Sound f → IsAt p → Sound (stepped room f p)
+step_sound : (room : ℕ) {f : Finding} {p : Result Placed S.Stopped} → Sound f → IsAt p → Sound (stepped room f p)
 unfolding join_of
-step_sound room (is_so row d) (is_at b dist) = joined_sound (opens row b.xy) room row d b dist
-step_sound room is_full (is_at b dist) = is_full
+step_sound room (is_so row d) (is_at p) = joined_sound (opens row p.place.xy) room row d p.place p.dist
+step_sound room is_full (is_at p) = is_full
 
 -- k places from place i on, of those up to n
-walk_sound : (k room n : ℕ) (place : ℕ → P.Placed) (i : ℕ) {f : Finding} → ((j : ℕ) → j ≤ n → IsAt (place j)) → i + k ≤ n + 1 → Sound f → Sound (walk k room place i f)
+walk_sound : (k room n : ℕ) (place : ℕ → Result Placed S.Stopped) (i : ℕ) {f : Finding} → ((j : ℕ) → j ≤ n → IsAt (place j)) → i + k ≤ n + 1 → Sound f → Sound (walk k room place i f)
 unfolding walk
 walk_sound zero room n place i all h s = s
 walk_sound (suc k) room n place i all h s = walk_sound k room n place (i + 1) all (omega arith) (step_sound room s (all i (omega arith)))
@@ -108,7 +111,7 @@ walk_sound (suc k) room n place i all h s = walk_sound k room n place (i + 1) al
 -- breaks, or refusal 7
 pub data Only : RunBreaks → Type 0 where
   all : (row : Row) → Only (breaks row)
-  short : Only (refused 7)
+  short : Only (refused TooManyBreaks)
 
 result_only : {f : Finding} → Sound f → Only (run_breaks_of f)
 result_only (is_so row d) = all row

@@ -12,8 +12,11 @@ use lib.Ieee.{Float, lt}
 use Rattle.float.specs.Numbers.{nought}
 use Rattle.geometry.specs.declared.Break.{Break}
 use Rattle.breaks.specs.declared.Grid.{Grid}
-use Rattle.breaks.specs.declared.Placed as P
-use Rattle.breaks.specs.Breaks.{Row, packed_of, place_of, places_of, Finding, so, full, pushed_if, opened, replaced_if, joined_if, opens, join_of, stepped, walk, breaks_of}
+use Rattle.breaks.specs.declared.Placed.{Placed}
+use Rattle.breaks.specs.declared.Stopped as S
+use Rattle.breaks.specs.declared.Stopped.TheVariants as Stopped
+use Rattle.std.specs.Prelude.{Result}
+use Rattle.breaks.specs.Breaks.{Row, packed_of, place_of, places_of, Finding, so, stopped, pushed_if, opened, replaced_if, joined_if, opens, join_of, stepped, walk, breaks_of}
 use Rattle.survey.specs.Never.{Finds}
 use Rattle.survey.proofs.Inside.{IsAt, is_at}
 
@@ -21,7 +24,7 @@ module _ (room most : ℕ) where
   -- after i places: the breaks so far with the room `room`, and with the room `most`, which is not used up
   data Ahead (i : ℕ) : Finding → Finding → Type 0 where
     same : {row : Row} {d : Float} → length row ≤ i → length row ≤ room → Ahead i (so row d) (so row d)
-    over : {row : Row} {d : Float} → length row ≤ i → room < length row → Ahead i full (so row d)
+    over : {row : Row} {d : Float} → length row ≤ i → room < length row → Ahead i (stopped Stopped.Full) (so row d)
 
   longer : (row : Row) (b : Break) → length (row ++ (packed_of b ∷ [])) ≡ length row + 1
   longer row b = length-append row (packed_of b ∷ [])
@@ -54,22 +57,22 @@ module _ (room most : ℕ) where
 
     -- where there was not
     module _ (many : room < length row) where
-      replaced_over : (t : Bool) (d : Float) (b : Break) → Ahead (i + 1) full (replaced_if t row d b)
+      replaced_over : (t : Bool) (d : Float) (b : Break) → Ahead (i + 1) (stopped Stopped.Full) (replaced_if t row d b)
       replaced_over true d b =
           let n = length-set row (length row - 1) (packed_of b) in
           over {row = set row (length row - 1) (packed_of b)} (omega arith) (omega arith)
       replaced_over false d b = over {row = row} (omega arith) many
 
-      joined_over : (t : Bool) (d : Float) (b : Break) (dist : Float) → Ahead (i + 1) full (joined_if t most row d b dist)
+      joined_over : (t : Bool) (d : Float) (b : Break) (dist : Float) → Ahead (i + 1) (stopped Stopped.Full) (joined_if t most row d b dist)
       joined_over true d b dist = rw (roomy b dist) (over {row = row ++ (packed_of b ∷ [])} (omega (arith, longer row b)) (omega (arith, longer row b)))
       joined_over false d b dist = replaced_over (lt dist d) d b
 
-  step_ahead : (i : ℕ) → i < most → {f f' : Finding} {p : P.Placed} → Ahead i f f' → IsAt p → Ahead (i + 1) (stepped room f p) (stepped most f' p)
+  step_ahead : (i : ℕ) → i < most → {f f' : Finding} {p : Result Placed S.Stopped} → Ahead i f f' → IsAt p → Ahead (i + 1) (stepped room f p) (stepped most f' p)
   unfolding join_of
-  step_ahead i less (same {row} {d} short fits) (is_at b dist) = joined_ahead i less row short fits (opens row b.xy) d b dist
-  step_ahead i less (over {row} {d} short many) (is_at b dist) = joined_over i less row short many (opens row b.xy) d b dist
+  step_ahead i less (same {row} {d} short fits) (is_at p) = joined_ahead i less row short fits (opens row p.place.xy) d p.place p.dist
+  step_ahead i less (over {row} {d} short many) (is_at p) = joined_over i less row short many (opens row p.place.xy) d p.place p.dist
 
-  walk_ahead : (k : ℕ) (place : ℕ → P.Placed) (i : ℕ) → ((j : ℕ) → j < most → IsAt (place j)) → i + k ≤ most → {f f' : Finding} → Ahead i f f' →
+  walk_ahead : (k : ℕ) (place : ℕ → Result Placed S.Stopped) (i : ℕ) → ((j : ℕ) → j < most → IsAt (place j)) → i + k ≤ most → {f f' : Finding} → Ahead i f f' →
       Ahead (i + k) (walk k room place i f) (walk k most place i f')
   unfolding walk
   walk_ahead zero place i all h {f} {f'} a = let e : i + 0 ≡ i = omega arith in rw e a

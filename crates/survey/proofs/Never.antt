@@ -13,6 +13,7 @@ use Rattle.breaks.specs.Breaks as Breaks
 use Rattle.breaks.specs.declared.Grid.{Grid}
 use Rattle.samples.specs.Samples.{Sample, Run, thetas_of, quads_of}
 use Rattle.samples.specs.Samples as Samples
+use Rattle.refusals.specs.declared.refusal.Refusal.TheVariants.{PastLastSample}
 use Rattle.survey.specs.Survey.{Survey, refused, past, surveyed, sample_room, break_room, searched, after_sampling, survey_of}
 use Rattle.survey.specs.Never.{Sixteen, FindsBreaks, Finds, FindsExactly, Answered, six, seven, found, AlwaysAnswered, NeverPast}
 use Rattle.survey.proofs.Speeds.{length_size}
@@ -47,23 +48,19 @@ module _ (sampleRow breakRow : ℕ) (xs ys : List ℤ) (fs : List ℕ) (first co
   sampled_answered Samples.refused e = six
   sampled_answered (Samples.sampled samples len) e = searched_answered samples (only sampleRow xs ys fs first count g sx sy samples len e (break_room breakRow))
 
--- no two kinds of answer are one: 8 for those that are ruled out
-abbrev kind : RunBreaks → ℕ
-kind (Breaks.breaks row) = 0
-kind (Breaks.refused k) = k
-kind Breaks.unchanged = 8
+-- breaks, or too many of them: neither of the two other kinds of answer
+not_unchanged : {r : RunBreaks} → Only r → r ≡ Breaks.unchanged → ⊥
+not_unchanged (all row) e = cc
+not_unchanged short e = cc
 
-kind_below : {r : RunBreaks} → Only r → kind r < 8
-kind_below (all row) = lit≤ tt
-kind_below short = lit≤ tt
-
-ruled_out : {r : RunBreaks} → Only r → kind r ≡ 8 → ⊥
-ruled_out o e = omega (arith, kind_below o)
+not_eight : {r : RunBreaks} → Only r → r ≡ Breaks.refused PastLastSample → ⊥
+not_eight (all row) e = cc
+not_eight short e = cc
 
 pub finds_breaks : FindsBreaks
 finds_breaks sampleRow breakRow xs ys fs first count g samples len sx sy e =
     let o = only sampleRow xs ys fs first count g sx sy samples len e (break_room breakRow) in
-    (λ h. ruled_out o (ap kind h), λ h. ruled_out o (ap kind h))
+    (not_unchanged o, not_eight o)
 
 pub finds_exactly : FindsExactly
 finds_exactly sampleRow room xs ys fs first count g samples len sx sy e = finds_all sampleRow xs ys fs first count g sx sy samples len e room
@@ -72,21 +69,18 @@ pub answered : AlwaysAnswered
 unfolding survey_of
 answered sampleRow breakRow xs ys fs first count g sx sy = sampled_answered sampleRow breakRow xs ys fs first count g sx sy _ refl
 
--- 8 for those that are ruled out
-abbrev answer : Survey → ℕ
-answer (refused k) = k
-answer past = 8
-answer (surveyed samples row) = 0
+-- the same of what is answered
+never_a_past : {s : Survey} → Answered s → s ≡ past → ⊥
+never_a_past six e = cc
+never_a_past seven e = cc
+never_a_past (found samples row) e = cc
 
-answer_below : {s : Survey} → Answered s → answer s < 8
-answer_below six = lit≤ tt
-answer_below seven = lit≤ tt
-answer_below (found samples row) = lit≤ tt
-
-not_answered : {s : Survey} → Answered s → answer s ≡ 8 → ⊥
-not_answered a e = omega (arith, answer_below a)
+never_eight : {s : Survey} → Answered s → s ≡ refused PastLastSample → ⊥
+never_eight six e = cc
+never_eight seven e = cc
+never_eight (found samples row) e = cc
 
 pub never_past : NeverPast
 never_past sampleRow breakRow xs ys fs first count g sx sy =
     let a = answered sampleRow breakRow xs ys fs first count g sx sy in
-    (λ h. not_answered a (ap answer h), λ h. not_answered a (ap answer h))
+    (never_a_past a, never_eight a)

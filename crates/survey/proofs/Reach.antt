@@ -138,7 +138,7 @@ reaches n few (number m e) h =
 
 module _ (room : ℕ) (few : room ≤ 2 ^ 52) where
   ended : {y : Float} {w : Walked} {row : List Sample} {len : Float} → Size y → Stopped room few (add binary64 y two) w → run_of y w ≡ sampled row len → (length row ≤ room) × Reached (length row) len
-  ended z was_full e = let q : ◌≡◌ {A = ℕ} 0 1 = cc in absurd (omega arith)
+  ended z was_full e = absurd cc
   ended {y} {row = row} {len} z (stopped {row = r} {ix} is h less) e =
       let rows : r ≡ row = cc in
       let lens : y ≡ len = cc in

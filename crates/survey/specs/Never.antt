@@ -2,6 +2,7 @@
 -- given 7. The theorems, `finds_breaks`, `finds_exactly`, `answered` and `never_past`, stand in proofs/Never.antt. Definitions only.
 use Rattle.std.specs.Prelude.{ℕ, suc, ◌^◌, ◌≤◌, ◌<◌, List, ◌≡◌, ℤ, pos, Float, length, get_or}
 use Rattle.std.specs.Int.Signed.{mag}
+use Rattle.refusals.specs.declared.refusal.Refusal.TheVariants.{TooManySamples, TooManyBreaks, PastLastSample}
 use Rattle.breaks.specs.Breaks.{Row, places_of, breaks_of}
 use Rattle.breaks.specs.Breaks as Breaks
 use Rattle.breaks.specs.declared.Grid.{Grid}
@@ -18,7 +19,7 @@ abbrev pub FindsBreaks : Type 0
 FindsBreaks =
     (sampleRow breakRow : ℕ) (xs ys : List ℤ) (fs : List ℕ) (first count : ℕ) (g : Grid) (samples : List Sample) (len : Float) → Sixteen xs → Sixteen ys →
     thetas_of (sample_room sampleRow) (quads_of xs ys fs first count) ≡ Samples.sampled samples len →
-    (breaks_of (break_room breakRow) samples g len ≡ Breaks.unchanged → ⊥) × (breaks_of (break_room breakRow) samples g len ≡ Breaks.refused 8 → ⊥)
+    (breaks_of (break_room breakRow) samples g len ≡ Breaks.unchanged → ⊥) × (breaks_of (break_room breakRow) samples g len ≡ Breaks.refused PastLastSample → ⊥)
 
 -- ---- how many breaks
 
@@ -31,7 +32,7 @@ pub record Finds (room : ℕ) (samples : List Sample) (g : Grid) (len : Float) :
   pub row : Row
   pub all : all_breaks samples g len ≡ Breaks.breaks row
   pub fits : length row ≤ room → breaks_of room samples g len ≡ Breaks.breaks row
-  pub short : room < length row → breaks_of room samples g len ≡ Breaks.refused 7
+  pub short : room < length row → breaks_of room samples g len ≡ Breaks.refused TooManyBreaks
 
 abbrev pub FindsExactly : Type 0
 FindsExactly =
@@ -41,8 +42,8 @@ FindsExactly =
 -- ---- the answers that are left to a survey
 
 pub data Answered : Survey → Type 0 where
-  six : Answered (refused 6)
-  seven : Answered (refused 7)
+  six : Answered (refused TooManySamples)
+  seven : Answered (refused TooManyBreaks)
   found : (samples : List Sample) (row : Row) → Answered (surveyed samples row)
 
 abbrev pub AlwaysAnswered : Type 0
@@ -54,4 +55,4 @@ AlwaysAnswered =
 abbrev pub NeverPast : Type 0
 NeverPast =
     (sampleRow breakRow : ℕ) (xs ys : List ℤ) (fs : List ℕ) (first count : ℕ) (g : Grid) → Sixteen xs → Sixteen ys →
-    (survey_of sampleRow breakRow xs ys fs first count g ≡ past → ⊥) × (survey_of sampleRow breakRow xs ys fs first count g ≡ refused 8 → ⊥)
+    (survey_of sampleRow breakRow xs ys fs first count g ≡ past → ⊥) × (survey_of sampleRow breakRow xs ys fs first count g ≡ refused PastLastSample → ⊥)

@@ -1,12 +1,13 @@
 -- One run surveyed: its samples, then its breaks, each with its room. Definitions only.
-use Rattle.std.specs.Prelude.{ℕ, min, List, ℤ, take}
+use Rattle.std.specs.Prelude.{ℕ, min, List, ℤ, take, Option, Some, None, Result, Ok, Err}
+use Rattle.refusals.specs.declared.refusal.Refusal.TheVariants.{TooManySamples}
+use Rattle.refusals.specs.declared.refusal.Refusal.{Refusal}
 use Rattle.breaks.specs.Breaks.{Row, RunBreaks, breaks_of}
 use Rattle.breaks.specs.Breaks as Breaks
 use Rattle.breaks.specs.declared.Grid.{Grid}
 use Rattle.samples.specs.Samples.{Sample, Run, thetas_of, quads_of}
 use Rattle.samples.specs.Samples as Samples
 use Rattle.survey.specs.declared.Surveyed as S
-use Rattle.survey.specs.declared.Surveyed.TheVariants as Surveyed
 
 -- the least of 16,384 and the sample row
 abbrev pub sample_room : ℕ → ℕ
@@ -18,7 +19,7 @@ break_room row = min 2048 row
 
 -- the samples and the breaks; the number of a refusal; or a length past the samples, which leaves the contour unchanged
 pub data Survey : Type 0 where
-  refused : ℕ → Survey
+  refused : Refusal → Survey
   past : Survey
   surveyed : List Sample → Row → Survey
 
@@ -28,7 +29,7 @@ searched samples (Breaks.refused k) = refused k
 searched samples Breaks.unchanged = past
 
 abbrev pub after_sampling : ℕ → Grid → Run → Survey
-after_sampling room g Samples.refused = refused 6
+after_sampling room g Samples.refused = refused TooManySamples
 after_sampling room g (Samples.sampled samples len) = searched samples (breaks_of room samples g len)
 
 -- of the run of `count` segments from segment `first` on, in rows of so many places
@@ -38,17 +39,17 @@ survey_of sampleRow breakRow xs ys fs first count g =
 
 -- ---- what the functions leave in the rows
 
-abbrev pub survey_in : List Sample → Row → S.Surveyed → Survey
-survey_in samples breaks (Surveyed.Refused k) = refused k
-survey_in samples breaks Surveyed.Past = past
-survey_in samples breaks (Surveyed.Rows n m) = surveyed (take n samples) (take m breaks)
+abbrev pub survey_in : List Sample → Row → Result (Option S.Surveyed) Refusal → Survey
+survey_in samples breaks (Err k) = refused k
+survey_in samples breaks (Ok None) = past
+survey_in samples breaks (Ok (Some s)) = surveyed (take s.samples samples) (take s.breaks breaks)
 
-abbrev pub samples_used : S.Surveyed → ℕ
-samples_used (Surveyed.Refused k) = 0
-samples_used Surveyed.Past = 0
-samples_used (Surveyed.Rows n m) = n
+abbrev pub samples_used : Result (Option S.Surveyed) Refusal → ℕ
+samples_used (Err k) = 0
+samples_used (Ok None) = 0
+samples_used (Ok (Some s)) = s.samples
 
-abbrev pub breaks_used : S.Surveyed → ℕ
-breaks_used (Surveyed.Refused k) = 0
-breaks_used Surveyed.Past = 0
-breaks_used (Surveyed.Rows n m) = m
+abbrev pub breaks_used : Result (Option S.Surveyed) Refusal → ℕ
+breaks_used (Err k) = 0
+breaks_used (Ok None) = 0
+breaks_used (Ok (Some s)) = s.breaks

@@ -1,25 +1,28 @@
 // One run surveyed: its samples (module 5), then its breaks (module 7). What is tested of the answer rows
-// is another step: two editions share one survey.
+// is another step: two editions share one survey. None is a length past the samples, which leaves the contour
+// unchanged.
 #![tactic(auto)]
 
 ghost use Rattle.std.specs.Prelude.{◌≡◌, ◌≤◌, length};
 ghost use Rattle.breaks.specs.Breaks.{breaks_of};
 ghost use Rattle.survey.specs.Survey.{break_room, searched, survey_of, survey_in, samples_used, breaks_used};
 
-use breaks::{Breaks, Grid};
-use samples::Thetas;
+use breaks::{Grid, Stopped};
+use refusals::Refusal;
 
-#[derive(Clone, Copy)]
-pub enum Surveyed {
-    // 6, 7 or 8
-    Refused(u8),
-    // a length past the samples: the contour is unchanged
-    Past,
-    // so many samples, so many breaks
-    Rows(usize, usize),
+// How many samples and how many breaks a run has.
+#[derive(Clone, Copy, Debug, PartialEq, Eq)]
+pub struct Surveyed {
+    pub samples: usize,
+    pub breaks: usize,
 }
 
-fn search(samples: &[[f64; 4]], len: f64, g: Grid, breaks: &mut [[f64; 6]]) -> Surveyed
+fn search(
+    samples: &[[f64; 4]],
+    len: f64,
+    g: Grid,
+    breaks: &mut [[f64; 6]],
+) -> Result<Option<Surveyed>, Refusal>
     ensures breaks { searched samples.now (breaks_of (break_room (length breaks.old)) samples.now g len)
         ≡ survey_in samples.now breaks.new result }
     ensures samples { samples_used result ≤ length samples.now }
@@ -27,10 +30,13 @@ fn search(samples: &[[f64; 4]], len: f64, g: Grid, breaks: &mut [[f64; 6]]) -> S
 {
     let room = rows::least(2048, breaks.len());
     match breaks::find_breaks(samples, len, g, &mut breaks[..room]) {
-        Breaks::Found(n) => Surveyed::Rows(samples.len(), n),
-        Breaks::Full => Surveyed::Refused(7),
-        Breaks::Missing => Surveyed::Refused(8),
-        Breaks::Past => Surveyed::Past,
+        Ok(n) => Ok(Some(Surveyed {
+            samples: samples.len(),
+            breaks: n,
+        })),
+        Err(Stopped::Full) => Err(Refusal::TooManyBreaks),
+        Err(Stopped::Missing) => Err(Refusal::PastLastSample),
+        Err(Stopped::Past) => Ok(None),
     }
 }
 
@@ -43,7 +49,7 @@ pub fn survey(
     g: Grid,
     samples: &mut [[f64; 4]],
     breaks: &mut [[f64; 6]],
-) -> Surveyed
+) -> Result<Option<Surveyed>, Refusal>
     ensures rows { survey_of (length samples.old) (length breaks.old)
         xs.now ys.now flags.now first count g
         ≡ survey_in samples.new breaks.new result }
@@ -52,7 +58,7 @@ pub fn survey(
 {
     let room = rows::least(16384, samples.len());
     match samples::sample_run(xs, ys, flags, first, count, &mut samples[..room]) {
-        Thetas::Full => Surveyed::Refused(6),
-        Thetas::Sampled(n, len) => search(&samples[..n], len, g, breaks),
+        None => Err(Refusal::TooManySamples),
+        Some(thetas) => search(&samples[..thetas.count], thetas.length, g, breaks),
     }
 }

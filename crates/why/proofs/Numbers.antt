@@ -12,7 +12,3 @@ module _ (m : ℕ) where
   pub previous_last : (k : ℕ) → k ≤ 0 → m - 1 ≡ previous m k
   previous_last zero h = refl
   previous_last (suc k) h = absurd (omega arith)
-
-  pub previous_none : (k : ℕ) → m ≡ 0 → k ≤ 0 → 0 ≡ previous m k
-  previous_none zero e h = omega arith
-  previous_none (suc k) e h = absurd (omega arith)

@@ -1,4 +1,5 @@
 -- W1's theorems. Assumes nothing.
+use Rattle.std.specs.Prelude.{Result, Ok, Err}
 use Prim.Native.Nat.{ℕ, ◌<◌}
 use mathlib.Core.Bool.{Bool, true, false, ◌&&◌, ◌||◌, false≢true}
 use mathlib.Core.List.{List}
@@ -15,9 +16,10 @@ use Rattle.float.specs.Float.{close_to}
 use Rattle.float.proofs.Zeros.{IsZero}
 use Rattle.refusals.specs.Refusals.{judged}
 use Rattle.refusals.specs.Accepted.{accepted}
-use Rattle.refusals.specs.declared.Judged.{Judged}
 use Rattle.rows.specs.Sixteen.{SixteenBits}
 use Rattle.geometry.specs.declared.Point.{Point}
+use Rattle.refusals.specs.declared.refusal.Refusal.TheVariants.{NoSuchSegment}
+use Rattle.refusals.specs.declared.refusal.Refusal.{Refusal}
 use Rattle.outline.specs.Segments.{coordinate, count_of, start_of, previous}
 use Rattle.outline.specs.Laws.{count_few}
 use Rattle.corners.specs.Corners.{turns_x, turns_y, zero_tangent, chord_at, tangent_at}
@@ -27,7 +29,6 @@ use Rattle.why.specs.Tests.{first_state, second_state, tangent_before, tangent_a
 use Rattle.why.specs.Entry.{unless_below, after_judging}
 use Rattle.why.specs.Statements.{in_first, in_second, Told, NamedWhenMarked, SomeWhenCorner, NoCornerPast, ZeroHasNoAngle}
 use Rattle.why.specs.declared.Marks.{Marks}
-use Rattle.why.specs.declared.Explained.TheVariants as Explained
 use Rattle.why.proofs.Zero.{close_is_zero, IsNone, none_before_lem, none_after_lem}
 
 -- ---- what an answer with reasons says: the index is below the number of segments, which is at most 1,024
@@ -37,20 +38,20 @@ pub record Within (xs ys : List ℤ) (fs : List ℕ) (k : ℕ) (r : Marks) : Typ
   pub few : k < 1024
   pub is : r ≡ reasons_of xs ys fs (count_of fs) k
 
-refused_no : (n : ℕ) (r : Marks) → Explained.Reasons r ≡ Explained.Refused n → ⊥
+refused_no : (n : Refusal) (r : Marks) → ◌≡◌ {A = Result Marks Refusal} (Ok r) (Err n) → ⊥
 refused_no n r e = let z : ◌≡◌ {A = ℕ} 0 1 = cc in absurd (omega arith)
 
-same_marks : (r r' : Marks) → Explained.Reasons r ≡ Explained.Reasons r' → r ≡ r'
+same_marks : (r r' : Marks) → ◌≡◌ {A = Result Marks Refusal} (Ok r) (Ok r') → r ≡ r'
 same_marks r r' e = cc
 
 within : (xs ys : List ℤ) (fs : List ℕ) (k : ℕ) (r : Marks) → Told xs ys fs k r → Within xs ys fs k r
 within xs ys fs k r p = by (judged xs ys fs) refl (ltb k (count_of fs)) refl p.answer
   where
-    by : (j : Judged) → judged xs ys fs ≡ j → (b : Bool) → ltb k (count_of fs) ≡ b →
-        Explained.Reasons r ≡ after_judging j (unless_below b (Explained.Reasons (reasons_of xs ys fs (count_of fs) k))) → Within xs ys fs k r
-    by (Judged.Refused n) ej b eb e = absurd (refused_no n r e)
-    by Judged.Fine ej false eb e = absurd (refused_no 11 r e)
-    by Judged.Fine ej true eb e =
+    by : (j : Result Unit Refusal) → judged xs ys fs ≡ j → (b : Bool) → ltb k (count_of fs) ≡ b →
+        Ok r ≡ after_judging j (unless_below b (Ok (reasons_of xs ys fs (count_of fs) k))) → Within xs ys fs k r
+    by (Err n) ej b eb e = absurd (refused_no n r e)
+    by (Ok tt) ej false eb e = absurd (refused_no NoSuchSegment r e)
+    by (Ok tt) ej true eb e =
         let h = ltb-true k (count_of fs) eb in
         let few = (accepted xs ys fs ej).few in
         let most = count_few fs in

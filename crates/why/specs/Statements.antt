@@ -1,5 +1,5 @@
 -- What W1 asks to be proved of the answer, as types; proofs/Theorems has a proof of each. Definitions only.
-use Rattle.std.specs.Prelude.{ℕ, ◌≤◌, Bool, true, false, List, ◌≡◌, ℤ, get_or}
+use Rattle.std.specs.Prelude.{ℕ, ◌≤◌, Bool, true, false, List, ◌≡◌, ℤ, get_or, Ok}
 use Rattle.rows.specs.Lent.{inputs}
 use Rattle.rows.specs.Sixteen.{SixteenBits}
 use Rattle.geometry.specs.declared.Point.{Point}
@@ -8,7 +8,6 @@ use Rattle.corners.specs.Corners.{turns_x, turns_y, none, marked, chord_at, corn
 use Rattle.why.specs.Tests.{first_state, second_state, none_before, none_after, angled, some_reason}
 use Rattle.why.specs.Entry.{Promise}
 use Rattle.why.specs.declared.Marks.{Marks}
-use Rattle.why.specs.declared.Explained.TheVariants as Explained
 
 -- whether an index is marked, in a row of marks
 abbrev pub is_marked : List Bool → ℕ → Bool
@@ -32,7 +31,7 @@ module _ (xs ys : List ℤ) (fs : List ℕ) where
 
 -- a contour and an index that are not refused, and the answer
 abbrev pub Told : List ℤ → List ℤ → List ℕ → ℕ → Marks → Type 0
-Told xs ys fs k r = Promise (inputs xs ys fs) k (Explained.Reasons r)
+Told xs ys fs k r = Promise (inputs xs ys fs) k (Ok r)
 
 -- a reason is named exactly when its own test marks that index
 pub record Named (xs ys : List ℤ) (fs : List ℕ) (k : ℕ) (r : Marks) : Type 0 where

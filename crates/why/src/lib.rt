@@ -10,10 +10,10 @@ ghost use Rattle.why.specs.Tests.{either, reasons_of};
 ghost use Rattle.why.specs.Entry.{Promise};
 
 use geometry::Point;
-use refusals::Judged;
+use refusals::Refusal;
 
 // Which of the five tests hold: a sign turn in x, in y; a zero tangent before, after; an angle.
-#[derive(Clone, Copy)]
+#[derive(Clone, Copy, Debug, PartialEq, Eq)]
 pub struct Marks {
     pub x: bool,
     pub y: bool,
@@ -22,19 +22,11 @@ pub struct Marks {
     pub angle: bool,
 }
 
-// What the entry answers.
-#[derive(Clone, Copy)]
-pub enum Explained {
-    // the number of a refusal
-    Refused(u8),
-    // where none holds, the index is no corner
-    Reasons(Marks),
-}
-
+// A function of its own, so that the proof of `reasons` has no branches to join.
 fn either(a: bool, b: bool) -> bool
     ensures { result ≡ either a b }
 {
-    if a { true } else { b }
+    a || b
 }
 
 // What step k is compared with, in a round that starts with a state. The place is carried along.
@@ -43,12 +35,10 @@ fn state_at(xs: &[i16], ys: &[i16], flags: &[u8], from: Point, k: usize) -> Poin
 {
     let mut s = from;
     let mut a = 0;
-    let mut i = 0;
-    while i < k {
+    for _i in 0..k {
         let c = outline::read_from(xs, ys, flags, a).chord();
         s = corners::after_turn(corners::turns(s, c), s, c);
         a = outline::end_of(flags, a);
-        i += 1;
     }
     s
 }
@@ -57,10 +47,7 @@ fn state_at(xs: &[i16], ys: &[i16], flags: &[u8], from: Point, k: usize) -> Poin
 fn previous(m: usize, k: usize) -> usize
     ensures { result ≡ previous m k }
 {
-    if 0 < k {
-        return k - 1;
-    }
-    if m == 0 { 0 } else { m - 1 }
+    if 0 < k { k - 1 } else { m.saturating_sub(1) }
 }
 
 // The tangent at the end of segment k.
@@ -92,18 +79,14 @@ fn reasons(xs: &[i16], ys: &[i16], flags: &[u8], m: usize, k: usize) -> Marks
     }
 }
 
-// The entry.
-pub fn why(xs: &[i16], ys: &[i16], flags: &[u8], k: usize) -> Explained
+// The entry. Where no reason holds, the index is no corner.
+pub fn why(xs: &[i16], ys: &[i16], flags: &[u8], k: usize) -> Result<Marks, Refusal>
     ensures { Promise (contour xs ys flags) k result }
 {
-    match refusals::judge(xs, ys, flags) {
-        Judged::Refused(n) => Explained::Refused(n),
-        Judged::Fine => {
-            let m = outline::count(flags);
-            if k < m {
-                return Explained::Reasons(reasons(xs, ys, flags, m, k));
-            }
-            Explained::Refused(11)
-        }
+    refusals::judge(xs, ys, flags)?;
+    let m = outline::count(flags);
+    if m <= k {
+        return Err(Refusal::NoSuchSegment);
     }
+    Ok(reasons(xs, ys, flags, m, k))
 }

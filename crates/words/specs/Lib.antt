@@ -1,4 +1,2 @@
--- Steps is for contracts inside the product alone: no promise of an entry and no statement for a reader speaks of it.
 pub mod Words
-pub mod Steps
 pub mod Statements

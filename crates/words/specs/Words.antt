@@ -1,13 +1,12 @@
 -- What the words of a command line ask for. Definitions only.
-use Rattle.std.specs.Prelude.{ℕ, Bool, true, false, ◌&&◌, List, [], ◌∷◌, eqb, leb}
-use Rattle.std.proofs.Math.Option.{Option, none, some}
+use Rattle.std.specs.Prelude.{ℕ, true, false, cond, List, [], ◌∷◌, leb, Option, Some, None, option_and_then}
+use Rattle.std.specs.Str.{bytes_eq}
 use Rattle.lines.specs.Line.{natural_of}
 use Rattle.settings.specs.Settings.{default_settings}
 use Rattle.settings.specs.declared.Settings.{Settings}
-use Rattle.words.specs.declared.Reading as R
-use Rattle.words.specs.declared.Reading.TheVariants as Reading
-use Rattle.words.specs.declared.Asked as A
-use Rattle.words.specs.declared.Asked.TheVariants as Asked
+use Rattle.words.specs.declared.Order.{Order}
+use Rattle.words.specs.declared.Reading.{Reading}
+use Rattle.words.specs.declared.Reading.TheVariants.{Has, Penalty}
 
 -- `--penalty`
 abbrev pub penalty_word : List ℕ
@@ -25,17 +24,6 @@ closed_word = 45 ∷ 45 ∷ 99 ∷ 108 ∷ 111 ∷ 115 ∷ 101 ∷ 100 ∷ []
 abbrev pub fallen_word : List ℕ
 fallen_word = 45 ∷ 45 ∷ 102 ∷ 97 ∷ 108 ∷ 108 ∷ 101 ∷ 110 ∷ []
 
--- the same bytes
-unfoldable pub same_bytes : List ℕ → List ℕ → Bool
-same_bytes [] [] = true
-same_bytes [] (b ∷ l) = false
-same_bytes (a ∷ k) [] = false
-same_bytes (a ∷ k) (b ∷ l) = eqb a b && same_bytes k l
-
-abbrev pub pick : Bool → R.Reading → R.Reading → R.Reading
-pick true r other = r
-pick false r other = other
-
 -- the same settings with another penalty, on whole units, and closed
 abbrev pub with_penalty : Settings → ℕ → Settings
 with_penalty s n = record { penalty = n; whole_units = s.whole_units; closed = s.closed }
@@ -46,35 +34,44 @@ on_whole_units s = record { penalty = s.penalty; whole_units = true; closed = s.
 abbrev pub in_closed_mode : Settings → Settings
 in_closed_mode s = record { penalty = s.penalty; whole_units = s.whole_units; closed = true }
 
--- a word that stands where none is awaited; `told`: whether the lookups that fell are asked for
-unfoldable pub option_of : Settings → Bool → List ℕ → R.Reading
-option_of s told word =
-    pick (same_bytes word penalty_word) (Reading.Penalty s told)
-    (pick (same_bytes word whole_units_word) (Reading.Has (on_whole_units s) told)
-    (pick (same_bytes word closed_word) (Reading.Has (in_closed_mode s) told)
-    (pick (same_bytes word fallen_word) (Reading.Has s true) Reading.Wrong)))
+-- the same order with other settings, and with the lookups that fell
+abbrev pub with_settings : Order → Settings → Order
+with_settings o s = record { settings = s; told = o.told }
+
+abbrev pub with_fallen : Order → Order
+with_fallen o = record { settings = o.settings; told = true }
+
+-- a word that stands where none is awaited
+unfoldable pub option_of : Order → List ℕ → Option Reading
+option_of o word =
+    cond (bytes_eq word penalty_word) (Some (Penalty o))
+    (cond (bytes_eq word whole_units_word) (Some (Has (with_settings o (on_whole_units o.settings))))
+    (cond (bytes_eq word closed_word) (Some (Has (with_settings o (in_closed_mode o.settings))))
+    (cond (bytes_eq word fallen_word) (Some (Has (with_fallen o))) None)))
 
 -- the penalty: decimal digits and nothing else, of any number below 2^32; zeros in front count for nothing
-unfoldable pub sixteenths : Settings → Bool → Option ℕ → R.Reading
-sixteenths s told (some n) = pick (leb n 4294967295) (Reading.Has (with_penalty s n) told) Reading.Wrong
-sixteenths s told none = Reading.Wrong
+unfoldable pub sixteenths : Order → Option ℕ → Option Reading
+sixteenths o (Some n) = cond (leb n 4294967295) (Some (Has (with_settings o (with_penalty o.settings n)))) None
+sixteenths o None = None
 
--- one word more
-unfoldable pub taken : R.Reading → List ℕ → R.Reading
-taken (Reading.Has s told) word = option_of s told word
-taken (Reading.Penalty s told) word = sixteenths s told (natural_of word)
-taken Reading.Wrong word = Reading.Wrong
+-- one word more; None: a word that is not known, or a number that is none
+unfoldable pub taken : Reading → List ℕ → Option Reading
+taken (Has o) word = option_of o word
+taken (Penalty o) word = sixteenths o (natural_of word)
 
-unfoldable pub all_taken : R.Reading → List (List ℕ) → R.Reading
-all_taken r [] = r
-all_taken r (word ∷ words) = all_taken (taken r word) words
+unfoldable pub all_taken : Reading → List (List ℕ) → Option Reading
+all_taken r [] = Some r
+all_taken r (word ∷ words) = option_and_then (λ r'. all_taken r' words) (taken r word)
 
 -- after the last word none may be awaited
-abbrev pub ended : R.Reading → A.Asked
-ended (Reading.Has s told) = Asked.For s told
-ended (Reading.Penalty s told) = Asked.Usage
-ended Reading.Wrong = Asked.Usage
+abbrev pub ended : Reading → Option Order
+ended (Has o) = Some o
+ended (Penalty o) = None
 
--- the settings that the words ask for, the default where they say nothing, and whether the lookups that fell are told; or that they are wrong
-unfoldable pub asked_of : List (List ℕ) → A.Asked
-asked_of words = ended (all_taken (Reading.Has default_settings false) words)
+-- where no words ask for anything
+abbrev pub default_order : Order
+default_order = record { settings = default_settings; told = false }
+
+-- what the words ask for, the default where they say nothing; None where they are wrong
+unfoldable pub asked_of : List (List ℕ) → Option Order
+asked_of words = option_and_then ended (all_taken (Has default_order) words)

@@ -4,119 +4,104 @@
 
 ghost use Rattle.std.specs.Prelude.{◌≡◌};
 ghost use Rattle.lines.specs.Stream.{ended_by};
-ghost use Rattle.words.specs.Words.{option_of, taken, ended, asked_of};
-ghost use Rattle.words.specs.Steps.{sixteenths_in};
+ghost use Rattle.words.specs.Words.{option_of, sixteenths, taken, ended, asked_of};
 
-use lines::Size;
 use settings::{DEFAULT_PENALTY, Settings};
 
+// What is asked for: the settings, and whether the lookups that fell are told.
 #[derive(Clone, Copy)]
-pub enum Asked {
-    // the settings, and whether the lookups that fell are told
-    For(Settings, bool),
-    // a word that is not known, or a number that is not there or is none
-    Usage,
+pub struct Order {
+    pub settings: Settings,
+    pub told: bool,
 }
 
 // What the words so far ask for.
 #[derive(Clone, Copy)]
 pub enum Reading {
-    Has(Settings, bool),
+    Has(Order),
     // the next word is the penalty
-    Penalty(Settings, bool),
-    Wrong,
+    Penalty(Order),
 }
 
-// A word that stands where none is awaited.
-fn option_of(s: Settings, told: bool, word: &[u8]) -> Reading
-    ensures { result ≡ option_of s told word.now }
+// A word that stands where none is awaited; None is one that is not known.
+fn option_of(order: Order, word: &[u8]) -> Option<Reading>
+    ensures { result ≡ option_of order word.now }
 {
     if word == b"--penalty".as_slice() {
-        return Reading::Penalty(s, told);
+        return Some(Reading::Penalty(order));
     }
     if word == b"--whole-units".as_slice() {
-        return Reading::Has(
-            Settings {
-                penalty: s.penalty,
-                whole_units: true,
-                closed: s.closed,
-            },
-            told,
-        );
+        let settings = Settings {
+            whole_units: true,
+            ..order.settings
+        };
+        return Some(Reading::Has(Order { settings, ..order }));
     }
     if word == b"--closed".as_slice() {
-        return Reading::Has(
-            Settings {
-                penalty: s.penalty,
-                whole_units: s.whole_units,
-                closed: true,
-            },
-            told,
-        );
+        let settings = Settings {
+            closed: true,
+            ..order.settings
+        };
+        return Some(Reading::Has(Order { settings, ..order }));
     }
     if word == b"--fallen".as_slice() {
-        return Reading::Has(s, true);
+        return Some(Reading::Has(Order {
+            told: true,
+            ..order
+        }));
     }
-    Reading::Wrong
+    None
 }
 
 // A penalty of any size is taken: whoever is handed it judges it.
-fn sixteenths(s: Settings, told: bool, n: Size) -> Reading
-    ensures { result ≡ sixteenths_in s told n }
+fn sixteenths(order: Order, n: Option<u64>) -> Option<Reading>
+    ensures { result ≡ sixteenths order n }
 {
-    match n {
-        Size::Is(v) => {
-            if v <= 4294967295 {
-                return Reading::Has(
-                    Settings {
-                        penalty: v as u32,
-                        whole_units: s.whole_units,
-                        closed: s.closed,
-                    },
-                    told,
-                );
-            }
-            Reading::Wrong
-        }
-        Size::Not => Reading::Wrong,
+    let v = n?;
+    if v <= 4294967295 {
+        let settings = Settings {
+            penalty: v as u32,
+            ..order.settings
+        };
+        return Some(Reading::Has(Order { settings, ..order }));
     }
+    None
 }
 
-fn take(r: Reading, word: &[u8]) -> Reading
+fn take(r: Reading, word: &[u8]) -> Option<Reading>
     ensures { result ≡ taken r word.now }
 {
     match r {
-        Reading::Has(s, told) => option_of(s, told, word),
-        Reading::Penalty(s, told) => sixteenths(s, told, lines::read_size(word)),
-        Reading::Wrong => Reading::Wrong,
+        Reading::Has(order) => option_of(order, word),
+        Reading::Penalty(order) => sixteenths(order, lines::read_size(word)),
     }
 }
 
-fn end(r: Reading) -> Asked
+fn end(r: Reading) -> Option<Order>
     ensures { result ≡ ended r }
 {
     match r {
-        Reading::Has(s, told) => Asked::For(s, told),
-        Reading::Penalty(_, _) => Asked::Usage,
-        Reading::Wrong => Asked::Usage,
+        Reading::Has(order) => Some(order),
+        Reading::Penalty(_) => None,
     }
 }
 
-pub fn read(words: &[u8]) -> Asked
+// None: a word that is not known, or a number that is not there or is none.
+pub fn read(words: &[u8]) -> Option<Order>
     ensures { result ≡ asked_of (ended_by 0 words.now) }
 {
-    let mut r = Reading::Has(
-        Settings {
+    let mut r = Reading::Has(Order {
+        settings: Settings {
             penalty: DEFAULT_PENALTY,
             whole_units: false,
             closed: false,
         },
-        false,
-    );
+        told: false,
+    });
     let mut at = 0;
     while at < words.len() {
         let e = lines::end_of(words, at, 0);
-        r = take(r, &words[at..e]);
+        r = take(r, &words[at..e])?;
         at = e + 1;
     }
     end(r)

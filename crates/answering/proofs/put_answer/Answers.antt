@@ -1,16 +1,10 @@
--- `answering::put_answer` meets its contract. Assumes nothing.
-use mathlib.Core.Path.{◌∙◌}
 use Rattle.lines.proofs.Texts.{joined}
+use Rattle.answering.proofs.put_answer.Goals.{then-line-lt192, else-line-lt192}
 use Rattle.answering.proofs.put_answer.Goals as goal
 
-pub put_read-a-requires : goal.put_read-a-requires
-put_read-a-requires c = tt
-
-pub put_byte-requires : goal.put_byte-requires
-put_byte-requires c = tt
-
-pub shape_of-text : goal.shape_of-text
-shape_of-text c = c.put_byte.auto.out ∙ c.put_read-a.auto.text
-
 pub returns : goal.returns
-returns c = joined c.put_read-a.ensures c.put_byte.ensures
+returns c =
+    elim c.if-line-lt192.branch [
+      | then-line-lt192 w ↦ joined w.put_read-a.ensures (rw (w.text-is, w.a-is) at c.put_byte.ensures)
+      | else-line-lt192 w ↦ joined w.put_read-a-else-line-lt192.ensures (rw (w.text-is, w.a-is) at c.put_byte.ensures)
+    ]

@@ -1,8 +1,6 @@
 -- `arclen::arclen` meets its contract. The loop's invariant: what is left to walk from here is what was to be walked from the start.
--- The measure is the steps left. Assumes nothing.
-use Prim.Native.Nat.{◌-◌, ◌≤◌}
-use mathlib.Core.List.{[], ◌∷◌}
-use mathlib.Core.Path.{◌≡◌}
+-- Assumes nothing.
+use Rattle.std.proofs.Common.{◌-◌, [], ◌∷◌, ◌≡◌}
 use Rattle.float.specs.Numbers.{nought}
 use Rattle.arclen.specs.Rk4.{walk}
 use Rattle.arclen.specs.Arclen.{tenth, length_rates}
@@ -10,7 +8,4 @@ use Rattle.arclen.proofs.arclen.Given as goal
 
 abbrev pub invariant-loop-i : goal.invariant-loop-i
 invariant-loop-i l =
-    (l.i ≤ 10) × (walk (length_rates l.f) tenth 10 nought (nought ∷ []) ≡ walk (length_rates l.f) tenth (10 - l.i) l.t (l.y ∷ []))
-
-abbrev pub decreases-loop-i : goal.decreases-loop-i
-decreases-loop-i l = 10 - l.i
+    walk (length_rates l.f) tenth 10 nought (nought ∷ []) ≡ walk (length_rates l.f) tenth (10 - l._i) l.t (l.y ∷ [])

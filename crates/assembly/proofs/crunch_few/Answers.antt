@@ -6,21 +6,21 @@ use Rattle.assembly.proofs.Going.{listed_few}
 use borrow.Author.Rules.{rules}
 use Rattle.assembly.proofs.crunch_few.Goals as goal
 
-pub slice_bounds-list_few_stops-end : goal.slice_bounds-list_few_stops-end
-slice_bounds-list_few_stops-end c = search rules
+pub slice_bounds-list_stops-end : goal.slice_bounds-list_stops-end
+slice_bounds-list_stops-end c = search rules
 
-pub list_few_stops-n-requires : goal.list_few_stops-n-requires
-list_few_stops-n-requires c = search rules
+pub list_stops-n-requires : goal.list_stops-n-requires
+list_stops-n-requires c = search rules
 
 pub slice_bounds-list-end : goal.slice_bounds-list-end
 slice_bounds-list-end c = search rules
 
 pub slice_bounds-crunch_listed-end : goal.slice_bounds-crunch_listed-end
-slice_bounds-crunch_listed-end c = sym (length-take-le _ _ c.list_few_stops-n.ensures.within)
+slice_bounds-crunch_listed-end c = sym (length-take-le _ _ c.list_stops-n.ensures.within)
 
 pub crunch_listed-requires : goal.crunch_listed-requires
 crunch_listed-requires c =
-    (listed_few c.list_few_stops-n.ensures (omega (arith, c.list_few_stops-n.auto.list)), c.list_few_stops-n.ensures.are)
+    (listed_few c.list_stops-n.ensures (omega (arith, c.list_stops-n.auto.list)), c.list_stops-n.ensures.are)
 
 pub shape_of-samples : goal.shape_of-samples
 shape_of-samples c = c.crunch_listed.auto.samples

@@ -6,6 +6,3 @@ use Rattle.assembly.proofs.crunch_runs.Given as goal
 
 abbrev pub invariant-loop-k : goal.invariant-loop-k
 invariant-loop-k l = Running l.xs l.ys l.flags l.stops l.settings l.initial.samples l.initial.breaks l.initial.answers l.initial.links l.initial.points l.initial.p l.samples l.breaks l.answers l.links l.points l.p l.k
-
-abbrev pub decreases-loop-k : goal.decreases-loop-k
-decreases-loop-k l = length l.stops - l.k

@@ -1,57 +1,24 @@
--- `breaks::join` meets its contract. Assumes nothing.
--- this place opens none, so there is a break
+-- `breaks::join` meets its contract: a place that opens no break is close to one that is there. Assumes nothing.
 use native.Mathlib.Nat.{pos_of_ne-zero}
 use native.Mathlib.Omega.{arith}
-use mathlib.Core.Bool.{false}
-use lib.ListN.{take}
-use Rattle.breaks.specs.Breaks.{opens}
-use mathlib.Core.Path.{◌≡◌, sym, ◌∙◌}
+use mathlib.Core.Path.{sym, ◌∙◌}
 use Rattle.breaks.proofs.Laws.{join_opens, not_first, join_replaces, join_keeps}
-use borrow.Author.Rules.{rules}
 use Rattle.breaks.proofs.join.Goals as goal
-use Rattle.breaks.proofs.join.Goals.{Else-opens}
-
-closely : (c : Else-opens) → opens (take c.args.p.count c.args.row.now) c.args.b.xy ≡ false
-closely c = sym c.opens.ensures ∙ c.if-opens.false
-
-some : (c : Else-opens) → c.args.p.count ≡ 0 → ⊥
-some c = not_first _ _ c.requires _ (closely c)
-
-pub opens-requires : goal.opens-requires
-opens-requires c = search rules
-
-pub push-requires : goal.push-requires
-push-requires c = search rules
-
-pub shape_of-row-then-opens : goal.shape_of-row-then-opens
-shape_of-row-then-opens c = search rules
 
 pub returns-then-opens : goal.returns-then-opens
-returns-then-opens c =
-    record { row = join_opens _ _ c.requires _ _ _ (sym c.opens.ensures ∙ c.if-opens.true) ∙ c.push.ensures.row; count = c.push.ensures.count }
-
-pub packed-requires : goal.packed-requires
-packed-requires c = search rules
+returns-then-opens g c =
+    record { row = join_opens _ _ c.requires _ _ _ (sym c.opens.ensures ∙ c.if-opens.true) ∙ c.push.ensures.row g.D.Distances.distance; count = c.push.ensures.count }
 
 pub overflow_sub-n : goal.overflow_sub-n
-overflow_sub-n c = omega (arith, pos_of_ne-zero (some c.before.before.before))
-
-pub offset_bounds-row-n : goal.offset_bounds-row-n
-offset_bounds-row-n c = search rules
+overflow_sub-n g c = omega (arith, pos_of_ne-zero (not_first _ _ c.requires _ (sym c.opens.ensures ∙ c.if-opens.false)))
 
 pub bounds-row-n : goal.bounds-row-n
-bounds-row-n c = omega (arith, pos_of_ne-zero (some c.before.before.before))
+bounds-row-n g c = omega (arith, pos_of_ne-zero (not_first _ _ c.requires _ (sym c.opens.ensures ∙ c.if-opens.false)))
 
-pub shape_of-row-then-dist-p : goal.shape_of-row-then-dist-p
-shape_of-row-then-dist-p c = search rules
-
-pub returns-then-dist-p : goal.returns-then-dist-p
-returns-then-dist-p c =
-    record { row = rw c.packed.ensures (join_replaces _ _ c.requires _ _ _ (closely c.before.before.before) c.if-dist-p.true); count = c.requires }
-
-pub shape_of-row : goal.shape_of-row
-shape_of-row c = search rules
+pub returns-then-is_less : goal.returns-then-is_less
+returns-then-is_less g c =
+    record { row = rw c.packed.ensures (join_replaces _ _ c.requires _ _ _ (sym c.opens.ensures ∙ c.if-opens.false) (sym c.is_less.ensures ∙ c.if-is_less.true)); count = c.requires }
 
 pub returns : goal.returns
-returns c =
-    record { row = join_keeps _ _ c.requires _ _ _ (closely c.before.before) c.if-dist-p.false; count = c.requires }
+returns g c =
+    record { row = join_keeps _ _ c.requires _ _ _ (sym c.opens.ensures ∙ c.if-opens.false) (sym c.is_less.ensures ∙ c.if-is_less.false); count = c.requires }

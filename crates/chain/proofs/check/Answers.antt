@@ -5,7 +5,7 @@ use mathlib.Core.Path.{◌≡◌, sym, ◌∙◌}
 use borrow.Author.Tests.{not-true, not-false}
 use Rattle.chain.specs.Valid.{even_rows, chain_in, good_shape}
 use Rattle.chain.proofs.Along.{good_joined}
-use Rattle.chain.proofs.Verdict.{uneven, misshapen, unmeasured, right, wrong, none_uneven, none_misshapen, all_fallen}
+use Rattle.chain.proofs.Verdict.{uneven, misshapen, unmeasured, compared, none_uneven, none_misshapen, all_fallen}
 use Rattle.chain.proofs.check.Goals as goal
 
 pub are_even-requires : goal.are_even-requires
@@ -37,29 +37,10 @@ pub returns-in_default : goal.returns-in_default
 returns-in_default c =
     let even : even_rows c.args.starts.now c.args.ends.now c.args.xs.now c.args.ys.now ≡ true = sym c.are_even.ensures ∙ not-false _ c.if-not-are_even.false-raw in
     let good : good_shape c.args.breaks.now (chain_in c.args.starts.now c.args.ends.now c.args.xs.now c.args.ys.now) ≡ true = sym c.is_good.ensures ∙ not-false _ c.if-not-is_good.false-raw in
-    let even_so = even in
-    let good-so = good in
-    (unmeasured _ _ _ _ _ _ _ _ even_so good-so (sym c.sum-t.ensures.0 ∙ c.in_default.is), all_fallen _ _ _ _ _ _ _ even_so good-so c.sum-t.ensures.1)
+    (unmeasured _ _ _ _ _ _ _ _ even good (sym c.sum-t.ensures.0 ∙ c.in_default.is), all_fallen _ _ _ _ _ _ _ even good c.sum-t.ensures.1)
 
-pub equals-requires : goal.equals-requires
-equals-requires c = tt
-
-pub returns-then-equals : goal.returns-then-equals
-returns-then-equals c =
+pub returns : goal.returns
+returns c =
     let even : even_rows c.args.starts.now c.args.ends.now c.args.xs.now c.args.ys.now ≡ true = sym c.are_even.ensures ∙ not-false _ c.if-not-are_even.false-raw in
     let good : good_shape c.args.breaks.now (chain_in c.args.starts.now c.args.ends.now c.args.xs.now c.args.ys.now) ≡ true = sym c.is_good.ensures ∙ not-false _ c.if-not-is_good.false-raw in
-    let even_so = even in
-    let good-so = good in (
-      right _ _ _ _ _ _ _ _ even_so good-so _ (sym c.sum-t.ensures.0 ∙ c.in-At.is) (sym c.equals.ensures ∙ c.if-equals.true),
-      all_fallen _ _ _ _ _ _ _ even_so good-so c.sum-t.ensures.1,
-    )
-
-pub returns-else-equals : goal.returns-else-equals
-returns-else-equals c =
-    let even : even_rows c.args.starts.now c.args.ends.now c.args.xs.now c.args.ys.now ≡ true = sym c.are_even.ensures ∙ not-false _ c.if-not-are_even.false-raw in
-    let good : good_shape c.args.breaks.now (chain_in c.args.starts.now c.args.ends.now c.args.xs.now c.args.ys.now) ≡ true = sym c.is_good.ensures ∙ not-false _ c.if-not-is_good.false-raw in
-    let even_so = even in
-    let good-so = good in (
-      wrong _ _ _ _ _ _ _ _ even_so good-so _ (sym c.sum-t.ensures.0 ∙ c.in-At.is) (sym c.equals.ensures ∙ c.if-equals.false),
-      all_fallen _ _ _ _ _ _ _ even_so good-so c.sum-t.ensures.1,
-    )
+    (compared _ _ _ _ _ _ _ _ even good _ (sym c.sum-t.ensures.0 ∙ c.in-Some.is) c.equals.ensures, all_fallen _ _ _ _ _ _ _ even good c.sum-t.ensures.1)

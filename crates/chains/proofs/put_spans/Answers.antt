@@ -1,47 +1,25 @@
 use native.Mathlib.Omega.{arith}
 use Rattle.rows.proofs.Filled.{start}
 use Rattle.chains.proofs.Spans.{put_one, put_all}
-use borrow.Author.Rules.{rules}
 use Rattle.chains.proofs.put_spans.Goals as goal
 
 pub loop-i-init : goal.loop-i-init
 loop-i-init c = start _ _
 
-pub offset_bounds-starts-i : goal.offset_bounds-starts-i
-offset_bounds-starts-i c = search rules
-
 pub bounds-starts-i : goal.bounds-starts-i
-bounds-starts-i c = omega (arith, c.loop-i-test.true, c.requires.0)
+bounds-starts-i c = omega (arith, c.loop-i.auto.i-end, c.loop-i-test.true, c.requires.0)
 
 pub overflow_cast-starts : goal.overflow_cast-starts
 overflow_cast-starts c = omega (arith, c.type_inv.starts c.loop-i.i)
 
-pub segment_at-a-requires : goal.segment_at-a-requires
-segment_at-a-requires c = tt
-
-pub offset_bounds-ends-i : goal.offset_bounds-ends-i
-offset_bounds-ends-i c = search rules
-
 pub bounds-ends-i : goal.bounds-ends-i
-bounds-ends-i c = omega (arith, c.loop-i-test.true, c.requires.1)
+bounds-ends-i c = omega (arith, c.loop-i.auto.i-end, c.loop-i-test.true, c.requires.1)
 
 pub overflow_cast-ends : goal.overflow_cast-ends
 overflow_cast-ends c = omega (arith, c.type_inv.ends c.loop-i.i)
 
-pub segment_at-b-requires : goal.segment_at-b-requires
-segment_at-b-requires c = tt
-
-pub offset_bounds-spans-i : goal.offset_bounds-spans-i
-offset_bounds-spans-i c = search rules
-
 pub bounds-spans-i : goal.bounds-spans-i
 bounds-spans-i c = omega (arith, c.loop-i-test.true, c.requires.2, c.loop-i.invariant.same)
-
-pub overflow_add-i : goal.overflow_add-i
-overflow_add-i c = search rules
-
-pub loop-i-smaller : goal.loop-i-smaller
-loop-i-smaller c = omega (arith, c.loop-i-test.true)
 
 pub loop-i-preserved : goal.loop-i-preserved
 loop-i-preserved c = put_one _ _ _ _ c.requires.0 c.requires.1 c.loop-i.invariant c.loop-i-test.true c.requires.2 c.segment_at-a.ensures c.segment_at-b.ensures

@@ -1,5 +1,4 @@
 -- `chains::put_spans` meets its contract. The loop's invariant is `Filled`. Assumes nothing.
-use Prim.Native.Nat.{◌-◌}
 use lib.ListN.{take}
 use Rattle.rows.proofs.Filled.{Filled}
 use Rattle.chains.specs.Spans.{spans_from}
@@ -7,6 +6,3 @@ use Rattle.chains.proofs.put_spans.Given as goal
 
 abbrev pub invariant-loop-i : goal.invariant-loop-i
 invariant-loop-i l = Filled (spans_from l.breaks (take l.n l.starts) (take l.n l.ends)) l.initial.spans l.spans l.i
-
-abbrev pub decreases-loop-i : goal.decreases-loop-i
-decreases-loop-i l = l.n - l.i

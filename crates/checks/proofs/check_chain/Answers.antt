@@ -6,27 +6,6 @@ use Rattle.checks.specs.Entry.{report}
 use Rattle.checks.proofs.Steps.{whole_is}
 use Rattle.checks.proofs.check_chain.Goals as goal
 
-pub least-half-requires : goal.least-half-requires
-least-half-requires c = tt
-
-pub check_judged-r-requires : goal.check_judged-r-requires
-check_judged-r-requires c = tt
-
-pub clear_work-requires : goal.clear_work-requires
-clear_work-requires c = tt
-
-pub shape_of-samples : goal.shape_of-samples
-shape_of-samples c = c.clear_work.auto.samples ∙ c.check_judged-r.auto.samples
-
-pub shape_of-breaks : goal.shape_of-breaks
-shape_of-breaks c = c.clear_work.auto.breaks ∙ c.check_judged-r.auto.breaks
-
-pub shape_of-answers : goal.shape_of-answers
-shape_of-answers c = c.clear_work.auto.answers
-
-pub shape_of-links : goal.shape_of-links
-shape_of-links c = c.clear_work.auto.links
-
 pub returns : goal.returns
 returns c =
     let chain : GivenChain = record { starts = c.args.starts.now; ends = c.args.ends.now; xs = c.args.cxs.now; ys = c.args.cys.now; score = c.args.score } in

@@ -3,20 +3,8 @@ use mathlib.Core.Path.{refl}
 use borrow.Author.Tests.{lt-ltb, le-ltb}
 use Rattle.checks.proofs.check_surveyed.Goals as goal
 
-pub refused-requires : goal.refused-requires
-refused-requires c = tt
-
 pub returns-then-half-breaks : goal.returns-then-half-breaks
 returns-then-half-breaks c = rw (lt-ltb _ _ c.if-half-breaks.true) c.refused.ensures
-
-pub per_piece-requires : goal.per_piece-requires
-per_piece-requires c = tt
-
-pub check-c-requires : goal.check-c-requires
-check-c-requires c = c.requires
-
-pub verdict_of-requires : goal.verdict_of-requires
-verdict_of-requires c = tt
 
 pub returns : goal.returns
 returns c =

@@ -1,5 +1,4 @@
 -- `clean::copy_spots` meets its contract. Assumes nothing.
-use Prim.Native.Nat.{◌-◌}
 use mathlib.Core.List.{map}
 use lib.ListN.{take}
 use Rattle.rows.proofs.Filled.{Filled}
@@ -8,6 +7,3 @@ use Rattle.clean.proofs.copy_spots.Given as goal
 
 abbrev pub invariant-loop-i : goal.invariant-loop-i
 invariant-loop-i l = Filled (map (spot_x l.row) (take l.n l.spots)) l.initial.out l.out l.i
-
-abbrev pub decreases-loop-i : goal.decreases-loop-i
-decreases-loop-i l = l.n - l.i

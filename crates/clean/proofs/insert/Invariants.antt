@@ -5,6 +5,3 @@ use Rattle.clean.proofs.insert.Given as goal
 
 abbrev pub invariant-loop-i : goal.invariant-loop-i
 invariant-loop-i l = (l.q ≤ l.i) × Moving l.n l.v l.initial.spots l.spots l.i
-
-abbrev pub decreases-loop-i : goal.decreases-loop-i
-decreases-loop-i l = l.i

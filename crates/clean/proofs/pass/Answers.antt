@@ -5,31 +5,13 @@ use Rattle.clean.specs.Clean.{on_place, same_place}
 use Rattle.clean.proofs.Passing.{start, still_roomy, kept_room, gone_room, more, end}
 use Rattle.clean.proofs.pass.Goals as goal
 
-pub bounds-kept-0 : goal.bounds-kept-0
-bounds-kept-0 c = omega (arith, c.requires.some, c.requires.kept)
-
 pub loop-i-init : goal.loop-i-init
 loop-i-init c = start _ _ _ c.args.kept.now c.args.gone.now c.requires
-
-pub repeats-w-requires : goal.repeats-w-requires
-repeats-w-requires c = c.loop-i-test.true
-
-pub overflow_cast-kept : goal.overflow_cast-kept
-overflow_cast-kept c = omega (arith, c.loop-i-test.true, c.requires.few)
-
-pub offset_bounds-kept-k : goal.offset_bounds-kept-k
-offset_bounds-kept-k c = omega (arith, c.loop-i.invariant.all, c.loop-i.invariant.high, c.requires.few)
 
 pub bounds-kept-k : goal.bounds-kept-k
 bounds-kept-k c =
     kept_room (on_place c.args.flags.now) (same_place c.args.xs.now c.args.ys.now) (length c.args.flags.now)
     (still_roomy c.args.kept.now c.requires) c.loop-i.invariant c.loop-i-test.true
-
-pub overflow_cast-gone : goal.overflow_cast-gone
-overflow_cast-gone c = omega (arith, c.loop-i-test.true, c.requires.few)
-
-pub offset_bounds-gone-d : goal.offset_bounds-gone-d
-offset_bounds-gone-d c = omega (arith, c.loop-i.invariant.all, c.loop-i.invariant.high, c.requires.few)
 
 pub bounds-gone-d : goal.bounds-gone-d
 bounds-gone-d c =
@@ -40,12 +22,6 @@ pub next-at-requires : goal.next-at-requires
 next-at-requires c =
     (omega (arith, c.loop-i.invariant.all, c.loop-i.invariant.high, c.requires.few), omega (arith, c.loop-i.invariant.all, c.loop-i.invariant.high, c.requires.few))
 
-pub overflow_add-i : goal.overflow_add-i
-overflow_add-i c = omega (arith, c.loop-i-test.true, c.requires.few)
-
-pub loop-i-smaller : goal.loop-i-smaller
-loop-i-smaller c = omega (arith, c.loop-i-test.true)
-
 pub loop-i-preserved : goal.loop-i-preserved
 loop-i-preserved c =
     more (on_place c.args.flags.now) (same_place c.args.xs.now c.args.ys.now) (length c.args.flags.now)
@@ -53,9 +29,6 @@ loop-i-preserved c =
 
 pub shape_of-kept : goal.shape_of-kept
 shape_of-kept c = c.loop-i.invariant.same_kept ∙ length-set c.args.kept.now 0 0
-
-pub shape_of-gone : goal.shape_of-gone
-shape_of-gone c = c.loop-i.invariant.same_gone
 
 pub returns : goal.returns
 returns c =

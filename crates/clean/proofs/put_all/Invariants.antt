@@ -4,6 +4,3 @@ use Rattle.clean.proofs.put_all.Given as goal
 
 abbrev pub invariant-loop-j : goal.invariant-loop-j
 invariant-loop-j l = Restoring l.kept l.list l.initial.spots l.spots l.n l.j
-
-abbrev pub decreases-loop-j : goal.decreases-loop-j
-decreases-loop-j l = l.j

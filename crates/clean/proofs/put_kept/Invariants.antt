@@ -1,5 +1,4 @@
 -- `clean::put_kept` meets its contract. Assumes nothing.
-use Prim.Native.Nat.{◌-◌}
 use mathlib.Core.List.{map}
 use Rattle.rows.proofs.Filled.{Filled}
 use Rattle.clean.specs.Clean.{up_from}
@@ -8,6 +7,3 @@ use Rattle.clean.proofs.put_kept.Given as goal
 
 abbrev pub invariant-loop-i : goal.invariant-loop-i
 invariant-loop-i l = Filled (map kept_spot (up_from 0 l.kept)) l.initial.spots l.spots l.i
-
-abbrev pub decreases-loop-i : goal.decreases-loop-i
-decreases-loop-i l = l.kept - l.i

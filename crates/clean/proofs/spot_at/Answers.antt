@@ -6,22 +6,12 @@ use lib.ListN.{take, get_or-eq_default, length-take}
 use lib.Seq.{get_or-take}
 use Rattle.clean.specs.PutBack.{kept_spot}
 use Rattle.clean.proofs.Restoring.{any_past}
-use borrow.Author.Rules.{rules}
 use Rattle.clean.proofs.spot_at.Goals as goal
-
-pub offset_bounds-spots-i : goal.offset_bounds-spots-i
-offset_bounds-spots-i c = search rules
-
-pub bounds-spots-i : goal.bounds-spots-i
-bounds-spots-i c = search rules
 
 pub returns-then-i-n : goal.returns-then-i-n
 returns-then-i-n c =
     any_past c.args.spots.now c.args.i [] (kept_spot c.args.kept) (omega (arith, c.if-i-n.true, c.requires.0))
     ∙ sym (get_or-take c.args.n c.args.spots.now c.args.i (kept_spot c.args.kept) c.if-i-n.true)
-
-pub overflow_cast-result : goal.overflow_cast-result
-overflow_cast-result c = search rules
 
 pub returns : goal.returns
 returns c = sym (get_or-eq_default (take c.args.n c.args.spots.now) _ (omega (arith, length-take c.args.n c.args.spots.now, c.if-i-n.false)))

@@ -1,13 +1,6 @@
 -- `contour::before` meets its contract. Assumes nothing.
-use borrow.Author.Rules.{rules}
 use Rattle.contour.proofs.Dropping.{previous_first, previous_later}
 use Rattle.contour.proofs.before.Goals as goal
-
-pub overflow_sub-result : goal.overflow_sub-result
-overflow_sub-result c = search rules
-
-pub overflow_sub-result-else-i-eq0 : goal.overflow_sub-result-else-i-eq0
-overflow_sub-result-else-i-eq0 c = search rules
 
 pub returns-then-i-eq0 : goal.returns-then-i-eq0
 returns-then-i-eq0 c = previous_first _ _ c.if-i-eq0.true

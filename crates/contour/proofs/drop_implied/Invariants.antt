@@ -1,5 +1,5 @@
 -- `contour::drop_implied` meets its contract. The loop's invariant is `Dropping`. Assumes nothing.
-use Prim.Native.Nat.{◌-◌}
+use Rattle.std.proofs.Common.{◌-◌}
 use Rattle.contour.specs.Implied.{is_implied, first_place}
 use Rattle.contour.proofs.Dropping.{Dropping}
 use Rattle.contour.proofs.drop_implied.Given as goal

@@ -1,20 +1,14 @@
 -- `contour::is_midway` meets its contract. Assumes nothing.
-use mathlib.Core.Path.{◌∙◌, ap}
+use Rattle.std.proofs.Common.{◌∙◌, ap}
 use borrow.Author.Rules.{sfits_of}
 use Rattle.contour.specs.Implied.{same, halfway}
 use Rattle.contour.proofs.Sixteen.{same_bits, middle_back, midway_back}
 use Rattle.contour.proofs.is_midway.Goals as goal
 
-pub is_halfway-requires : goal.is_halfway-requires
-is_halfway-requires c = tt
-
 pub returns-then-closed : goal.returns-then-closed
 returns-then-closed c =
     rw c.if-closed.true
     (c.is_halfway.ensures ∙ midway_back halfway c.args.prev c.args.this c.args.next c.ranges.prev c.ranges.this c.ranges.next)
-
-pub middle-requires : goal.middle-requires
-middle-requires c = tt
 
 pub returns : goal.returns
 returns c =

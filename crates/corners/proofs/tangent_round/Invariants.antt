@@ -1,10 +1,6 @@
 -- `corners::tangent_round` meets its contract. The loop's invariant is `Tangents`. Assumes nothing.
-use Prim.Native.Nat.{◌-◌}
 use Rattle.corners.proofs.Rounds.{Tangents}
 use Rattle.corners.proofs.tangent_round.Given as goal
 
 abbrev pub invariant-loop-k : goal.invariant-loop-k
 invariant-loop-k l = Tangents l.xs l.ys l.flags l.m l.initial.marks l.marks l.before l.a l.k
-
-abbrev pub decreases-loop-k : goal.decreases-loop-k
-decreases-loop-k l = l.m - l.k

@@ -1,14 +1,7 @@
 -- `cubics::after_pair` meets its contract. Assumes nothing.
-use borrow.Author.Rules.{rules}
 use mathlib.Core.Path.{sym}
 use Rattle.cubics.proofs.Making.{after_more, after_none}
 use Rattle.cubics.proofs.after_pair.Goals as goal
-
-pub overflow_sub-n : goal.overflow_sub-n
-overflow_sub-n c = search rules
-
-pub overflow_add-result : goal.overflow_add-result
-overflow_add-result c = search rules
 
 pub returns-then-n-i-gt2 : goal.returns-then-n-i-gt2
 returns-then-n-i-gt2 c = sym (after_more c.args.i c.args.n c.if-n-i-gt2.true)

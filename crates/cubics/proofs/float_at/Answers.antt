@@ -2,17 +2,11 @@
 use Prim.Native.Nat.{◌^◌}
 use mir.Syntax.{w16}
 use mir.Facts.{to_z-of_z}
-use borrow.Author.Rules.{rules, sfits_of}
+use borrow.Author.Rules.{sfits_of}
 use lib.Dec.{lit≤}
 use lib.Signed.{nat_abs-le}
 use Rattle.float.proofs.Dyadic.{whole_exact}
 use Rattle.cubics.proofs.float_at.Goals as goal
-
-pub coordinate-requires : goal.coordinate-requires
-coordinate-requires c = search rules
-
-pub int_to_float-result : goal.int_to_float-result
-int_to_float-result c = search rules
 
 pub returns : goal.returns
 returns c =

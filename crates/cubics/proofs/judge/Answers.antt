@@ -2,29 +2,17 @@
 use Rattle.cubics.specs.Refusing.{judged_cubics}
 use Rattle.cubics.proofs.judge.Goals as goal
 
-pub rows_differ-requires : goal.rows_differ-requires
-rows_differ-requires c = tt
-
 pub returns-then-rows_differ : goal.returns-then-rows_differ
 unfolding judged_cubics
 returns-then-rows_differ c = rw (← c.rows_differ.ensures, c.if-rows_differ.true)
-
-pub no_point-requires : goal.no_point-requires
-no_point-requires c = tt
 
 pub returns-then-no_point : goal.returns-then-no_point
 unfolding judged_cubics
 returns-then-no_point c = rw (← c.rows_differ.ensures, c.if-rows_differ.false, ← c.no_point.ensures, c.if-no_point.true)
 
-pub first_off-requires : goal.first_off-requires
-first_off-requires c = tt
-
 pub returns-then-first_off : goal.returns-then-first_off
 unfolding judged_cubics
 returns-then-first_off c = rw (← c.rows_differ.ensures, c.if-rows_differ.false, ← c.no_point.ensures, c.if-no_point.false, ← c.first_off.ensures, c.if-first_off.true)
-
-pub off_pairs-requires : goal.off_pairs-requires
-off_pairs-requires c = tt
 
 pub returns-then-off_pairs : goal.returns-then-off_pairs
 unfolding judged_cubics

@@ -9,27 +9,9 @@ use Rattle.cubics.proofs.off_pairs.Goals as goal
 pub loop-i-init : goal.loop-i-init
 loop-i-init c = (refl, search rules, search rules)
 
-pub bounds-flags-i : goal.bounds-flags-i
-bounds-flags-i c = search rules
-
-pub ends_unpaired-requires : goal.ends_unpaired-requires
-ends_unpaired-requires c = tt
-
 pub returns-then-ends_unpaired : goal.returns-then-ends_unpaired
 returns-then-ends_unpaired c =
     sym (c.loop-i.invariant.0 ∙ pairs_end c.args.flags.now c.loop-i.i c.loop-i.n c.loop-i-test.true (sym c.ends_unpaired.ensures ∙ c.if-ends_unpaired.true))
-
-pub bounds-flags-i-in-loop-i : goal.bounds-flags-i-in-loop-i
-bounds-flags-i-in-loop-i c = search rules
-
-pub off_after-n-requires : goal.off_after-n-requires
-off_after-n-requires c = search rules
-
-pub overflow_add-i : goal.overflow_add-i
-overflow_add-i c = search rules
-
-pub loop-i-smaller : goal.loop-i-smaller
-loop-i-smaller c = search rules
 
 pub loop-i-preserved : goal.loop-i-preserved
 loop-i-preserved c = (
@@ -37,9 +19,6 @@ loop-i-preserved c = (
   omega arith,
   rw c.off_after-n.ensures (off_most (is_on (get_or c.args.flags.now c.loop-i.i 0)) c.loop-i.n c.loop-i.i c.loop-i.invariant.2),
 )
-
-pub unpaired-requires : goal.unpaired-requires
-unpaired-requires c = tt
 
 pub returns : goal.returns
 returns c =

@@ -3,20 +3,7 @@ use Prim.Native.Nat.{◌+◌, ◌*◌}
 use mathlib.Core.Path.{refl}
 use Rattle.halving.specs.Cubic.{control}
 use Rattle.halving.proofs.Halving.{control_exact, roomy_less}
-use borrow.Author.Rules.{rules}
 use Rattle.cubics.proofs.put_control.Goals as goal
-
-pub control-requires : goal.control-requires
-control-requires c = search rules
-
-pub control-requires-2 : goal.control-requires-2
-control-requires-2 c = search rules
-
-pub put_rounded-requires : goal.put_rounded-requires
-put_rounded-requires c = search rules
-
-pub shape_of-points : goal.shape_of-points
-shape_of-points c = search rules
 
 pub returns : goal.returns
 returns c = λ n e b room v.

@@ -5,23 +5,8 @@ use lib.IntN.{pos}
 use Rattle.halving.specs.Cubic.{point}
 use Rattle.cubics.proofs.Making.{makes_none, as_stored, kept, not_outside, outside_point_lem, place_on, place_pair, place_none, place_zero}
 use Rattle.halving.proofs.Halving.{reach_five}
-use borrow.Author.Rules.{rules, sfits_of}
+use borrow.Author.Rules.{sfits_of}
 use Rattle.cubics.proofs.put_place.Goals as goal
-
-pub on_at-requires : goal.on_at-requires
-on_at-requires c = tt
-
-pub coordinate-requires : goal.coordinate-requires
-coordinate-requires c = tt
-
-pub coordinate-requires-then-on_at : goal.coordinate-requires-then-on_at
-coordinate-requires-then-on_at c = tt
-
-pub put-requires : goal.put-requires
-put-requires c = tt
-
-pub shape_of-points-then-on_at : goal.shape_of-points-then-on_at
-shape_of-points-then-on_at c = c.put.auto.points
 
 pub returns-then-on_at : goal.returns-then-on_at
 returns-then-on_at c =
@@ -36,21 +21,6 @@ pub returns-then-i-eq0 : goal.returns-then-i-eq0
 returns-then-i-eq0 c =
     rw (place_zero c.args.xs.now c.args.ys.now c.args.flags.now c.args.i (sym c.on_at.ensures ∙ c.if-on_at.false) c.if-i-eq0.true)
     (makes_none c.args.points.now c.args.m c.requires.1)
-
-pub overflow_sub-i : goal.overflow_sub-i
-overflow_sub-i c = search rules
-
-pub on_at-requires-2 : goal.on_at-requires-2
-on_at-requires-2 c = tt
-
-pub cubic_at-requires : goal.cubic_at-requires
-cubic_at-requires c = search rules
-
-pub between-requires : goal.between-requires
-between-requires c = tt
-
-pub shape_of-points-then-on_at-2 : goal.shape_of-points-then-on_at-2
-shape_of-points-then-on_at-2 c = c.between.auto.points
 
 pub returns-then-on_at-2 : goal.returns-then-on_at-2
 returns-then-on_at-2 c =

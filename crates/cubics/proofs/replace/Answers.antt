@@ -1,6 +1,5 @@
 use mathlib.Core.Path.{◌≡◌, refl, ◌∙◌}
 use native.Mathlib.Omega.{arith}
-use borrow.Author.Rules.{rules}
 use lib.ListN.{length}
 use Rattle.cubics.specs.Making.{nothing}
 use Rattle.cubics.proofs.Making.{makes_none, makes_more, made_from, points_none, points_next}
@@ -13,21 +12,12 @@ loop-i-init c =
 pub put_place-m-requires : goal.put_place-m-requires
 put_place-m-requires c = (c.loop-i-test.true, c.loop-i.invariant.0.wrote.within)
 
-pub overflow_add-i : goal.overflow_add-i
-overflow_add-i c = search rules
-
-pub loop-i-smaller : goal.loop-i-smaller
-loop-i-smaller c = search rules
-
 pub loop-i-preserved : goal.loop-i-preserved
 loop-i-preserved c = (
   rw (points_next c.args.xs.now c.args.ys.now c.args.flags.now c.loop-i.i) (makes_more _ _ c.loop-i.invariant.1 c.loop-i.invariant.0 c.put_place-m.ensures),
   c.put_place-m.auto.points ∙ c.loop-i.invariant.1,
   omega (arith, c.loop-i-test.true),
 )
-
-pub shape_of-points : goal.shape_of-points
-shape_of-points c = c.loop-i.invariant.1
 
 pub returns : goal.returns
 returns c =

@@ -2,7 +2,6 @@
 use mathlib.Core.Path.{◌∙◌}
 use Rattle.contour.specs.Output.{outputs}
 use Rattle.cubics.proofs.Writing.{over_refused, far_refused, short_refused, all_written}
-use borrow.Author.Rules.{rules}
 use Rattle.cubics.proofs.write_made.Goals as goal
 
 pub returns-then-m : goal.returns-then-m
@@ -11,26 +10,8 @@ returns-then-m c = λ ps made. over_refused ps made (outputs c.args.ox.now c.arg
 pub returns-then-m-2 : goal.returns-then-m-2
 returns-then-m-2 c = λ ps made. far_refused ps made (outputs c.args.ox.now c.args.oy.now c.args.of.now) c.if-m.false c.if-m-2.true
 
-pub least-requires : goal.least-requires
-least-requires c = tt
-
-pub least-requires-2 : goal.least-requires-2
-least-requires-2 c = tt
-
 pub returns-then-least-n : goal.returns-then-least-n
 returns-then-least-n c = λ ps made. short_refused ps made (outputs c.args.ox.now c.args.oy.now c.args.of.now) c.if-m.false c.if-m-2.false (c.least-2.ensures ∙ rw c.least.ensures) c.if-least-n.true
-
-pub copy_out-requires : goal.copy_out-requires
-copy_out-requires c = search rules
-
-pub shape_of-ox : goal.shape_of-ox
-shape_of-ox c = search rules
-
-pub shape_of-oy : goal.shape_of-oy
-shape_of-oy c = search rules
-
-pub shape_of-of : goal.shape_of-of
-shape_of-of c = search rules
 
 pub returns : goal.returns
 returns c =

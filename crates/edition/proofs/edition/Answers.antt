@@ -3,45 +3,20 @@ use native.Mathlib.Omega.{arith}
 use mathlib.Core.Path.{refl}
 use Rattle.edition.specs.Edition as E
 use Rattle.edition.proofs.Steps.{short, edited}
-use borrow.Author.Rules.{rules}
 use Rattle.edition.proofs.edition.Goals as goal
-
-pub least-requires : goal.least-requires
-least-requires c = search rules
 
 pub returns-then-least-n : goal.returns-then-least-n
 returns-then-least-n c =
     rw (short _ _ c.args.samples.now c.args.breaks.now c.args.penalty c.least.ensures (omega (arith, c.if-least-n.true))) (E.no refl)
 
-pub optimize-requires : goal.optimize-requires
-optimize-requires c = search rules
+pub returns-in-None : goal.returns-in-None
+returns-in-None c =
+    edited _ _ c.args.samples.now c.args.breaks.now c.args.penalty c.requires c.least.ensures c.if-least-n.false c.optimize.ensures c.in-None.is
 
-pub shape_of-answers-in-Missing : goal.shape_of-answers-in-Missing
-shape_of-answers-in-Missing c = search rules
+pub returns-in-Some-Unchanged : goal.returns-in-Some-Unchanged
+returns-in-Some-Unchanged c =
+    edited _ _ c.args.samples.now c.args.breaks.now c.args.penalty c.requires c.least.ensures c.if-least-n.false c.optimize.ensures (rw c.in-Some-Unchanged.field-0-is at c.in-Some-Unchanged.is)
 
-pub shape_of-links-in-Missing : goal.shape_of-links-in-Missing
-shape_of-links-in-Missing c = search rules
-
-pub returns-in-Missing : goal.returns-in-Missing
-returns-in-Missing c =
-    edited _ _ c.args.samples.now c.args.breaks.now c.args.penalty c.requires c.least.ensures c.if-least-n.false c.optimize.ensures c.in-Missing.is
-
-pub shape_of-answers-in-Unchanged : goal.shape_of-answers-in-Unchanged
-shape_of-answers-in-Unchanged c = search rules
-
-pub shape_of-links-in-Unchanged : goal.shape_of-links-in-Unchanged
-shape_of-links-in-Unchanged c = search rules
-
-pub returns-in-Unchanged : goal.returns-in-Unchanged
-returns-in-Unchanged c =
-    edited _ _ c.args.samples.now c.args.breaks.now c.args.penalty c.requires c.least.ensures c.if-least-n.false c.optimize.ensures c.in-Unchanged.is
-
-pub shape_of-answers-in-Done : goal.shape_of-answers-in-Done
-shape_of-answers-in-Done c = search rules
-
-pub shape_of-links-in-Done : goal.shape_of-links-in-Done
-shape_of-links-in-Done c = search rules
-
-pub returns-in-Done : goal.returns-in-Done
-returns-in-Done c =
-    edited _ _ c.args.samples.now c.args.breaks.now c.args.penalty c.requires c.least.ensures c.if-least-n.false c.optimize.ensures c.in-Done.is
+pub returns-in-Some-Done : goal.returns-in-Some-Done
+returns-in-Some-Done c =
+    edited _ _ c.args.samples.now c.args.breaks.now c.args.penalty c.requires c.least.ensures c.if-least-n.false c.optimize.ensures (rw c.in-Some-Done.field-0-is at c.in-Some-Done.is)

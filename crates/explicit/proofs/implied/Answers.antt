@@ -3,26 +3,8 @@ use mathlib.Core.List.{[], ◌∷◌}
 use lib.IntN.{pos}
 use Rattle.contour.specs.Implied.{number}
 use Rattle.explicit.proofs.Half.{middle_back}
-use borrow.Author.Rules.{rules, sfits_of}
+use borrow.Author.Rules.{sfits_of}
 use Rattle.explicit.proofs.implied.Goals as goal
-
-pub bounds-p-0 : goal.bounds-p-0
-bounds-p-0 c = search rules
-
-pub bounds-q-0 : goal.bounds-q-0
-bounds-q-0 c = search rules
-
-pub middle-requires : goal.middle-requires
-middle-requires c = search rules
-
-pub bounds-p-1 : goal.bounds-p-1
-bounds-p-1 c = search rules
-
-pub bounds-q-1 : goal.bounds-q-1
-bounds-q-1 c = search rules
-
-pub middle-requires-2 : goal.middle-requires-2
-middle-requires-2 c = search rules
 
 pub returns : goal.returns
 returns c =

@@ -7,22 +7,13 @@ use Rattle.explicit.specs.Entry.{judged_rows}
 use Rattle.explicit.proofs.Turning.{none_on_lem}
 use Rattle.explicit.proofs.judge.Goals as goal
 
-pub rows_differ-requires : goal.rows_differ-requires
-rows_differ-requires c = tt
-
 pub returns-then-rows_differ : goal.returns-then-rows_differ
 unfolding judged_rows
 returns-then-rows_differ c = rw (← c.rows_differ.ensures, c.if-rows_differ.true)
 
-pub no_point-requires : goal.no_point-requires
-no_point-requires c = tt
-
 pub returns-then-no_point : goal.returns-then-no_point
 unfolding judged_rows
 returns-then-no_point c = rw (← c.rows_differ.ensures, c.if-rows_differ.false, ← c.no_point.ensures, c.if-no_point.true)
-
-pub first_on-requires : goal.first_on-requires
-first_on-requires c = tt
 
 pub returns-then-first_on-flags : goal.returns-then-first_on-flags
 unfolding judged_rows

@@ -5,9 +5,6 @@ use borrow.Author.Rules.{sfits_of}
 use Rattle.explicit.proofs.Half.{middle_fits, sum_half}
 use Rattle.explicit.proofs.middle.Goals as goal
 
-pub sum-requires : goal.sum-requires
-sum-requires c = tt
-
 pub half_away-requires : goal.half_away-requires
 half_away-requires c =
     rw (sum_half c.ranges.a c.ranges.b (sfits_of c.sum.type_inv) c.sum.ensures) (middle_fits c.ranges.a c.ranges.b).sfits

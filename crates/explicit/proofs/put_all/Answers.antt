@@ -1,10 +1,6 @@
 use mathlib.Core.Path.{refl, sym, ◌∙◌}
-use native.Mathlib.Omega.{arith}
 use Rattle.explicit.proofs.Turning.{turned_at, length_turned, put_start, put_more, put_end}
 use Rattle.explicit.proofs.put_all.Goals as goal
-
-pub nothing-w-requires : goal.nothing-w-requires
-nothing-w-requires c = tt
 
 pub loop-k-init : goal.loop-k-init
 loop-k-init c = put_start _ _ c.nothing-w.ensures
@@ -16,22 +12,10 @@ pub point_at-p-requires : goal.point_at-p-requires
 point_at-p-requires c =
     rw c.place_from.ensures (turned_at c.args.xs.now c.args.ys.now c.args.flags.now c.args.start c.loop-k.k c.requires c.loop-k-test.true).0
 
-pub put_next-w-requires : goal.put_next-w-requires
-put_next-w-requires c = tt
-
-pub overflow_add-k : goal.overflow_add-k
-overflow_add-k c = omega arith
-
-pub loop-k-smaller : goal.loop-k-smaller
-loop-k-smaller c = omega arith
-
 pub loop-k-preserved : goal.loop-k-preserved
 loop-k-preserved c =
     let at = (turned_at c.args.xs.now c.args.ys.now c.args.flags.now c.args.start c.loop-k.k c.requires c.loop-k-test.true).1 in
     put_more c.loop-k.invariant (rw (length_turned c.args.xs.now c.args.ys.now c.args.flags.now c.args.start c.requires) c.loop-k-test.true) (c.point_at-p.ensures ∙ rw c.place_from.ensures (sym at)) c.put_next-w.auto.points c.put_next-w.ensures
-
-pub shape_of-points : goal.shape_of-points
-shape_of-points c = c.loop-k.invariant.long
 
 pub returns : goal.returns
 returns c =

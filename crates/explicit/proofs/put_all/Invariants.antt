@@ -1,5 +1,4 @@
 -- `explicit::put_all` meets its contract. The loop's invariant is `Putting`. Assumes nothing.
-use Prim.Native.Nat.{◌-◌}
 use lib.ListN.{length}
 use Rattle.rows.specs.Lent.{inputs}
 use Rattle.explicit.specs.Explicit.{points_of, turned}
@@ -8,6 +7,3 @@ use Rattle.explicit.proofs.put_all.Given as goal
 
 abbrev pub invariant-loop-k : goal.invariant-loop-k
 invariant-loop-k l = Putting (turned l.start (points_of (inputs l.xs l.ys l.flags))) (length l.initial.points) l.points l.w l.prev l.k
-
-abbrev pub decreases-loop-k : goal.decreases-loop-k
-decreases-loop-k l = length l.flags - l.k

@@ -2,33 +2,14 @@
 use mathlib.Core.Path.{◌∙◌}
 use Rattle.contour.specs.Output.{outputs}
 use Rattle.explicit.proofs.Writing.{over_refused, short_refused, all_written}
-use borrow.Author.Rules.{rules}
 use Rattle.explicit.proofs.write_out.Goals as goal
 
 pub returns-then-w : goal.returns-then-w
 returns-then-w c = λ ps wrote. over_refused ps wrote (outputs c.args.ox.now c.args.oy.now c.args.of.now) c.if-w.true
 
-pub least-requires : goal.least-requires
-least-requires c = search rules
-
-pub least-requires-2 : goal.least-requires-2
-least-requires-2 c = search rules
-
 pub returns-then-least-n : goal.returns-then-least-n
 returns-then-least-n c =
     λ ps wrote. short_refused ps wrote (outputs c.args.ox.now c.args.oy.now c.args.of.now) c.if-w.false (c.least-2.ensures ∙ rw c.least.ensures) c.if-least-n.true
-
-pub copy_out-requires : goal.copy_out-requires
-copy_out-requires c = search rules
-
-pub shape_of-ox : goal.shape_of-ox
-shape_of-ox c = search rules
-
-pub shape_of-oy : goal.shape_of-oy
-shape_of-oy c = search rules
-
-pub shape_of-of : goal.shape_of-of
-shape_of-of c = search rules
 
 pub returns : goal.returns
 returns c =

@@ -1,5 +1,7 @@
 -- What the promises of specs/Calls/Cleaning say of a report and of two calls, and those of any entry that keeps and lists, or puts back, as they do.
 -- Assumes nothing.
+use Rattle.std.specs.Prelude.{Result, Ok, Err}
+use Rattle.refusals.specs.declared.refusal.Refusal.{Refusal}
 use Prim.Native.Nat.{ℕ}
 use mathlib.Core.List.{List}
 use mathlib.Core.Path.{◌≡◌, refl, sym, subst, ◌∙◌}
@@ -10,9 +12,6 @@ use Rattle.clean.specs.Clean.{Cleaning}
 use Rattle.clean.specs.Entry.{Rows, rows}
 use Rattle.clean.specs.Determine.{Same, first_of, first_points, Counted, counted_back}
 use Rattle.clean.specs.declared.Cleaned as C
-use Rattle.clean.specs.declared.Cleaned.TheVariants as Cleaned
-use Rattle.clean.specs.declared.Restored as D
-use Rattle.clean.specs.declared.Restored.TheVariants as Restored
 use Rattle.exports.specs.Cleaning as Reports
 use Rattle.exports.specs.Determine.{clean_determined, clean_equal_orders, put_determined, put_equal_orders}
 use Rattle.exports.specs.Calls.Cleaning.{CleanGiven, CleanLeft, SiftIs, CleanIs, CleanShows, CleanAlike}
@@ -24,10 +23,10 @@ use Rattle.exports.specs.declared.cleaning.PutReport.{PutReport}
 -- ---- keeping and listing
 
 -- a report shows an answer, field by field
-abbrev pub Shows : (C.Cleaned → CleanReport) → Type 0
-Shows show = (o : C.Cleaned) → CleanShows o (show o)
+abbrev pub Shows : ((Result C.Cleaned Refusal) → CleanReport) → Type 0
+Shows show = (o : Result C.Cleaned Refusal) → CleanShows o (show o)
 
-pub sift_shows : {show : C.Cleaned → CleanReport} {rule : Inputs → Cleaning} {g : CleanGiven} {l : CleanLeft} → Shows show → SiftIs show rule g l →
+pub sift_shows : {show : Result C.Cleaned Refusal → CleanReport} {rule : Inputs → Cleaning} {g : CleanGiven} {l : CleanLeft} → Shows show → SiftIs show rule g l →
     CleanShows (sift_defined rule g) l.report
 sift_shows {rule = rule} {g = g} shows p = rw (p.shown.is, p.shown.promise.answer) (shows (sift_defined rule g))
 
@@ -39,15 +38,15 @@ abbrev by_report : CleanReport → CleanLeft → Rows
 by_report r l = rows (outputs (take r.kept l.ox) (take r.kept l.oy) (take r.kept l.of)) (take r.dropped l.list)
 
 -- a report shows how many places are written
-abbrev pub Counts : (C.Cleaned → CleanReport) → Type 0
-Counts show = (a : C.Cleaned) (l : CleanLeft) → first_of a (clean_after l) ≡ by_report (show a) l
+abbrev pub Counts : ((Result C.Cleaned Refusal) → CleanReport) → Type 0
+Counts show = (a : Result C.Cleaned Refusal) (l : CleanLeft) → first_of a (clean_after l) ≡ by_report (show a) l
 
 -- the first places by the answer are those by the report
-sift_first : {show : C.Cleaned → CleanReport} → Counts show → {P : C.Cleaned → Type 0} (l : CleanLeft) (s : Shown show P l.report) →
+sift_first : {show : Result C.Cleaned Refusal → CleanReport} → Counts show → {P : Result C.Cleaned Refusal → Type 0} (l : CleanLeft) (s : Shown show P l.report) →
     first_of s.answer (clean_after l) ≡ clean_written l
 sift_first counts l s = rw s.is (counts s.answer l)
 
-module _ {show : C.Cleaned → CleanReport} {rule : Inputs → Cleaning} {g g' : CleanGiven} {l l' : CleanLeft} where
+module _ {show : Result C.Cleaned Refusal → CleanReport} {rule : Inputs → Cleaning} {g g' : CleanGiven} {l l' : CleanLeft} where
   pub sift_left : SiftIs show rule g l → SiftIs show rule g' l' → g ≡ g' → l ≡ l'
   unfolding clean_left_by
   sift_left p q e =
@@ -62,12 +61,12 @@ module _ {show : C.Cleaned → CleanReport} {rule : Inputs → Cleaning} {g g' :
       record { answer = same.answer; left = sym (sift_first counts l p.shown) ∙ same.left ∙ sift_first counts l' q' }
 
 clean_counts : Counts Reports.report
-clean_counts (Cleaned.Refused n) l = refl
-clean_counts (Cleaned.Points n m) l = refl
+clean_counts (Err n) l = refl
+clean_counts (Ok c) l = refl
 
 clean_fields : Shows Reports.report
-clean_fields (Cleaned.Refused k) = (refl, refl, refl)
-clean_fields (Cleaned.Points n m) = (refl, refl, refl)
+clean_fields (Err k) = (refl, refl, refl)
+clean_fields (Ok c) = (refl, refl, refl)
 
 pub clean_shows : {g : CleanGiven} {l : CleanLeft} → CleanIs g l → CleanShows (clean_defined g) l.report
 clean_shows p = sift_shows clean_fields p
@@ -81,10 +80,10 @@ clean_equal p q a = sift_equal clean_counts p q a
 
 -- ---- putting back
 
-abbrev pub PutsShown : (D.Restored → PutReport) → Type 0
-PutsShown show = (o : D.Restored) → PutShows o (show o)
+abbrev pub PutsShown : ((Result ℕ Refusal) → PutReport) → Type 0
+PutsShown show = (o : Result ℕ Refusal) → PutShows o (show o)
 
-pub restore_shows : {show : D.Restored → PutReport} {rule : Inputs → List (List ℕ) → List (List ℕ)} {g : PutGiven} {l : PutLeft} → PutsShown show →
+pub restore_shows : {show : Result ℕ Refusal → PutReport} {rule : Inputs → List (List ℕ) → List (List ℕ)} {g : PutGiven} {l : PutLeft} → PutsShown show →
     RestoreIs show rule g l → PutShows (put_defined g) l.report
 restore_shows {g = g} shows p = rw (p.shown.is, p.shown.promise.answer) (shows (put_defined g))
 
@@ -94,14 +93,14 @@ put_left_by r (outputs ox oy of) = record { report = r; ox = ox; oy = oy; of = o
 abbrev by_put_report : PutReport → PutLeft → Outputs
 by_put_report r l = outputs (take r.points l.ox) (take r.points l.oy) (take r.points l.of)
 
-abbrev pub PutCounts : (D.Restored → PutReport) → Type 0
-PutCounts show = (a : D.Restored) (l : PutLeft) → first_points a (put_after l) ≡ by_put_report (show a) l
+abbrev pub PutCounts : ((Result ℕ Refusal) → PutReport) → Type 0
+PutCounts show = (a : Result ℕ Refusal) (l : PutLeft) → first_points a (put_after l) ≡ by_put_report (show a) l
 
-restore_first : {show : D.Restored → PutReport} → PutCounts show → {P : D.Restored → Type 0} (l : PutLeft) (s : Shown show P l.report) →
+restore_first : {show : Result ℕ Refusal → PutReport} → PutCounts show → {P : Result ℕ Refusal → Type 0} (l : PutLeft) (s : Shown show P l.report) →
     first_points s.answer (put_after l) ≡ put_written l
 restore_first counts l s = rw s.is (counts s.answer l)
 
-module _ {show : D.Restored → PutReport} {rule : Inputs → List (List ℕ) → List (List ℕ)} {g g' : PutGiven} {l l' : PutLeft} where
+module _ {show : Result ℕ Refusal → PutReport} {rule : Inputs → List (List ℕ) → List (List ℕ)} {g g' : PutGiven} {l l' : PutLeft} where
   pub restore_left : RestoreIs show rule g l → RestoreIs show rule g' l' → g ≡ g' → l ≡ l'
   unfolding put_left_by
   restore_left p q e =
@@ -116,12 +115,12 @@ module _ {show : D.Restored → PutReport} {rule : Inputs → List (List ℕ) �
       record { answer = same.answer; left = sym (restore_first counts l p.shown) ∙ same.left ∙ restore_first counts l' q' }
 
 put_counts : PutCounts Reports.put_report
-put_counts (Restored.Refused n) l = refl
-put_counts (Restored.Points n) l = refl
+put_counts (Err n) l = refl
+put_counts (Ok n) l = refl
 
 put_fields : PutsShown Reports.put_report
-put_fields (Restored.Refused k) = (refl, refl)
-put_fields (Restored.Points n) = (refl, refl)
+put_fields (Err k) = (refl, refl)
+put_fields (Ok n) = (refl, refl)
 
 pub put_shows : {g : PutGiven} {l : PutLeft} → PutIs g l → PutShows (put_defined g) l.report
 put_shows p = restore_shows put_fields p

@@ -1,12 +1,12 @@
 -- What the promise of specs/Calls/Reasons says of a report, and of two calls. Assumes nothing.
+use Rattle.std.specs.Prelude.{Result, Ok, Err}
+use Rattle.refusals.specs.declared.refusal.Refusal.{Refusal}
 use Prim.Native.Nat.{ℕ, ◌*◌, ◌<◌}
 use native.Mathlib.Omega.{arith}
 use mathlib.Core.Bool.{Bool, true, false}
 use mathlib.Core.Path.{◌≡◌, refl, sym, subst}
 use lib.Dec.{lit≤}
 use Rattle.why.specs.declared.Marks.{Marks}
-use Rattle.why.specs.declared.Explained as D
-use Rattle.why.specs.declared.Explained.TheVariants as Explained
 use Rattle.exports.specs.Reasons as Reports
 use Rattle.exports.specs.Determine.{why_determined}
 use Rattle.exports.specs.Calls.Reasons.{WhyGiven, WhyLeft, WhyIs, bit, Digits, WhyShows, WhyAlike, why_defined}
@@ -38,9 +38,9 @@ digits m =
 pub why_shows : {g : WhyGiven} {l : WhyLeft} → WhyIs g l → WhyShows (why_defined g) l.report
 why_shows {g} {l} p = rw (p.shown.is, p.shown.promise.answer) (by (why_defined g))
   where
-    by : (o : D.Explained) → WhyShows o (Reports.report o)
-    by (Explained.Refused k) = (refl, refl)
-    by (Explained.Reasons m) = (refl, digits m)
+    by : (o : Result Marks Refusal) → WhyShows o (Reports.report o)
+    by (Err k) = (refl, refl)
+    by (Ok m) = (refl, digits m)
 
 -- ---- two calls
 

@@ -1,5 +1,6 @@
 -- Calls of fontcrunch_editions, and what it promises. Definitions and statements; the theorems stand in proofs/Stated/BothEditions.
 use Rattle.std.specs.Prelude.{ℕ, List, ◌≡◌, Float, ℤ, length}
+use Rattle.refusals.specs.Number.{number_of}
 use Rattle.rows.specs.Lent.{Inputs, inputs, Shown}
 use Rattle.contour.specs.Output.{outputs}
 use Rattle.crunch.specs.Crunch.{Outcome, refused, crunched}
@@ -87,7 +88,7 @@ edition_defined_b g = Crunch.whole_of (editions_contour g) (settings_b (editions
 
 -- the report of a refusal shows its number and nothing else; of points that come out, how many they are, the pairs tried and the lookups that fell
 abbrev pub EditionShows : Outcome → EditionReport → Type 0
-EditionShows (refused k) r = (r.number ≡ k) × (r.points ≡ 0) × (r.pairs ≡ 0) × (r.fallen ≡ 0)
+EditionShows (refused k) r = (r.number ≡ number_of k) × (r.points ≡ 0) × (r.pairs ≡ 0) × (r.fallen ≡ 0)
 EditionShows (crunched ps t) r = (r.number ≡ 0) × (r.points ≡ length ps) × (r.pairs ≡ t.pairs) × (r.fallen ≡ t.fallen)
 
 pub record EditionsShow (g : EditionsGiven) (r : EditionsReport) : Type 0 where

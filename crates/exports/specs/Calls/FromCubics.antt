@@ -1,11 +1,11 @@
 -- Calls of fontcrunch_from_cubics, and what it promises. Definitions and statements; the theorems stand in proofs/Stated/FromCubics.
-use Rattle.std.specs.Prelude.{ℕ, List, ◌≡◌, ℤ, take}
+use Rattle.std.specs.Prelude.{ℕ, List, ◌≡◌, ℤ, take, Result, Ok, Err}
+use Rattle.refusals.specs.Number.{number_of}
+use Rattle.refusals.specs.declared.refusal.Refusal.{Refusal}
 use Rattle.rows.specs.Lent.{Inputs, inputs, Shown}
 use Rattle.contour.specs.Output.{Outputs, outputs}
 use Rattle.cubics.specs.Entry.{room_of, whole_of, Promise}
 use Rattle.cubics.specs.Determine.{places_of}
-use Rattle.cubics.specs.declared.Replaced as D
-use Rattle.cubics.specs.declared.Replaced.TheVariants as Replaced
 use Rattle.exports.specs.FromCubics as Reports
 use Rattle.exports.specs.declared.from_cubics.CubicReport.{CubicReport}
 
@@ -37,13 +37,13 @@ pub record CubicIs (g : CubicGiven) (l : CubicLeft) : Type 0 where
   pub shown : Shown Reports.report (Promise (cubic_contour g) (record { entry = cubic_before g; exit = cubic_after l })) l.report
 
 -- what the entry's definition gives, for what the caller gave
-abbrev pub cubic_defined : CubicGiven → D.Replaced
+abbrev pub cubic_defined : CubicGiven → Result ℕ Refusal
 cubic_defined g = whole_of (cubic_contour g) (room_of (cubic_before g))
 
 -- the report of a refusal shows its number and nothing else; else the points written
-abbrev pub CubicShows : D.Replaced → CubicReport → Type 0
-CubicShows (Replaced.Refused k) r = (r.number ≡ k) × (r.points ≡ 0)
-CubicShows (Replaced.Quads points) r = (r.number ≡ 0) × (r.points ≡ points)
+abbrev pub CubicShows : Result ℕ Refusal → CubicReport → Type 0
+CubicShows (Err k) r = (r.number ≡ number_of k) × (r.points ≡ 0)
+CubicShows (Ok points) r = (r.number ≡ 0) × (r.points ≡ points)
 
 -- one contour, in rows of equal lengths
 pub record CubicAlike (g g' : CubicGiven) : Type 0 where

@@ -2,6 +2,7 @@
 -- in proofs/Stated/Glyph.
 use Rattle.std.specs.Prelude.{ℕ, List, ◌≡◌, Float, ℤ, length}
 use denote.Triple.Both.{Both}
+use Rattle.refusals.specs.Number.{number_of}
 use Rattle.rows.specs.Rows.{work}
 use Rattle.rows.specs.Lent.{Lent, Shown}
 use Rattle.settings.specs.Settings.{settings_of}
@@ -48,7 +49,7 @@ read_glyph_defined g = read_of (rooms_of (glyph g.ends g.xs g.ys g.flags g.instr
 
 -- the report of a refusal shows its number and nothing else; else how many contours, points and instruction bytes there are
 abbrev pub ReadGlyphShows : Outcome Glyph → GlyphReadReport → Type 0
-ReadGlyphShows (refused k) r = (r.number ≡ k) × (r.contours ≡ 0) × (r.points ≡ 0) × (r.instructions ≡ 0)
+ReadGlyphShows (refused k) r = (r.number ≡ number_of k) × (r.contours ≡ 0) × (r.points ≡ 0) × (r.instructions ≡ 0)
 ReadGlyphShows (done g) r =
     (r.number ≡ 0) × (r.contours ≡ length g.ends) × (r.points ≡ length g.flags) × (r.instructions ≡ length g.instructions)
 
@@ -92,7 +93,7 @@ write_glyph_defined g = written_of (length g.out) (write_glyph_glyph g)
 
 -- the report of a refusal shows its number and nothing else; else how many bytes are written, of a glyph that is written or crunched
 abbrev pub GlyphBytesShow : Outcome (List ℕ) → GlyphWriteReport → Type 0
-GlyphBytesShow (refused k) r = (r.number ≡ k) × (r.bytes ≡ 0)
+GlyphBytesShow (refused k) r = (r.number ≡ number_of k) × (r.bytes ≡ 0)
 GlyphBytesShow (done bytes) r = (r.number ≡ 0) × (r.bytes ≡ length bytes)
 
 -- one glyph, in rows of equal length

@@ -1,10 +1,10 @@
 -- Calls of fontcrunch_why, and what it promises. Definitions and statements; the theorems stand in proofs/Stated/Reasons.
-use Rattle.std.specs.Prelude.{ℕ, ◌/◌, ◌%◌, Bool, true, false, List, ◌≡◌, ℤ}
+use Rattle.std.specs.Prelude.{ℕ, ◌/◌, ◌%◌, Bool, true, false, List, ◌≡◌, ℤ, Result, Ok, Err}
+use Rattle.refusals.specs.Number.{number_of}
+use Rattle.refusals.specs.declared.refusal.Refusal.{Refusal}
 use Rattle.rows.specs.Lent.{Inputs, inputs, Shown}
 use Rattle.why.specs.Entry.{why_of, Promise}
 use Rattle.why.specs.declared.Marks.{Marks}
-use Rattle.why.specs.declared.Explained as D
-use Rattle.why.specs.declared.Explained.TheVariants as Explained
 use Rattle.exports.specs.Reasons as Reports
 use Rattle.exports.specs.declared.reasons.WhyReport.{WhyReport}
 
@@ -25,7 +25,7 @@ pub record WhyIs (g : WhyGiven) (l : WhyLeft) : Type 0 where
   pub shown : Shown Reports.report (Promise (why_contour g) g.k) l.report
 
 -- what the definition of reasons gives, for what the caller gave
-abbrev pub why_defined : WhyGiven → D.Explained
+abbrev pub why_defined : WhyGiven → Result Marks Refusal
 why_defined g = why_of (why_contour g) g.k
 
 abbrev pub bit : Bool → ℕ
@@ -41,9 +41,9 @@ pub record Digits (m : Marks) (n : ℕ) : Type 0 where
   pub angle : n / 16 ≡ bit m.angle
 
 -- the report of a refusal shows its number and nothing else; else a binary digit for each reason
-abbrev pub WhyShows : D.Explained → WhyReport → Type 0
-WhyShows (Explained.Refused k) r = (r.number ≡ k) × (r.reasons ≡ 0)
-WhyShows (Explained.Reasons m) r = (r.number ≡ 0) × Digits m r.reasons
+abbrev pub WhyShows : Result Marks Refusal → WhyReport → Type 0
+WhyShows (Err k) r = (r.number ≡ number_of k) × (r.reasons ≡ 0)
+WhyShows (Ok m) r = (r.number ≡ 0) × Digits m r.reasons
 
 -- one contour and one segment. No row is lent to be written, so that this is all that is given
 pub record WhyAlike (g g' : WhyGiven) : Type 0 where

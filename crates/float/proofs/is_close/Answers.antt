@@ -1,11 +1,8 @@
 -- `float::is_close` meets its contract. Assumes nothing.
-use Rattle.std.proofs.Common.{ap, rules}
+use Rattle.std.proofs.Common.{ap}
 use lib.Ieee.{Float, lt, of_bits, round}
 use Rattle.float.specs.Float.{tiny, close_to}
 use Rattle.float.proofs.is_close.Goals as goal
-
-pub abs-requires : goal.abs-requires
-abs-requires c = search rules
 
 pub returns : goal.returns
 unfolding of_bits round tiny close_to

@@ -1,5 +1,5 @@
 -- `float::radicand_of` meets its contract. Assumes nothing.
-use Rattle.std.proofs.Common.{ℕ, ◌+◌, ◌-◌, ◌*◌, ◌/◌, ◌^◌, T, sym, ap, ◌∙◌, subst, arith, rules}
+use Rattle.std.proofs.Common.{ℕ, ◌+◌, ◌-◌, ◌*◌, ◌/◌, ◌^◌, T, sym, ap, ◌∙◌, subst, arith}
 use lib.Bits.{and_mask}
 use lib.Ieee.{Float, binary64, fits, to_bits, of_bits, div}
 use Rattle.float.specs.Float.{root_units}
@@ -29,9 +29,6 @@ normalised-requires c =
 
 pub overflow_add-fraction : goal.overflow_add-fraction
 overflow_add-fraction c = omega (arith, and_mask (to_bits binary64 c.args.x) 52)
-
-pub overflow_sub-field : goal.overflow_sub-field
-overflow_sub-field c = search rules
 
 pub normalised-requires-else-field-eq0 : goal.normalised-requires-else-field-eq0
 normalised-requires-else-field-eq0 c =

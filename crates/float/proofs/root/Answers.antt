@@ -10,12 +10,6 @@ use Rattle.float.proofs.root.Goals.{In-Scaled}
 left : (c : In-Scaled) → Leaves (root_of c.args.x) (Scaled c.in-Scaled.word c.in-Scaled.power)
 left c = rw c.in-Scaled.is at c.radicand_of.ensures
 
-pub radicand_of-requires : goal.radicand_of-requires
-radicand_of-requires c = tt
-
-pub root_digits-requires : goal.root_digits-requires
-root_digits-requires c = tt
-
 pub from_digits-requires : goal.from_digits-requires
 from_digits-requires c =
     let l = left c.before in

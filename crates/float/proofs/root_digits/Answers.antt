@@ -1,13 +1,7 @@
 -- `float::root_digits` meets its contract: the nearest root, by how the root and the rest compare. Assumes nothing.
-use Rattle.std.proofs.Common.{◌∙◌, arith}
+use Rattle.std.proofs.Common.{◌∙◌}
 use Rattle.float.proofs.Squares.{near_word}
 use Rattle.float.proofs.root_digits.Goals as goal
-
-pub by_digits-d-requires : goal.by_digits-d-requires
-by_digits-d-requires c = omega arith
-
-pub rounded-requires : goal.rounded-requires
-rounded-requires c = tt
 
 pub returns : goal.returns
 returns c = c.rounded.ensures ∙ near_word _ _ _ c.ranges.w.fits c.by_digits-d.ensures

@@ -1,5 +1,5 @@
 -- `float::round` meets its contract. Assumes nothing.
-use Rattle.std.proofs.Common.{◌≡◌, ℕ, ◌+◌, ◌/◌, true, false, T, sym, ap, ◌∙◌, subst, arith, rules}
+use Rattle.std.proofs.Common.{◌≡◌, ℕ, ◌+◌, ◌/◌, true, false, T, sym, ap, ◌∙◌, subst, arith}
 use lib.Ieee.{Float, binary64, of_bits, lt, mul, fits, to_unsigned}
 use Rattle.float.specs.Float.{abs_of, to_nearest}
 use Rattle.float.proofs.Whole.{limit, Small, two, Near, near_call, flat_near, signed, large_stays}
@@ -21,9 +21,6 @@ gave c = c.truncating_f64_to_u64.ensures ∙ ap (λ (y : Float). to_unsigned 64 
 -- what is known of that call
 call : (c : Then-y) → Near c.args.x
 call c = near_call _ (held c.before.before) (small c)
-
-pub abs-y-requires : goal.abs-y-requires
-abs-y-requires c = search rules
 
 pub truncating_f64_to_u64-requires : goal.truncating_f64_to_u64-requires
 unfolding of_bits

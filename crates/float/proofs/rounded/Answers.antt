@@ -1,9 +1,6 @@
 -- `float::rounded` meets its contract: the test is the definition's. Assumes nothing.
-use Rattle.std.proofs.Common.{rules, le-ltb, lt-ltb}
+use Rattle.std.proofs.Common.{le-ltb, lt-ltb}
 use Rattle.float.proofs.rounded.Goals as goal
-
-pub overflow_add-result : goal.overflow_add-result
-overflow_add-result c = search rules
 
 pub returns-then-q-d : goal.returns-then-q-d
 returns-then-q-d c = rw (lt-ltb _ _ c.if-q-d.true)

@@ -1,5 +1,5 @@
 -- `float::trunc` meets its contract. Assumes nothing.
-use Rattle.std.proofs.Common.{◌≡◌, true, false, T, sym, ap, ◌∙◌, subst, arith, rules}
+use Rattle.std.proofs.Common.{◌≡◌, true, false, T, sym, ap, ◌∙◌, subst, arith}
 use lib.Ieee.{Float, binary64, of_bits, lt, fits, to_unsigned}
 use Rattle.float.specs.Float.{abs_of, to_zero}
 use Rattle.float.proofs.Whole.{limit, Small, above_u64, below_u64, cut_is, cut_small, flat_zero, signed, large_stays}
@@ -16,9 +16,6 @@ small c = subst (λ (y : Float). lt y limit ≡ true) c.abs-y.ensures c.if-y.tru
 -- the call gives |x| cut
 gave : (c : After-truncating_f64_to_u64) → c.truncating_f64_to_u64.result ≡ to_unsigned 64 (abs_of c.args.x)
 gave c = c.truncating_f64_to_u64.ensures ∙ ap (to_unsigned 64) c.abs-y.ensures
-
-pub abs-y-requires : goal.abs-y-requires
-abs-y-requires c = search rules
 
 pub truncating_f64_to_u64-requires : goal.truncating_f64_to_u64-requires
 truncating_f64_to_u64-requires c = rw c.abs-y.ensures (record { lower_bound = above_u64 _ (small c); upper_bound = below_u64 _ (small c) })

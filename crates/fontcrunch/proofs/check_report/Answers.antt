@@ -1,16 +1,12 @@
 -- `fontcrunch::check_report` meets its contract. Assumes nothing.
 use mathlib.Core.Path.{refl}
-use borrow.Author.Rules.{rules}
 use Rattle.fontcrunch.proofs.check_report.Goals as goal
 
-pub overflow_cast-result : goal.overflow_cast-result
-overflow_cast-result c = search rules
+pub returns-in-Err : goal.returns-in-Err
+returns-in-Err c = rw (c.number.ensures, c.in-Err.is) refl
 
-pub returns-in-Refused : goal.returns-in-Refused
-returns-in-Refused c = rw c.in-Refused.is refl
+pub returns-in-Ok-true : goal.returns-in-Ok-true
+returns-in-Ok-true c = rw (c.in-Ok-true.is, c.in-Ok-true.field-0-test) refl
 
-pub returns-in-Yes : goal.returns-in-Yes
-returns-in-Yes c = rw c.in-Yes.is refl
-
-pub returns-in-No : goal.returns-in-No
-returns-in-No c = rw c.in-No.is refl
+pub returns-in-Ok-false : goal.returns-in-Ok-false
+returns-in-Ok-false c = rw (c.in-Ok-false.is, c.in-Ok-false.field-0-test) refl

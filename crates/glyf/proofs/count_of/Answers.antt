@@ -1,26 +1,10 @@
 -- `glyf::count_of` meets its contract. Assumes nothing.
 use native.Mathlib.Omega.{arith}
 use Rattle.glyf.proofs.Rises.{no_points_lem, some_points}
-use borrow.Author.Rules.{rules}
 use Rattle.glyf.proofs.count_of.Goals as goal
 
 pub returns-then-ends-eq0 : goal.returns-then-ends-eq0
 returns-then-ends-eq0 c = record { value = no_points_lem _ c.if-ends-eq0.true; upper_bound = omega arith }
-
-pub overflow_sub-ends : goal.overflow_sub-ends
-overflow_sub-ends c = search rules
-
-pub offset_bounds-ends-ends : goal.offset_bounds-ends-ends
-offset_bounds-ends-ends c = search rules
-
-pub bounds-ends-ends : goal.bounds-ends-ends
-bounds-ends-ends c = search rules
-
-pub wide-requires : goal.wide-requires
-wide-requires c = search rules
-
-pub overflow_add-result : goal.overflow_add-result
-overflow_add-result c = omega (arith, c.wide.ensures.upper_bound)
 
 pub returns : goal.returns
 returns c = record { value = rw c.wide.ensures.value (some_points _ c.if-ends-eq0.false); upper_bound = omega (arith, c.wide.ensures.upper_bound) }

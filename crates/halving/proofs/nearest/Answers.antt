@@ -4,20 +4,11 @@ use lib.Ieee.{of_bits, neg}
 use Rattle.halving.proofs.Rounding.{brought_low, brought_high}
 use Rattle.halving.proofs.nearest.Goals as goal
 
-pub round-r-requires : goal.round-r-requires
-round-r-requires c = tt
-
-pub to_i16-requires : goal.to_i16-requires
-to_i16-requires c = tt
-
 pub returns-then-r : goal.returns-then-r
 unfolding of_bits neg
 returns-then-r c z e b room v =
     rw (to_z-of_z (record { sfits = c.to_i16.type_inv }), c.to_i16.ensures, c.round-r.ensures)
     (brought_low room v (rw c.round-r.ensures at c.if-r.true))
-
-pub to_i16-requires-2 : goal.to_i16-requires-2
-to_i16-requires-2 c = tt
 
 pub returns : goal.returns
 unfolding of_bits neg

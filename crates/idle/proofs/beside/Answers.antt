@@ -2,18 +2,12 @@
 use Rattle.idle.specs.Idle.{beside_of}
 use Rattle.idle.proofs.beside.Goals as goal
 
-pub on_place-requires : goal.on_place-requires
-on_place-requires c = tt
-
 pub returns-then-on_place : goal.returns-then-on_place
 unfolding beside_of
 returns-then-on_place c = rw (← c.on_place.ensures, c.if-on_place.true)
 
 pub preceding-requires : goal.preceding-requires
 preceding-requires c = c.requires
-
-pub same_place-requires : goal.same_place-requires
-same_place-requires c = tt
 
 pub returns-then-same_place : goal.returns-then-same_place
 unfolding beside_of
@@ -28,9 +22,6 @@ returns-then-same_place c =
 
 pub following-requires : goal.following-requires
 following-requires c = c.requires
-
-pub same_place-requires-2 : goal.same_place-requires-2
-same_place-requires-2 c = tt
 
 pub returns-then-same_place-2 : goal.returns-then-same_place-2
 unfolding beside_of

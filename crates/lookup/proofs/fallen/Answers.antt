@@ -2,9 +2,6 @@
 use Rattle.lookup.proofs.Laws.{both_fall, none_falls}
 use Rattle.lookup.proofs.fallen.Goals as goal
 
-pub to_index-requires : goal.to_index-requires
-to_index-requires c = tt
-
 pub returns-then-row-to_index : goal.returns-then-row-to_index
 returns-then-row-to_index c = both_fall _ _ _ c.to_index.ensures c.if-row-to_index.true
 

@@ -2,9 +2,6 @@
 use Rattle.measure.specs.Measure.{error_of}
 use Rattle.measure.proofs.error.Goals as goal
 
-pub square_distance-requires : goal.square_distance-requires
-square_distance-requires c = tt
-
 pub returns : goal.returns
 unfolding error_of
 returns c = rw c.square_distance.ensures

@@ -3,18 +3,6 @@ use Rattle.measure.specs.Measure.{measure_of}
 use Rattle.measure.specs.Fallen.{fallen_of}
 use Rattle.measure.proofs.measure_quad.Goals as goal
 
-pub arclen-requires : goal.arclen-requires
-arclen-requires c = tt
-
-pub stretch-ss-requires : goal.stretch-ss-requires
-stretch-ss-requires c = tt
-
-pub new-af-requires : goal.new-af-requires
-new-af-requires c = tt
-
-pub walk-requires : goal.walk-requires
-walk-requires c = tt
-
 pub returns : goal.returns
 unfolding measure_of fallen_of
 returns c =

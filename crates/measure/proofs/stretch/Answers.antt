@@ -3,9 +3,6 @@ use mathlib.Core.Path.{sym, ◌∙◌}
 use Rattle.measure.specs.Measure.{stretch_of}
 use Rattle.measure.proofs.stretch.Goals as goal
 
-pub is_close-requires : goal.is_close-requires
-is_close-requires c = tt
-
 pub returns-then-is_close : goal.returns-then-is_close
 unfolding stretch_of
 returns-then-is_close c = rw (sym c.is_close.ensures ∙ c.if-is_close.true)

@@ -1,8 +1,8 @@
 -- `optimize::bend_in_place` meets its contract. Assumes nothing.
 use mathlib.Core.Path.{refl, sym, ◌∙◌}
-use Rattle.measure.specs.declared.Measured.TheVariants as Measured
 use Rattle.optimize.proofs.One.{bend_none, bend_by}
 use borrow.Author.Rules.{rules}
+use Rattle.std.specs.Prelude.{Some, None}
 use Rattle.optimize.proofs.bend_in_place.Goals as goal
 
 pub intersect-requires : goal.intersect-requires
@@ -19,10 +19,10 @@ measure_quad-requires c = search rules
 
 pub returns-in_default-measure_quad : goal.returns-in_default-measure_quad
 returns-in_default-measure_quad c =
-    bend_by c.args.samples.now c.args.a _ _ (sym c.in-At.is ∙ c.intersect.ensures) c.round-p1.ensures Measured.Missing
+    bend_by c.args.samples.now c.args.a _ _ (sym c.in-Some.is ∙ c.intersect.ensures) c.round-p1.ensures None
     (rw c.in_default-measure_quad.is at c.measure_quad.ensures) refl
 
 pub returns : goal.returns
 returns c =
-    let told = rw c.in-At-measure_quad.is at c.measure_quad.ensures in
-    bend_by c.args.samples.now c.args.a _ _ (sym c.in-At.is ∙ c.intersect.ensures) c.round-p1.ensures (Measured.At _) told.0 told.1
+    let told = rw c.in-Some-measure_quad.is at c.measure_quad.ensures in
+    bend_by c.args.samples.now c.args.a _ _ (sym c.in-Some.is ∙ c.intersect.ensures) c.round-p1.ensures (Some _) told.0 told.1

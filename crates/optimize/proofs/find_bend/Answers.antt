@@ -1,10 +1,11 @@
 -- `optimize::find_bend` meets its contract. Assumes nothing.
 -- once it is known whether the bent piece is allowed
+use Rattle.std.specs.Prelude.{Some, None}
+use native.Mathlib.Omega.{arith}
 use borrow.Author.Rules.{rules}
 use mathlib.Core.Bool.{true, false}
 use mathlib.Core.Path.{◌≡◌, refl, sym, ◌∙◌}
 use Rattle.geometry.specs.Geometry.{round_point_of, intersect_of}
-use Rattle.geometry.specs.declared.Crossing.TheVariants as Crossing
 use Rattle.geometry.specs.declared.Point.{Point}
 use Rattle.geometry.specs.declared.Quad.{Quad}
 use Rattle.breaks.specs.Breaks.{Row, break_at}
@@ -20,28 +21,20 @@ read-a-requires c = c.requires.from
 pub read-b-requires : goal.read-b-requires
 read-b-requires c = c.requires.to
 
-pub intersect-requires : goal.intersect-requires
-intersect-requires c = search rules
-
-pub returns-in_default : goal.returns-in_default
-returns-in_default c = λ f n st upto rep.
-    bend_nowhere _ _ _ _ (sym c.in_default.is ∙ c.intersect.ensures ∙ crossing_of c.read-a.ensures c.read-b.ensures)
-
-pub round-p1-requires : goal.round-p1-requires
-round-p1-requires c = search rules
+pub returns-in_err-p : goal.returns-in_err-p
+returns-in_err-p c = λ f n st upto rep.
+    let gone : c.from_residual.result ≡ None = grind arith in
+    rw gone (bend_nowhere _ _ _ _ (sym c.in_err-p.was ∙ c.intersect.ensures ∙ crossing_of c.read-a.ensures c.read-b.ensures))
 
 pub standing-previous-requires : goal.standing-previous-requires
 standing-previous-requires c = (c.requires.links_of, c.requires.stands)
 
-pub ok_for_half-requires : goal.ok_for_half-requires
-ok_for_half-requires c = search rules
-
 pub returns-then-ok_for_half : goal.returns-then-ok_for_half
 returns-then-ok_for_half c = λ f n st upto rep.
     let bs : Row = c.args.breaks.now in
-    let p : Point = c.in-At.p in
-    let crosses : Crossing.At p ≡ intersect_of (break_at bs c.args.i).xy (break_at bs c.args.i).dir (break_at bs c.args.j).xy (break_at bs c.args.j).dir =
-    sym c.in-At.is ∙ c.intersect.ensures ∙ crossing_of c.read-a.ensures c.read-b.ensures in
+    let p : Point = c.in_ok-p.p in
+    let crosses : (Some p) ≡ intersect_of (break_at bs c.args.i).xy (break_at bs c.args.i).dir (break_at bs c.args.j).xy (break_at bs c.args.j).dir =
+    sym c.in_ok-p.was ∙ c.intersect.ensures ∙ crossing_of c.read-a.ensures c.read-b.ensures in
     let quad : Quad = record { p0 = c.read-a.result.xy; p1 = c.round-p1.result; p2 = c.read-b.result.xy } in
     let bends : quad ≡ record { p0 = (break_at bs c.args.i).xy; p1 = round_point_of p; p2 = (break_at bs c.args.j).xy } =
     quad_of_lem c.read-a.ensures c.round-p1.ensures c.read-b.ensures in
@@ -53,9 +46,9 @@ returns-then-ok_for_half c = λ f n st upto rep.
 pub returns : goal.returns
 returns c = λ f n st upto rep.
     let bs : Row = c.args.breaks.now in
-    let p : Point = c.in-At.p in
-    let crosses : Crossing.At p ≡ intersect_of (break_at bs c.args.i).xy (break_at bs c.args.i).dir (break_at bs c.args.j).xy (break_at bs c.args.j).dir =
-    sym c.in-At.is ∙ c.intersect.ensures ∙ crossing_of c.read-a.ensures c.read-b.ensures in
+    let p : Point = c.in_ok-p.p in
+    let crosses : (Some p) ≡ intersect_of (break_at bs c.args.i).xy (break_at bs c.args.i).dir (break_at bs c.args.j).xy (break_at bs c.args.j).dir =
+    sym c.in_ok-p.was ∙ c.intersect.ensures ∙ crossing_of c.read-a.ensures c.read-b.ensures in
     let quad : Quad = record { p0 = c.read-a.result.xy; p1 = c.round-p1.result; p2 = c.read-b.result.xy } in
     let bends : quad ≡ record { p0 = (break_at bs c.args.i).xy; p1 = round_point_of p; p2 = (break_at bs c.args.j).xy } =
     quad_of_lem c.read-a.ensures c.round-p1.ensures c.read-b.ensures in

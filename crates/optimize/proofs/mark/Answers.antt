@@ -77,9 +77,9 @@ shape_of-links-then-total c = search rules
 
 pub returns-then-total : goal.returns-then-total
 returns-then-total c = λ f n room into st rep.
-    let told = rw c.in-At.is at c.measure_quad.ensures in
+    let told = rw c.in-Some.is at c.measure_quad.ensures in
     rw (c.store.ensures.answers, c.store.ensures.links)
-    (marked room into rep c.args.samples.now c.args.q c.in-At.m _ c.args.penalty c.combine-a.result (c.requires.offered f n st (from_upto into) rep) told.0
+    (marked room into rep c.args.samples.now c.args.q c.in-Some.counted.measure _ c.args.penalty c.combine-a.result (c.requires.offered f n st (from_upto into) rep) told.0
     (λ z. c.if-old-eq0.false (◌∙◌ {c = 0} (link_is c.args.breaks.now c.args.answers.now c.args.links.now c.args.j _ _ c.slot_of.ensures c.load-old.ensures) z))
     (rw (← c.standing-previous.ensures, ← c.total.ensures, ← c.total-2.ensures) c.if-total.true)
     (c.combine-a.ensures ∙ combine_same _ _ _ (c.load-old.ensures ∙ rw c.slot_of.ensures refl) c.standing-previous.ensures))

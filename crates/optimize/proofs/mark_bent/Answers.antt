@@ -19,7 +19,7 @@ pub returns-in_default : goal.returns-in_default
 returns-in_default c = λ f n room into st rep. unmarked rep
 
 pub mark-requires : goal.mark-requires
-mark-requires c = record { ready = c.requires; offered = λ f n st upto rep. by_bend (sym c.in-At.is ∙ c.find_bend.ensures f n st upto rep) }
+mark-requires c = record { ready = c.requires; offered = λ f n st upto rep. by_bend (sym c.in-Some.is ∙ c.find_bend.ensures f n st upto rep) }
 
 pub shape_of-answers : goal.shape_of-answers
 shape_of-answers c = search rules

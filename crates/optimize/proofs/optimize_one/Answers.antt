@@ -58,7 +58,7 @@ shape_of-links-then-t c = search rules
 
 pub overflow_add-result : goal.overflow_add-result
 overflow_add-result c =
-    let made = measured_line c.args.samples.now (break_at c.args.breaks.now 0) _ _ c.straight_in_place.ensures.is c.in-At.is c.read-a.ensures in
+    let made = measured_line c.args.samples.now (break_at c.args.breaks.now 0) _ _ c.straight_in_place.ensures.is c.in-Some.is c.read-a.ensures in
     omega (
       arith,
       made.1,
@@ -69,8 +69,8 @@ overflow_add-result c =
 pub returns-then-t : goal.returns-then-t
 returns-then-t c =
     let whole = is_whole_of c.is_whole.ensures c.read-a.ensures (not-false _ c.if-not-is_whole.false-raw) in
-    let made = measured_line c.args.samples.now (break_at c.args.breaks.now 0) _ _ c.straight_in_place.ensures.is c.in-At.is c.read-a.ensures in
-    let spoilt = c.straight_in_place.ensures.spoilt (sym c.is_whole.ensures ∙ not-false _ c.if-not-is_whole.false-raw) _ _ c.in-At.is in
+    let made = measured_line c.args.samples.now (break_at c.args.breaks.now 0) _ _ c.straight_in_place.ensures.is c.in-Some.is c.read-a.ensures in
+    let spoilt = c.straight_in_place.ensures.spoilt (sym c.is_whole.ensures ∙ not-false _ c.if-not-is_whole.false-raw) _ c.in-Some.is in
     let bent = bent_ok c.args.samples.now c.bend_in_place-t.ensures c.read-a.ensures in
     let ok = ap (λ (t : Trial). t.ok) bent ∙ c.if-t.true in
     rw (
@@ -92,7 +92,7 @@ shape_of-links c = search rules
 pub returns : goal.returns
 returns c =
     let whole = is_whole_of c.is_whole.ensures c.read-a.ensures (not-false _ c.if-not-is_whole.false-raw) in
-    let made = measured_line c.args.samples.now (break_at c.args.breaks.now 0) _ _ c.straight_in_place.ensures.is c.in-At.is c.read-a.ensures in
-    let spoilt = c.straight_in_place.ensures.spoilt (sym c.is_whole.ensures ∙ not-false _ c.if-not-is_whole.false-raw) _ _ c.in-At.is in
+    let made = measured_line c.args.samples.now (break_at c.args.breaks.now 0) _ _ c.straight_in_place.ensures.is c.in-Some.is c.read-a.ensures in
+    let spoilt = c.straight_in_place.ensures.spoilt (sym c.is_whole.ensures ∙ not-false _ c.if-not-is_whole.false-raw) _ c.in-Some.is in
     rw (one_bent_refused c.args.samples.now c.args.breaks.now c.args.penalty c.requires.all_breaks_lem whole _ made.0 spoilt
     (ap (λ (t : Trial). t.ok) (bent_ok c.args.samples.now c.bend_in_place-t.ensures c.read-a.ensures) ∙ c.if-t.false)) (lost refl)

@@ -10,6 +10,3 @@ abbrev pub invariant-loop-i : goal.invariant-loop-i
 invariant-loop-i l =
     (0 < l.i) × (l.i ≤ l.n + 1) ×
     Reaching (measure_by l.samples l.breaks) (fallen_between l.samples l.breaks) l.penalty l.n l.breaks (late 1) l.initial.answers l.initial.links (search l.n) (late l.i) l.answers l.links l.fallen (search_from (l.n + 1 - l.i) l.i)
-
-abbrev pub decreases-loop-i : goal.decreases-loop-i
-decreases-loop-i l = l.n + 1 - l.i

@@ -28,7 +28,7 @@ returns-in_default c = λ f n st room into rep.
 
 pub try_quad-requires : goal.try_quad-requires
 try_quad-requires c =
-    let is = sym c.in-At.is ∙ c.find_bend.ensures c.requires.phase c.requires.last c.requires.st (from_upto c.requires.into) c.requires.rep in
+    let is = sym c.in-Some.is ∙ c.find_bend.ensures c.requires.phase c.requires.last c.requires.st (from_upto c.requires.into) c.requires.rep in
     record { ready = c.requires; p0_value = bend_ends _ _ _ _ is }
 
 pub shape_of-answers : goal.shape_of-answers
@@ -40,7 +40,7 @@ shape_of-links c = search rules
 pub returns : goal.returns
 returns c = λ f n st room into rep.
     let measure = measure_by c.args.samples.now c.args.breaks.now in
-    let is = sym c.in-At.is ∙ c.find_bend.ensures f n st (from_upto into) rep in
+    let is = sym c.in-Some.is ∙ c.find_bend.ensures f n st (from_upto into) rep in
     rw (
       bent_is measure (fallen_between c.args.samples.now c.args.breaks.now) c.args.breaks.now c.args.penalty c.args.i c.args.j st is,
       fell_is measure (fallen_between c.args.samples.now c.args.breaks.now) c.args.breaks.now c.args.penalty c.args.i c.args.j st is,

@@ -65,8 +65,8 @@ shape_of-links c = search rules
 
 pub returns : goal.returns
 returns c = λ f n st room into rep.
-    let makes = makes_of _ _ _ _ _ _ _ _ _ c.in-Made.is c.attempted.ensures in
+    let makes = makes_of _ _ _ _ _ _ _ _ c.in-Some.is c.attempted.ensures in
     rw (c.store.ensures.answers, c.store.ensures.links)
-    (made room into rep (measure_by c.args.samples.now c.args.breaks.now) c.args.q (record { error = makes.error }) c.args.penalty c.in-Made.a makes.fell
+    (made room into rep (measure_by c.args.samples.now c.args.breaks.now) c.args.q (record { error = makes.error }) c.args.penalty c.in-Some.made.answer makes.fell
     c.requires.p0_value.0 c.requires.p0_value.1 makes.is
     (makes.same ∙ combine_same makes.error _ _ (c.load-old.ensures ∙ rw c.slot_of.ensures refl) c.standing-previous.ensures))

@@ -10,6 +10,3 @@ abbrev pub invariant-loop-i : goal.invariant-loop-i
 invariant-loop-i l =
     (0 < l.i) × (l.i ≤ l.n) ×
     Reaching (measure_by l.samples l.breaks) (fallen_between l.samples l.breaks) l.penalty l.n l.breaks (early 1) l.initial.answers l.initial.links (splits l.n) (early l.i) l.answers l.links l.fallen (splits_from (l.n - l.i) l.i l.n)
-
-abbrev pub decreases-loop-i : goal.decreases-loop-i
-decreases-loop-i l = l.n - l.i

@@ -2,15 +2,6 @@
 use Rattle.outline.specs.Segments.{end_of}
 use Rattle.outline.proofs.end_of.Goals as goal
 
-pub next-b-requires : goal.next-b-requires
-next-b-requires c = tt
-
-pub on_at-requires : goal.on_at-requires
-on_at-requires c = tt
-
-pub next-requires : goal.next-requires
-next-requires c = tt
-
 pub returns-then-on_at : goal.returns-then-on_at
 unfolding end_of
 returns-then-on_at c = rw (← c.next-b.ensures, ← c.on_at.ensures, c.if-on_at.true)

@@ -1,16 +1,9 @@
 -- `corners::next` meets its contract. Assumes nothing.
-use borrow.Author.Rules.{rules}
 use Rattle.outline.proofs.Laws.{next_none, next_more, next_first}
 use Rattle.outline.proofs.next.Goals as goal
 
 pub returns-then-n-eq0 : goal.returns-then-n-eq0
 returns-then-n-eq0 c = next_none _ _ c.if-n-eq0.true
-
-pub overflow_sub-n : goal.overflow_sub-n
-overflow_sub-n c = search rules
-
-pub overflow_add-result : goal.overflow_add-result
-overflow_add-result c = search rules
 
 pub returns-then-i-n : goal.returns-then-i-n
 returns-then-i-n c = next_more _ _ c.if-i-n.true

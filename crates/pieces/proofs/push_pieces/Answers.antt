@@ -1,20 +1,10 @@
-use native.Mathlib.Omega.{arith}
-use lib.ListN.{length, get_or}
+use Rattle.std.proofs.Common.{arith, length, get_or}
 use Rattle.pieces.specs.Slots.{Legible}
 use Rattle.pieces.proofs.Going.{from_on, push_start, push_more, push_done}
 use Rattle.pieces.proofs.push_pieces.Goals as goal
 
 pub loop-i-init : goal.loop-i-init
 loop-i-init c = push_start _ _ _ _ _
-
-pub offset_bounds-slots-i : goal.offset_bounds-slots-i
-offset_bounds-slots-i c = omega arith
-
-pub bounds-slots-i : goal.bounds-slots-i
-bounds-slots-i c = c.loop-i-test.true
-
-pub overflow_cast-k : goal.overflow_cast-k
-overflow_cast-k c = omega (arith, c.type_inv.slots c.loop-i.i)
 
 pub offset_bounds-links-k : goal.offset_bounds-links-k
 offset_bounds-links-k c =
@@ -31,20 +21,8 @@ quad_of-requires c =
     let legible : Legible (length c.args.breaks.now) c.args.answers.now c.args.links.now (get_or c.args.slots.now c.loop-i.i 0) = from_on c.args.slots.now c.args.first c.loop-i.i c.requires.1 c.loop-i.invariant.from c.loop-i-test.true in
     ((legible).in_answers, (legible).to, (legible).from)
 
-pub push_piece-v-requires : goal.push_piece-v-requires
-push_piece-v-requires c = tt
-
-pub overflow_add-i : goal.overflow_add-i
-overflow_add-i c = omega (arith, c.loop-i-test.true)
-
-pub loop-i-smaller : goal.loop-i-smaller
-loop-i-smaller c = omega (arith, c.loop-i-test.true)
-
 pub loop-i-preserved : goal.loop-i-preserved
 loop-i-preserved c = push_more _ _ _ c.loop-i.invariant c.loop-i-test.true c.quad_of.ensures c.push_piece-v.auto.points c.push_piece-v.ensures
-
-pub shape_of-points : goal.shape_of-points
-shape_of-points c = c.loop-i.invariant.long
 
 pub returns : goal.returns
 returns c = push_done _ _ _ c.loop-i.invariant c.requires.0 c.loop-i-test.false

@@ -1,24 +1,17 @@
 -- `pieces::push_slots` meets its contract. Assumes nothing.
-use native.Mathlib.Omega.{arith}
+use Rattle.std.proofs.Common.{arith, rules}
 use Rattle.pieces.proofs.Whole.{walkable, all_read, quads_there}
-use borrow.Author.Rules.{rules}
 use Rattle.pieces.proofs.push_slots.Goals as goal
 
 pub slots_to-first-requires : goal.slots_to-first-requires
-slots_to-first-requires c =
+slots_to-first-requires g c =
     let walk = walkable c.requires.0 in
-    (walk.0, c.requires.1, walk.2)
+    (walk.0, search rules, walk.2)
 
 pub push_pieces-requires : goal.push_pieces-requires
-push_pieces-requires c =
+push_pieces-requires g c =
     (omega (arith, c.slots_to-first.ensures.place, c.slots_to-first.auto.slots), all_read c.slots_to-first.new.slots c.slots_to-first.result c.slots_to-first.ensures.slots c.requires.0)
 
-pub shape_of-slots : goal.shape_of-slots
-shape_of-slots c = search rules
-
-pub shape_of-points : goal.shape_of-points
-shape_of-points c = search rules
-
 pub returns : goal.returns
-returns c =
+returns g c =
     λ a h. rw (← quads_there c.slots_to-first.new.slots c.slots_to-first.result c.slots_to-first.ensures.slots h) c.push_pieces.ensures

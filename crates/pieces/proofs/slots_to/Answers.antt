@@ -1,20 +1,6 @@
-use mathlib.Core.Path.{◌≡◌, ◌∙◌}
-use native.Mathlib.Omega.{arith}
-use lib.ListN.{length, length-set}
+use Rattle.std.proofs.Common.{◌≡◌, ◌∙◌, arith, length, length-set}
 use Rattle.pieces.proofs.Slots.{walk_start, walk_more, walked, opens, in_links}
 use Rattle.pieces.proofs.slots_to.Goals as goal
-
-pub overflow_sub-i : goal.overflow_sub-i
-overflow_sub-i c = omega arith
-
-pub overflow_cast-slots : goal.overflow_cast-slots
-overflow_cast-slots c = omega arith
-
-pub offset_bounds-slots-i : goal.offset_bounds-slots-i
-offset_bounds-slots-i c = omega arith
-
-pub bounds-slots-i : goal.bounds-slots-i
-bounds-slots-i c = omega arith
 
 pub loop-at-init : goal.loop-at-init
 loop-at-init c = walk_start c.args.slots.now c.requires.0 c.requires.1
@@ -31,12 +17,6 @@ offset_bounds-links-at-in-loop-at c = omega (arith, in_links c.loop-at.invariant
 pub bounds-links-at-in-loop-at : goal.bounds-links-at-in-loop-at
 bounds-links-at-in-loop-at c = in_links c.loop-at.invariant.falls
 
-pub overflow_sub-at : goal.overflow_sub-at
-overflow_sub-at c = c.loop-at-test.true
-
-pub overflow_cast-at : goal.overflow_cast-at
-overflow_cast-at c = omega (arith, c.type_inv.links c.loop-at.at)
-
 pub overflow_sub-i-in-loop-at : goal.overflow_sub-i-in-loop-at
 overflow_sub-i-in-loop-at c = omega (arith, (opens c.loop-at.invariant.falls c.loop-at-test.true).down)
 
@@ -47,9 +27,6 @@ pub offset_bounds-slots-i-in-loop-at : goal.offset_bounds-slots-i-in-loop-at
 offset_bounds-slots-i-in-loop-at c =
     let long : length c.loop-at.slots ≡ length c.args.slots.now = c.loop-at.invariant.long ∙ simp length-set in
     omega (arith, long)
-
-pub bounds-slots-i-in-loop-at : goal.bounds-slots-i-in-loop-at
-bounds-slots-i-in-loop-at c = omega arith
 
 pub loop-at-smaller : goal.loop-at-smaller
 loop-at-smaller c = (opens c.loop-at.invariant.falls c.loop-at-test.true).down

@@ -1,15 +1,9 @@
 -- `quickarclen::same_speeds` meets its contract. Assumes nothing.
-use mathlib.Core.Path.{◌∙◌}
+use Rattle.std.proofs.Common.{◌∙◌}
 use lib.ListN.{length-replicate, get_or-replicate}
 use lib.Ieee.{nan}
 use Rattle.arclen.specs.Arclen.{speed_of}
 use Rattle.quickarclen.proofs.same_speeds.Goals as goal
-
-pub square-requires : goal.square-requires
-square-requires c = tt
-
-pub root-requires : goal.root-requires
-root-requires c = tt
 
 pub returns : goal.returns
 unfolding speed_of

@@ -1,6 +1,5 @@
 -- `quickarclen::unmoved` meets its contract. Assumes nothing.
-use mathlib.Core.Path.{sym, subst}
-use lib.Dec.{T}
+use Rattle.std.proofs.Common.{sym, subst, T}
 use Rattle.quickarclen.proofs.unmoved.Goals as goal
 
 pub returns : goal.returns

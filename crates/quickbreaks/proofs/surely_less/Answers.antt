@@ -1,5 +1,4 @@
 -- `quickbreaks::surely_less` meets its contract, by the law `surely`. Assumes nothing.
-use mathlib.Core.Bool.{false≢true}
 use mathlib.Core.Path.{sym, subst}
 use lib.Dec.{T}
 use lib.Ieee.{binary64, fits, of_bits}
@@ -16,10 +15,4 @@ fits_b c = subst T (sym c.well_formed.1.0.1) tt
 pub returns-then-a-b : goal.returns-then-a-b
 unfolding of_bits
 returns-then-a-b c = λ less.
-    surely _ _ (fits_a c.before.before) (fits_b c.before.before) c.if-a.true c.if-a-b.true less
-
-pub returns-else-a-b : goal.returns-else-a-b
-returns-else-a-b c = λ less. absurd (false≢true less)
-
-pub returns-else-a : goal.returns-else-a
-returns-else-a c = λ less. absurd (false≢true less)
+    surely _ _ (fits_a (goal.at.returns-then-a-b c).Start) (fits_b (goal.at.returns-then-a-b c).Start) c.if-a.true c.if-a-b.true less

@@ -12,9 +12,3 @@ int_to_float-result c = le→leb c.args.b (2 ^ 53) (omega arith)
 
 pub returns-then-b-lt9007199254740992 : goal.returns-then-b-lt9007199254740992
 returns-then-b-lt9007199254740992 c = fraction _ _ c.if-s.true c.requires c.if-b-lt9007199254740992.true
-
-pub fract-requires : goal.fract-requires
-fract-requires c = tt
-
-pub returns : goal.returns
-returns c = c.fract.ensures

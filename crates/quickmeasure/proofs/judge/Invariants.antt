@@ -1,5 +1,4 @@
 -- `quickmeasure::judge` meets its contract. The loop's invariant: e is the error after i steps, and n is the node of the step's start. Assumes nothing.
-use Prim.Native.Nat.{◌≤◌, ◌-◌}
 use mathlib.Core.Path.{◌≡◌}
 use Rattle.arclen.specs.Arclen.{tenth}
 use Rattle.quickarclen.specs.Stages.{time_at}
@@ -8,7 +7,4 @@ use Rattle.quickmeasure.proofs.Early.{Going}
 use Rattle.quickmeasure.proofs.judge.Given as goal
 
 abbrev pub invariant-loop-i : goal.invariant-loop-i
-invariant-loop-i l = (l.i ≤ 10) × Going l.row l.m l.stages l.i l.e × (l.n ≡ node_of l.m.af l.m.q (time_at tenth l.i))
-
-abbrev pub decreases-loop-i : goal.decreases-loop-i
-decreases-loop-i l = 10 - l.i
+invariant-loop-i l = Going l.row l.m l.stages l.i l.e × (l.n ≡ node_of l.m.af l.m.q (time_at tenth l.i))

@@ -1,12 +1,8 @@
 -- `quickmeasure::look` meets its contract. The loop's invariant: what the samples have at the stages passed is written. Assumes nothing.
-use Prim.Native.Nat.{◌≤◌, ◌-◌}
 use mathlib.Core.Path.{◌≡◌}
 use lib.ListN.{length}
 use Rattle.quickmeasure.specs.Terms.{Seen}
 use Rattle.quickmeasure.proofs.look.Given as goal
 
 abbrev pub invariant-loop-k : goal.invariant-loop-k
-invariant-loop-k l = (length l.seen ≡ 40) × (l.k ≤ 40) × Seen l.row l.m l.stages l.seen l.k
-
-abbrev pub decreases-loop-k : goal.decreases-loop-k
-decreases-loop-k l = 40 - l.k
+invariant-loop-k l = (length l.seen ≡ 40) × Seen l.row l.m l.stages l.seen l.k

@@ -1,25 +1,8 @@
 -- `quickmeasure::measure_below` meets its contract: what is told at the first stage is told of the whole. Assumes nothing.
-use mathlib.Core.Path.{refl}
 use Rattle.measure.specs.Measure.{measure_of}
 use Rattle.measure.specs.Fallen.{fallen_of}
 use Rattle.quickmeasure.proofs.Sure.{shown_by}
 use Rattle.quickmeasure.proofs.measure_below.Goals as goal
-
-pub turned-requires : goal.turned-requires
-turned-requires c = tt
-
-pub shows-requires : goal.shows-requires
-shows-requires c = tt
-
-pub returns-then-shows : goal.returns-then-shows
-returns-then-shows c =
-    (c.turned.ensures c.if-turned.true).over _ (c.shows.ensures c.if-shows.true)
-
-pub set_out-m-requires : goal.set_out-m-requires
-set_out-m-requires c = refl
-
-pub shows_any-requires : goal.shows_any-requires
-shows_any-requires c = tt
 
 pub judge-requires : goal.judge-requires
 judge-requires c =

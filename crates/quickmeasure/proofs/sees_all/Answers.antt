@@ -2,8 +2,5 @@
 use Rattle.quickmeasure.proofs.Sure.{measurable}
 use Rattle.quickmeasure.proofs.sees_all.Goals as goal
 
-pub shows-requires : goal.shows-requires
-shows-requires c = tt
-
 pub returns : goal.returns
 returns c h = measurable (c.shows.ensures h)

@@ -2,15 +2,6 @@
 use Rattle.quickarclen.proofs.Laws.{length_whole}
 use Rattle.quickmeasure.proofs.set_out.Goals as goal
 
-pub new-af-requires : goal.new-af-requires
-new-af-requires c = tt
-
-pub walk-requires : goal.walk-requires
-walk-requires c = c.requires
-
-pub stretch-ss-requires : goal.stretch-ss-requires
-stretch-ss-requires c = tt
-
 pub returns : goal.returns
 returns c =
     (rw (c.stretch-ss.ensures, length_whole _ _ _ c.new-af.ensures c.walk.ensures.whole, c.new-af.ensures), c.walk.ensures.written)

@@ -2,8 +2,5 @@
 use Rattle.quickmeasure.proofs.Anywhere.{seen_any}
 use Rattle.quickmeasure.proofs.shows_any.Goals as goal
 
-pub well_before-requires : goal.well_before-requires
-well_before-requires c = tt
-
 pub returns : goal.returns
 returns c h q = seen_any _ _ _ _ (c.well_before.ensures h)

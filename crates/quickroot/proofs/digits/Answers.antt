@@ -1,5 +1,5 @@
 -- `quickroot::digits` meets its contract. Assumes nothing.
-use Rattle.std.proofs.Common.{arith, rules}
+use Rattle.std.proofs.Common.{arith}
 use lib.Bits.{mask_lt}
 use lib.Ieee.{binary64, to_bits}
 use Rattle.float.proofs.Number.{more}
@@ -13,6 +13,3 @@ overflow_add-result c = omega (arith, mask_lt (to_bits binary64 c.args.z) 52)
 
 pub returns-then-z : goal.returns-then-z
 returns-then-z c = (omega arith, omega (arith, mask_lt (to_bits binary64 c.args.z) 52))
-
-pub returns : goal.returns
-returns c = search rules

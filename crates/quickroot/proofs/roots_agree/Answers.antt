@@ -3,24 +3,6 @@ use Rattle.std.proofs.Common.{sym, ap, ◌∙◌}
 use lib.Ieee.{binary64, to_bits}
 use Rattle.quickroot.proofs.roots_agree.Goals as goal
 
-pub root-requires : goal.root-requires
-root-requires c = tt
-
-pub bits-requires : goal.bits-requires
-bits-requires c = tt
-
-pub root-requires-2 : goal.root-requires-2
-root-requires-2 c = tt
-
-pub bits-requires-2 : goal.bits-requires-2
-bits-requires-2 c = tt
-
-pub root_by-requires : goal.root_by-requires
-root_by-requires c = tt
-
-pub bits-requires-3 : goal.bits-requires-3
-bits-requires-3 c = tt
-
 pub returns : goal.returns
 returns c =
     let stepped = c.bits.ensures ∙ ap (to_bits binary64) c.root.ensures in

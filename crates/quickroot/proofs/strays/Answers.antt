@@ -1,17 +1,11 @@
 -- `quickroot::strays` meets its contract, by the law `nearest`. Assumes nothing.
-use Rattle.std.proofs.Common.{arith, rules}
+use Rattle.std.proofs.Common.{arith}
 use lib.Bits.{and_mask}
 use Rattle.quickroot.proofs.Tested.{aa_le, ac_le, cc_le, nearest}
 use Rattle.quickroot.proofs.strays.Goals as goal
 
-pub overflow_add-n : goal.overflow_add-n
-overflow_add-n c = search rules
-
 pub overflow_mul-a : goal.overflow_mul-a
 overflow_mul-a c = omega (arith, aa_le c.args.p c.requires.2)
-
-pub wrapping_sub_u64-d-requires : goal.wrapping_sub_u64-d-requires
-wrapping_sub_u64-d-requires c = tt
 
 pub overflow_mul-a-2 : goal.overflow_mul-a-2
 overflow_mul-a-2 c = rw (and_mask c.args.p 26) (omega (arith, ac_le c.args.p c.requires.2))
@@ -19,38 +13,11 @@ overflow_mul-a-2 c = rw (and_mask c.args.p 26) (omega (arith, ac_le c.args.p c.r
 pub overflow_mul-a-3 : goal.overflow_mul-a-3
 overflow_mul-a-3 c = rw (and_mask c.args.p 26) (omega (arith, ac_le c.args.p c.requires.2))
 
-pub wrapping_sub_u64-e-requires : goal.wrapping_sub_u64-e-requires
-wrapping_sub_u64-e-requires c = tt
-
 pub overflow_mul-c : goal.overflow_mul-c
 overflow_mul-c c = rw (and_mask c.args.p 26) (omega (arith, cc_le c.args.p c.requires.2))
 
-pub overflow_sub-p : goal.overflow_sub-p
-overflow_sub-p c = search rules
-
 pub overflow_add-c : goal.overflow_add-c
 overflow_add-c c = rw (and_mask c.args.p 26) (omega (arith, cc_le c.args.p c.requires.2))
-
-pub wrapping_sub_u64-f-requires : goal.wrapping_sub_u64-f-requires
-wrapping_sub_u64-f-requires c = tt
-
-pub overflow_add-p : goal.overflow_add-p
-overflow_add-p c = search rules
-
-pub overflow_sub-p-2 : goal.overflow_sub-p-2
-overflow_sub-p-2 c = search rules
-
-pub wrapping_sub_u64-g-requires : goal.wrapping_sub_u64-g-requires
-wrapping_sub_u64-g-requires c = tt
-
-pub overflow_add-result : goal.overflow_add-result
-overflow_add-result c = search rules
-
-pub overflow_add-result-2 : goal.overflow_add-result-2
-overflow_add-result-2 c = search rules
-
-pub overflow_add-result-3 : goal.overflow_add-result-3
-overflow_add-result-3 c = search rules
 
 pub returns : goal.returns
 returns c =

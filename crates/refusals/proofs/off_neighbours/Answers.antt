@@ -5,32 +5,11 @@ use borrow.Author.Rules.{rules}
 use Rattle.refusals.proofs.Laws.{pairs_end, pairs_more}
 use Rattle.refusals.proofs.off_neighbours.Goals as goal
 
-pub loop-i-init : goal.loop-i-init
-loop-i-init c = search rules
-
-pub overflow_sub-i : goal.overflow_sub-i
-overflow_sub-i c = omega arith
-
-pub bounds-flags-i : goal.bounds-flags-i
-bounds-flags-i c = omega arith
-
-pub bounds-flags-i-in-loop-i : goal.bounds-flags-i-in-loop-i
-bounds-flags-i-in-loop-i c = omega arith
-
-pub both_off-requires : goal.both_off-requires
-both_off-requires c = tt
-
 pub returns-then-both_off : goal.returns-then-both_off
 returns-then-both_off c =
     let inv = c.loop-i.invariant in
     let more = pairs_more c.args.flags.now c.loop-i.i inv.0 c.loop-i-test.true in
     rw (← inv.1, more, ← c.both_off.ensures, c.if-both_off.true)
-
-pub overflow_add-i : goal.overflow_add-i
-overflow_add-i c = omega arith
-
-pub loop-i-smaller : goal.loop-i-smaller
-loop-i-smaller c = omega arith
 
 pub loop-i-preserved : goal.loop-i-preserved
 loop-i-preserved c =

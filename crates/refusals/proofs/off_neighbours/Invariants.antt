@@ -8,6 +8,3 @@ use Rattle.refusals.proofs.off_neighbours.Given as goal
 
 abbrev pub invariant-loop-i : goal.invariant-loop-i
 invariant-loop-i l = (1 ≤ l.i) × (off_neighbours (drop (l.i - 1) l.flags) ≡ off_neighbours l.flags)
-
-abbrev pub decreases-loop-i : goal.decreases-loop-i
-decreases-loop-i l = length l.flags - l.i

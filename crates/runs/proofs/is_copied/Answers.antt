@@ -8,9 +8,6 @@ start_of-requires c = tt
 pub is_copied_from-requires : goal.is_copied_from-requires
 is_copied_from-requires c = tt
 
-pub returns-in-Between : goal.returns-in-Between
-returns-in-Between c =
-    rw (c.in-Between.is, ← c.start_of.ensures) c.is_copied_from.ensures
-
-pub returns-in-Nothing : goal.returns-in-Nothing
-returns-in-Nothing c = search rules
+pub returns-in-Some : goal.returns-in-Some
+returns-in-Some c =
+    rw (c.in-Some.is, ← c.start_of.ensures) c.is_copied_from.ensures

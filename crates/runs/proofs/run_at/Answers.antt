@@ -27,17 +27,8 @@ bounds-corners-k-then-k-corners c = search rules
 pub overflow_add-k : goal.overflow_add-k
 overflow_add-k c = search rules
 
-pub offset_bounds-corners-k-then-k-corners-2 : goal.offset_bounds-corners-k-then-k-corners-2
-offset_bounds-corners-k-then-k-corners-2 c = search rules
-
-pub bounds-corners-k-then-k-corners-2 : goal.bounds-corners-k-then-k-corners-2
-bounds-corners-k-then-k-corners-2 c = search rules
-
-pub gap-requires : goal.gap-requires
-gap-requires c = search rules
-
 pub returns-then-k-corners : goal.returns-then-k-corners
-returns-then-k-corners c = rw (run_is _ _ c.if-k-corners.true, c.gap.ensures, add-one) refl
+returns-then-k-corners c = rw (run_is _ _ c.if-k-corners.true, c.gap-count.ensures, add-one) refl
 
 pub returns : goal.returns
 returns c = sym (run_past _ _ (omega arith))

@@ -4,47 +4,25 @@ use mathlib.Core.List.{◌++◌}
 use mathlib.Core.Path.{◌∙◌}
 use lib.ListN.{drop}
 use Rattle.survey.proofs.Rooms.{room_is, surveyed_as, count_sampled, within_all, first_are, sampled_first, of_first}
-use borrow.Author.Rules.{rules}
 use Rattle.survey.proofs.survey.Goals as goal
-
-pub least-room-requires : goal.least-room-requires
-least-room-requires c = search rules
-
-pub slice_bounds-sample_run-end : goal.slice_bounds-sample_run-end
-slice_bounds-sample_run-end c = search rules
 
 pub slice_bounds-sample_run-end-2 : goal.slice_bounds-sample_run-end-2
 slice_bounds-sample_run-end-2 c = room_is 16384 _ _ c.least-room.ensures
 
-pub sample_run-requires : goal.sample_run-requires
-sample_run-requires c = search rules
-
 pub slice_bounds-search-end : goal.slice_bounds-search-end
 slice_bounds-search-end c =
-    within_all c.sample_run.new.row (drop c.least-room.result c.args.samples.now) _ _ (count_sampled c.in-Sampled.is c.sample_run.ensures.places) c.sample_run.auto.row
+    within_all c.sample_run.new.row (drop c.least-room.result c.args.samples.now) _ _ (count_sampled c.in-Some.is c.sample_run.ensures.places) c.sample_run.auto.row
 
-pub slice_bounds-search-end-in-Sampled : goal.slice_bounds-search-end-in-Sampled
-slice_bounds-search-end-in-Sampled c =
-    first_are c.sample_run.new.row (drop c.least-room.result c.args.samples.now) _ _ (count_sampled c.in-Sampled.is c.sample_run.ensures.places) c.sample_run.auto.row
+pub slice_bounds-search-end-in-Some : goal.slice_bounds-search-end-in-Some
+slice_bounds-search-end-in-Some c =
+    first_are c.sample_run.new.row (drop c.least-room.result c.args.samples.now) _ _ (count_sampled c.in-Some.is c.sample_run.ensures.places) c.sample_run.auto.row
 
-pub search-requires : goal.search-requires
-search-requires c = search rules
+pub returns-in-None : goal.returns-in-None
+returns-in-None c =
+    record { rows = surveyed_as c.args.xs.now c.args.ys.now c.args.flags.now c.args.first c.args.count _ c.args.g c.args.samples.now _ c.least-room.ensures _ c.sample_run.ensures.row c.in-None.is; samples = omega arith; breaks = omega arith }
 
-pub shape_of-samples-in-Full : goal.shape_of-samples-in-Full
-shape_of-samples-in-Full c = search rules
-
-pub returns-in-Full : goal.returns-in-Full
-returns-in-Full c =
-    record { rows = surveyed_as c.args.xs.now c.args.ys.now c.args.flags.now c.args.first c.args.count _ c.args.g c.args.samples.now _ c.least-room.ensures _ c.sample_run.ensures.row c.in-Full.is; samples = omega arith; breaks = omega arith }
-
-pub shape_of-samples-in-Sampled : goal.shape_of-samples-in-Sampled
-shape_of-samples-in-Sampled c = search rules
-
-pub shape_of-breaks : goal.shape_of-breaks
-shape_of-breaks c = search rules
-
-pub returns-in-Sampled : goal.returns-in-Sampled
-returns-in-Sampled c =
-    let is = surveyed_as c.args.xs.now c.args.ys.now c.args.flags.now c.args.first c.args.count _ c.args.g c.args.samples.now _ c.least-room.ensures _ c.sample_run.ensures.row c.in-Sampled.is in
-    let few = count_sampled c.in-Sampled.is c.sample_run.ensures.places in
-    let rest = drop c.least-room.result c.args.samples.now in record { rows = sampled_first c.args.g _ _ c.sample_run.new.row rest _ few c.sample_run.auto.row is c.search.ensures.breaks ∙ of_first (c.sample_run.new.row ++ rest) c.search.new.breaks c.in-Sampled.n c.search.result c.search.ensures.samples; samples = omega (arith, c.search.ensures.samples, first_are c.sample_run.new.row rest _ _ few c.sample_run.auto.row, few, room_is 16384 c.args.samples.now _ c.least-room.ensures, c.least-room.ensures); breaks = c.search.ensures.places }
+pub returns-in-Some : goal.returns-in-Some
+returns-in-Some c =
+    let is = surveyed_as c.args.xs.now c.args.ys.now c.args.flags.now c.args.first c.args.count _ c.args.g c.args.samples.now _ c.least-room.ensures _ c.sample_run.ensures.row c.in-Some.is in
+    let few = count_sampled c.in-Some.is c.sample_run.ensures.places in
+    let rest = drop c.least-room.result c.args.samples.now in record { rows = sampled_first c.args.g _ _ c.sample_run.new.row rest _ few c.sample_run.auto.row is c.search.ensures.breaks ∙ of_first (c.sample_run.new.row ++ rest) c.search.new.breaks c.in-Some.thetas.count c.search.result c.search.ensures.samples; samples = omega (arith, c.search.ensures.samples, first_are c.sample_run.new.row rest _ _ few c.sample_run.auto.row, few, room_is 16384 c.args.samples.now _ c.least-room.ensures, c.least-room.ensures); breaks = c.search.ensures.places }

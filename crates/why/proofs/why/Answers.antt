@@ -1,23 +1,16 @@
 -- `why::why` meets its contract. Assumes nothing.
+use Rattle.refusals.proofs.Passing.{handed_up}
 use Rattle.why.proofs.Told.{refused_first, not_below, told}
 use Rattle.why.proofs.why.Goals as goal
 
-pub judge-requires : goal.judge-requires
-judge-requires c = tt
+pub returns : goal.returns
+returns c =
+    told c.judge.ensures c.in_ok-judge.was c.count-m.ensures c.if-m-k.false c.reasons.ensures
 
-pub count-m-requires : goal.count-m-requires
-count-m-requires c = tt
+pub returns-in_err-judge : goal.returns-in_err-judge
+returns-in_err-judge c = rw (handed_up c.from_residual.result _ c.from_residual.ensures.1)
+    (refused_first c.judge.ensures c.in_err-judge.was)
 
-pub reasons-requires : goal.reasons-requires
-reasons-requires c = tt
-
-pub returns-then-k-m : goal.returns-then-k-m
-returns-then-k-m c =
-    told c.judge.ensures c.in-Fine.is c.count-m.ensures c.if-k-m.true c.reasons.ensures
-
-pub returns-in-Refused : goal.returns-in-Refused
-returns-in-Refused c = refused_first c.judge.ensures c.in-Refused.is
-
-pub returns-else-k-m : goal.returns-else-k-m
-returns-else-k-m c =
-    not_below c.judge.ensures c.in-Fine.is c.count-m.ensures c.if-k-m.false
+pub returns-then-m-k : goal.returns-then-m-k
+returns-then-m-k c =
+    not_below c.judge.ensures c.in_ok-judge.was c.count-m.ensures c.if-m-k.true

@@ -1,20 +1,16 @@
--- `words::sixteenths` meets its contract. Assumes nothing.
-use native.Mathlib.Omega.{arith}
-use borrow.Author.Tests.{le-leb, lt-leb}
-use Rattle.words.specs.Steps.{sixteenths_in}
+use Rattle.std.proofs.Common.{rules, le-leb}
+use borrow.Author.Tests.{lt-leb}
+use Rattle.words.specs.Words.{sixteenths}
 use Rattle.words.proofs.sixteenths.Goals as goal
 
-pub overflow_cast-result : goal.overflow_cast-result
-overflow_cast-result c = omega arith
+pub returns-in_err-v : goal.returns-in_err-v
+unfolding sixteenths
+returns-in_err-v c = search rules
 
 pub returns-then-v-le4294967295 : goal.returns-then-v-le4294967295
-unfolding sixteenths_in
-returns-then-v-le4294967295 c = rw (c.in-Is.is, le-leb _ _ c.if-v-le4294967295.true)
+unfolding sixteenths
+returns-then-v-le4294967295 c = rw (c.in_ok-v.was, le-leb _ _ c.if-v-le4294967295.true)
 
-pub returns-else-v-le4294967295 : goal.returns-else-v-le4294967295
-unfolding sixteenths_in
-returns-else-v-le4294967295 c = rw (c.in-Is.is, lt-leb _ _ c.if-v-le4294967295.false)
-
-pub returns-in-Not : goal.returns-in-Not
-unfolding sixteenths_in
-returns-in-Not c = rw c.in-Not.is
+pub returns : goal.returns
+unfolding sixteenths
+returns c = rw (c.in_ok-v.was, lt-leb _ _ c.if-v-le4294967295.false)

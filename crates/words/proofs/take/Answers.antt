@@ -1,8 +1,6 @@
--- `words::take` meets its contract. Assumes nothing.
-use mathlib.Core.Path.{ap, ◌∙◌}
+use Rattle.std.proofs.Common.{ap, ◌∙◌}
 use Rattle.lines.specs.Line.{natural_of}
-use Rattle.words.specs.Words.{taken}
-use Rattle.words.specs.Steps.{sixteenths_in}
+use Rattle.words.specs.Words.{sixteenths, taken}
 use Rattle.words.proofs.Taking.{capped}
 use Rattle.words.proofs.take.Goals as goal
 
@@ -12,9 +10,4 @@ returns-in-Has c = rw c.in-Has.is c.option_of.ensures
 
 pub returns-in-Penalty : goal.returns-in-Penalty
 unfolding taken
-returns-in-Penalty c =
-    rw c.in-Penalty.is (c.sixteenths.ensures ∙ ap (sixteenths_in _ _) c.read_size.ensures ∙ capped _ _ (natural_of c.args.word.now))
-
-pub returns-in-Wrong : goal.returns-in-Wrong
-unfolding taken
-returns-in-Wrong c = rw c.in-Wrong.is
+returns-in-Penalty c = rw c.in-Penalty.is (c.sixteenths.ensures ∙ ap (sixteenths _) c.read_size.ensures ∙ capped _ (natural_of c.args.word.now))

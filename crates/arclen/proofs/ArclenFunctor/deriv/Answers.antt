@@ -1,5 +1,5 @@
 -- `arclen::ArclenFunctor::deriv` meets its contract. Assumes nothing.
-use mathlib.Core.Path.{refl}
+use Rattle.std.proofs.Common.{refl}
 use Rattle.arclen.specs.Arclen.{deriv_of}
 use Rattle.arclen.proofs.ArclenFunctor.deriv.Goals as goal
 

@@ -1,5 +1,5 @@
 -- `arclen::ArclenFunctor::new` meets its contract. Assumes nothing.
-use mathlib.Core.Path.{refl}
+use Rattle.std.proofs.Common.{refl}
 use Rattle.arclen.specs.Arclen.{arclen_functor_of}
 use Rattle.arclen.proofs.ArclenFunctor.new.Goals as goal
 

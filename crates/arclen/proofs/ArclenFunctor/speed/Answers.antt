@@ -2,12 +2,6 @@
 use Rattle.arclen.specs.Arclen.{speed_of}
 use Rattle.arclen.proofs.ArclenFunctor.speed.Goals as goal
 
-pub deriv-requires : goal.deriv-requires
-deriv-requires c = tt
-
-pub norm-requires : goal.norm-requires
-norm-requires c = tt
-
 pub returns : goal.returns
 unfolding speed_of
 returns c = rw (c.norm.ensures, c.deriv.ensures)

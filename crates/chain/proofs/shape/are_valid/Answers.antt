@@ -36,14 +36,6 @@ quad_of-requires c =
     let numbers : (get_or c.args.starts.now c.loop-i.i 0 < length c.args.breaks.now) × (get_or c.args.ends.now c.loop-i.i 0 < length c.args.breaks.now) = inside _ _ _ _ _ _ c.requires.breaks_nonzero.0 c.requires.ys_value c.loop-i-test.true in
     rw c.read-p.ensures (numbers)
 
-pub overflow_add-i : goal.overflow_add-i
-overflow_add-i c =
-    let room : c.loop-i.i + 1 < 2 ^ 64 = omega arith in
-    omega (arith, room)
-
-pub loop-i-smaller : goal.loop-i-smaller
-loop-i-smaller c = omega arith
-
 pub loop-i-preserved : goal.loop-i-preserved
 loop-i-preserved c = (
   omega arith,

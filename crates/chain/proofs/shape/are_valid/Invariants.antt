@@ -6,6 +6,3 @@ use Rattle.chain.proofs.shape.are_valid.Given as goal
 
 abbrev pub invariant-loop-i : goal.invariant-loop-i
 invariant-loop-i l = (l.i ≤ length l.starts) × Passing l.breaks l.starts l.ends l.xs l.ys l.before l.i
-
-abbrev pub decreases-loop-i : goal.decreases-loop-i
-decreases-loop-i l = length l.starts - l.i

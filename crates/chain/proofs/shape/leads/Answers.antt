@@ -36,12 +36,6 @@ pub returns-then-n-b : goal.returns-then-n-b
 returns-then-n-b c =
     passed _ _ _ _ _ c.loop-i.invariant.1 c.loop-i-test.true c.if-a-at.false c.if-b-a.false c.if-n-b.true
 
-pub overflow_add-i : goal.overflow_add-i
-overflow_add-i c = search rules
-
-pub loop-i-smaller : goal.loop-i-smaller
-loop-i-smaller c = search rules
-
 pub loop-i-preserved : goal.loop-i-preserved
 loop-i-preserved c =
     (omega arith, leads_on _ _ _ _ _ c.loop-i.invariant.1 c.loop-i-test.true c.if-a-at.false c.if-b-a.false c.if-n-b.false)

@@ -6,6 +6,3 @@ use Rattle.chain.proofs.shape.leads.Given as goal
 
 abbrev pub invariant-loop-i : goal.invariant-loop-i
 invariant-loop-i l = (l.i ≤ length l.starts) × Leading l.starts l.ends l.n l.at l.i
-
-abbrev pub decreases-loop-i : goal.decreases-loop-i
-decreases-loop-i l = length l.starts - l.i

@@ -42,24 +42,16 @@ joint-requires c = tt
 
 pub overflow_add-fallen : goal.overflow_add-fallen
 overflow_add-fallen c =
-    let told = rw c.in-At.is at c.measure_quad.ensures in
+    let told = rw c.in-Some.is at c.measure_quad.ensures in
     let few =
     counted_few _ _ _ _ _ _ c.loop-i.invariant.2 c.loop-i-test.true _ c.read-p.ensures _ c.quad_of-q.ensures
     _ _ c.read-a.ensures c.read-b.ensures told.1 in
     let pieces = joined_few c.args.starts.now c.args.ends.now c.args.xs.now c.args.ys.now (length c.args.breaks.now - 1) c.requires.ys_value in
     omega (arith, few, c.loop-i.invariant.2.few, c.loop-i-test.true, pieces, c.requires.breaks_nonzero.2)
 
-pub overflow_add-i : goal.overflow_add-i
-overflow_add-i c =
-    let room : c.loop-i.i + 1 < 2 ^ 64 = omega arith in
-    omega (arith, room)
-
-pub loop-i-smaller : goal.loop-i-smaller
-loop-i-smaller c = omega arith
-
 pub loop-i-preserved : goal.loop-i-preserved
 loop-i-preserved c =
-    let told = rw c.in-At.is at c.measure_quad.ensures in (
+    let told = rw c.in-Some.is at c.measure_quad.ensures in (
       omega arith,
       sums_on _ _ _ _ _ _ _ _ _ _ c.loop-i.invariant.1 c.loop-i-test.true _ c.read-p.ensures _ c.quad_of-q.ensures
           _ _ c.read-a.ensures c.read-b.ensures _ _ told.0 c.joint.ensures,

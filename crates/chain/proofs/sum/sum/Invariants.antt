@@ -7,6 +7,3 @@ use Rattle.chain.proofs.sum.sum.Given as goal
 abbrev pub invariant-loop-i : goal.invariant-loop-i
 invariant-loop-i l =
     (l.i ≤ length l.starts) × Summing l.samples l.breaks l.penalty l.starts l.ends l.xs l.ys l.before l.s l.i × Falling l.samples l.breaks l.starts l.ends l.xs l.ys l.fallen l.i
-
-abbrev pub decreases-loop-i : goal.decreases-loop-i
-decreases-loop-i l = length l.starts - l.i

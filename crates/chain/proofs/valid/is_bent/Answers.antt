@@ -18,4 +18,4 @@ equal_points-requires c = search rules
 
 pub returns : goal.returns
 returns c =
-    c.equal_points.ensures ∙ ap (equal_points _) c.round.ensures ∙ sym (ap (at_rounded _) (sym c.intersect.ensures ∙ c.in-At.is))
+    c.equal_points.ensures ∙ ap (equal_points _) c.round.ensures ∙ sym (ap (at_rounded _) (sym c.intersect.ensures ∙ c.in-Some.is))

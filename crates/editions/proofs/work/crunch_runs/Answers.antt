@@ -5,9 +5,6 @@ use Rattle.editions.proofs.work.crunch_runs.Goals as goal
 pub loop-k-init : goal.loop-k-init
 loop-k-init c = (running_start _ _ _ _ _ _ _ _ _ _ _ c.requires.1, running_start _ _ _ _ _ _ _ _ _ _ _ c.requires.2)
 
-pub run_at-requires : goal.run_at-requires
-run_at-requires c = tt
-
 pub shape_of-samples-in_default : goal.shape_of-samples-in_default
 shape_of-samples-in_default c = c.loop-k.invariant.0.samples
 
@@ -38,16 +35,10 @@ returns-in_default c = record { a = no_more _ _ _ _ _ _ _ _ _ _ _ c.loop-k.invar
 pub run_both-c-requires : goal.run_both-c-requires
 run_both-c-requires c = (running_few _ _ _ _ _ _ _ _ _ _ _ c.loop-k.invariant.0 c.loop-k-test.true c.requires.0, running_few _ _ _ _ _ _ _ _ _ _ _ c.loop-k.invariant.1 c.loop-k-test.true c.requires.0)
 
-pub overflow_add-k : goal.overflow_add-k
-overflow_add-k c = omega (arith, c.loop-k-test.true, c.requires.0)
-
-pub loop-k-smaller : goal.loop-k-smaller
-loop-k-smaller c = omega (arith, c.loop-k-test.true)
-
 pub loop-k-preserved : goal.loop-k-preserved
 loop-k-preserved c = (
-  run_on _ _ _ _ _ _ _ _ _ _ _ c.loop-k.invariant.0 c.run_at.ensures c.in-Between.is c.run_both-c.ensures.a c.loop-k-test.true c.run_both-c.auto.samples c.run_both-c.auto.breaks c.run_both-c.auto.answers_a c.run_both-c.auto.links_a c.run_both-c.auto.points_a,
-  run_on _ _ _ _ _ _ _ _ _ _ _ c.loop-k.invariant.1 c.run_at.ensures c.in-Between.is c.run_both-c.ensures.b c.loop-k-test.true c.run_both-c.auto.samples c.run_both-c.auto.breaks c.run_both-c.auto.answers_b c.run_both-c.auto.links_b c.run_both-c.auto.points_b,
+  run_on _ _ _ _ _ _ _ _ _ _ _ c.loop-k.invariant.0 c.run_at.ensures c.in-Some.is c.run_both-c.ensures.a c.loop-k-test.true c.run_both-c.auto.samples c.run_both-c.auto.breaks c.run_both-c.auto.answers_a c.run_both-c.auto.links_a c.run_both-c.auto.points_a,
+  run_on _ _ _ _ _ _ _ _ _ _ _ c.loop-k.invariant.1 c.run_at.ensures c.in-Some.is c.run_both-c.ensures.b c.loop-k-test.true c.run_both-c.auto.samples c.run_both-c.auto.breaks c.run_both-c.auto.answers_b c.run_both-c.auto.links_b c.run_both-c.auto.points_b,
 )
 
 pub shape_of-samples : goal.shape_of-samples

@@ -9,6 +9,3 @@ abbrev pub invariant-loop-k : goal.invariant-loop-k
 invariant-loop-k l =
     Running l.xs l.ys l.flags l.stops (settings_a l.order) l.initial.samples l.initial.breaks l.initial.answers_a l.initial.links_a l.initial.points_a l.initial.c.a l.samples l.breaks l.answers_a l.links_a l.points_a l.c.a l.k
     × Running l.xs l.ys l.flags l.stops (settings_b l.order) l.initial.samples l.initial.breaks l.initial.answers_b l.initial.links_b l.initial.points_b l.initial.c.b l.samples l.breaks l.answers_b l.links_b l.points_b l.c.b l.k
-
-abbrev pub decreases-loop-k : goal.decreases-loop-k
-decreases-loop-k l = length l.stops - l.k

@@ -1,7 +1,7 @@
 -- `editions::work::run_both` meets its contract. Assumes nothing.
 use mathlib.Core.Path.{sym, ◌∙◌}
 use Rattle.rows.specs.Rows.{work}
-use Rattle.runs.specs.Runs.{Span}
+use Rattle.runs.specs.declared.Run.{Run}
 use Rattle.edition.specs.Scratch.{rooms_of}
 use Rattle.editions.specs.Editions.{settings_a, settings_b}
 use Rattle.editions.proofs.Steps.{over_stays, copied_moves, worked_moves}
@@ -15,7 +15,7 @@ is_over-requires-then-is_over c = tt
 
 pub returns-then-is_over-2 : goal.returns-then-is_over-2
 returns-then-is_over-2 c =
-    let run : Span = record { first = c.args.first; count = c.args.count } in
+    let run : Run = record { first = c.args.first; count = c.args.count } in
     record { a = over_stays (rooms_of (work c.args.samples.now c.args.breaks.now c.args.answers_a.now c.args.links_a.now)) (settings_a c.args.order) c.args.xs.now c.args.ys.now c.args.flags.now run _ (sym c.is_over.ensures ∙ c.if-is_over.true); b = over_stays (rooms_of (work c.args.samples.now c.args.breaks.now c.args.answers_b.now c.args.links_b.now)) (settings_b c.args.order) c.args.xs.now c.args.ys.now c.args.flags.now run _ (sym c.is_over-then-is_over.ensures ∙ c.if-is_over-2.true) }
 
 pub start_of-at-requires : goal.start_of-at-requires
@@ -41,7 +41,7 @@ shape_of-points_b-then-is_copied_from c = c.copy_line-b.auto.points
 
 pub returns-then-is_copied_from : goal.returns-then-is_copied_from
 returns-then-is_copied_from c =
-    let run : Span = record { first = c.args.first; count = c.args.count } in record { a = copied_moves (rooms_of (work c.args.samples.now c.args.breaks.now c.args.answers_a.now c.args.links_a.now)) (settings_a c.args.order) c.args.xs.now c.args.ys.now c.args.flags.now run c.start_of-at.ensures c.is_copied_from.ensures c.if-is_copied_from.true c.read_from-g.ensures c.copy_line-a.ensures; b = copied_moves (rooms_of (work c.args.samples.now c.args.breaks.now c.args.answers_b.now c.args.links_b.now)) (settings_b c.args.order) c.args.xs.now c.args.ys.now c.args.flags.now run c.start_of-at.ensures c.is_copied_from.ensures c.if-is_copied_from.true c.read_from-g.ensures c.copy_line-b.ensures }
+    let run : Run = record { first = c.args.first; count = c.args.count } in record { a = copied_moves (rooms_of (work c.args.samples.now c.args.breaks.now c.args.answers_a.now c.args.links_a.now)) (settings_a c.args.order) c.args.xs.now c.args.ys.now c.args.flags.now run c.start_of-at.ensures c.is_copied_from.ensures c.if-is_copied_from.true c.read_from-g.ensures c.copy_line-a.ensures; b = copied_moves (rooms_of (work c.args.samples.now c.args.breaks.now c.args.answers_b.now c.args.links_b.now)) (settings_b c.args.order) c.args.xs.now c.args.ys.now c.args.flags.now run c.start_of-at.ensures c.is_copied_from.ensures c.if-is_copied_from.true c.read_from-g.ensures c.copy_line-b.ensures }
 
 pub step_both-requires : goal.step_both-requires
 step_both-requires c = c.requires
@@ -72,4 +72,4 @@ shape_of-points_b c = c.step_both.auto.points_b
 
 pub returns : goal.returns
 returns c =
-    let run : Span = record { first = c.args.first; count = c.args.count } in record { a = worked_moves (rooms_of (work c.args.samples.now c.args.breaks.now c.args.answers_a.now c.args.links_a.now)) (settings_a c.args.order) c.args.xs.now c.args.ys.now c.args.flags.now run c.start_of-at.ensures c.is_copied_from.ensures c.if-is_copied_from.false c.step_both.ensures.a; b = worked_moves (rooms_of (work c.args.samples.now c.args.breaks.now c.args.answers_b.now c.args.links_b.now)) (settings_b c.args.order) c.args.xs.now c.args.ys.now c.args.flags.now run c.start_of-at.ensures c.is_copied_from.ensures c.if-is_copied_from.false c.step_both.ensures.b }
+    let run : Run = record { first = c.args.first; count = c.args.count } in record { a = worked_moves (rooms_of (work c.args.samples.now c.args.breaks.now c.args.answers_a.now c.args.links_a.now)) (settings_a c.args.order) c.args.xs.now c.args.ys.now c.args.flags.now run c.start_of-at.ensures c.is_copied_from.ensures c.if-is_copied_from.false c.step_both.ensures.a; b = worked_moves (rooms_of (work c.args.samples.now c.args.breaks.now c.args.answers_b.now c.args.links_b.now)) (settings_b c.args.order) c.args.xs.now c.args.ys.now c.args.flags.now run c.start_of-at.ensures c.is_copied_from.ensures c.if-is_copied_from.false c.step_both.ensures.b }

@@ -1,4 +1,3 @@
-use native.Mathlib.Omega.{arith}
 use mathlib.Core.Path.{sym, ◌∙◌}
 use Rattle.glif.proofs.Naming.{names_start, names_first_out, names_second_out, names_go, names_stop}
 use Rattle.glif.proofs.names.same_name.Goals as goal
@@ -9,35 +8,8 @@ loop-i-init c = names_start _ _ _
 pub returns-then-bytes-j : goal.returns-then-bytes-j
 returns-then-bytes-j c = sym (c.loop-i.invariant ∙ names_second_out c.args.bytes.now c.loop-i.i c.loop-i.j c.if-bytes-j.true)
 
-pub bounds-bytes-i : goal.bounds-bytes-i
-bounds-bytes-i c = omega arith
-
-pub bounds-bytes-j : goal.bounds-bytes-j
-bounds-bytes-j c = omega arith
-
-pub is_name-goes-requires : goal.is_name-goes-requires
-is_name-goes-requires c = tt
-
-pub both-requires : goal.both-requires
-both-requires c = tt
-
-pub overflow_add-i : goal.overflow_add-i
-overflow_add-i c = omega arith
-
-pub overflow_add-j : goal.overflow_add-j
-overflow_add-j c = omega arith
-
-pub loop-i-smaller : goal.loop-i-smaller
-loop-i-smaller c = omega arith
-
 pub loop-i-preserved : goal.loop-i-preserved
 loop-i-preserved c = c.loop-i.invariant ∙ names_go c.args.bytes.now c.loop-i.i c.loop-i.j c.loop-i-test.true c.if-bytes-j.false c.is_name-goes.ensures c.both.ensures c.if-both.true
-
-pub is_name-requires : goal.is_name-requires
-is_name-requires c = tt
-
-pub both-requires-else-both : goal.both-requires-else-both
-both-requires-else-both c = tt
 
 pub returns-else-both : goal.returns-else-both
 returns-else-both c = names_stop c.args.bytes.now c.loop-i.i c.loop-i.j c.loop-i-test.true c.if-bytes-j.false c.is_name-goes.ensures c.both.ensures c.if-both.false c.is_name.ensures c.both-else-both.ensures ∙ sym c.loop-i.invariant

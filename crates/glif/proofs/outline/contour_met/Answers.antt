@@ -2,18 +2,6 @@
 use Rattle.glif.specs.Outline.{contour_met}
 use Rattle.glif.proofs.outline.contour_met.Goals as goal
 
-pub opens_tag-requires : goal.opens_tag-requires
-opens_tag-requires c = tt
-
-pub on_path-requires : goal.on_path-requires
-on_path-requires c = tt
-
-pub both-requires : goal.both-requires
-both-requires c = tt
-
-pub both-requires-2 : goal.both-requires-2
-both-requires-2 c = tt
-
 pub returns : goal.returns
 unfolding contour_met
 returns c = cc

@@ -2,9 +2,6 @@
 use Rattle.glif.specs.Outline.{is_far}
 use Rattle.glif.proofs.outline.is_far.Goals as goal
 
-pub choose-requires : goal.choose-requires
-choose-requires c = tt
-
 pub returns : goal.returns
 unfolding is_far
 returns c = cc

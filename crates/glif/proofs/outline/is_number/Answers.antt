@@ -2,9 +2,6 @@
 use Rattle.glif.specs.Outline.{is_number}
 use Rattle.glif.proofs.outline.is_number.Goals as goal
 
-pub either-requires : goal.either-requires
-either-requires c = tt
-
 pub returns : goal.returns
 unfolding is_number
 returns c = cc

@@ -2,9 +2,6 @@
 use Rattle.glif.specs.Scan.{totals_of}
 use Rattle.glif.proofs.scan.totals_in.Goals as goal
 
-pub number_of-requires : goal.number_of-requires
-number_of-requires c = tt
-
 pub returns : goal.returns
 unfolding totals_of
 returns c = cc

@@ -2,9 +2,6 @@
 use Rattle.glif.specs.Tree.{opens_tag}
 use Rattle.glif.proofs.tree.opens_tag.Goals as goal
 
-pub either-requires : goal.either-requires
-either-requires c = tt
-
 pub returns : goal.returns
 unfolding opens_tag
 returns c = cc

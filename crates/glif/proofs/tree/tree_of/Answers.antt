@@ -2,42 +2,25 @@
 use Rattle.glif.specs.Tree.{treed}
 use Rattle.glif.proofs.tree.tree_of.Goals as goal
 
-pub either-requires : goal.either-requires
-either-requires c = tt
-
-pub either-texts-requires : goal.either-texts-requires
-either-texts-requires c = tt
-
-pub enter-inside-requires : goal.enter-inside-requires
-enter-inside-requires c = tt
-
-pub leave-requires : goal.leave-requires
-leave-requires c = tt
-
-pub leave-requires-2 : goal.leave-requires-2
-leave-requires-2 c = tt
-
-pub pick_tree-requires : goal.pick_tree-requires
-pick_tree-requires c = tt
-
-pub pick_tree-after-requires : goal.pick_tree-after-requires
-pick_tree-after-requires c = tt
-
-pub pick_tree-next-requires : goal.pick_tree-next-requires
-pick_tree-next-requires c = tt
-
-pub text_fits-requires : goal.text_fits-requires
-text_fits-requires c = tt
-
-pub both-requires : goal.both-requires
-both-requires c = tt
-
-pub either-requires-2 : goal.either-requires-2
-either-requires-2 c = tt
-
-pub either-requires-3 : goal.either-requires-3
-either-requires-3 c = tt
-
 pub returns : goal.returns
 unfolding treed
-returns c = cc
+returns c = rw (
+  c.either-3.ensures,
+  c.either-2.ensures,
+  c.both.ensures,
+  c.text_fits.ensures,
+  c.pick-next.ensures,
+  c.eq-6.ensures,
+  c.pick-after.ensures,
+  c.pick.ensures,
+  c.leave-2.ensures,
+  c.eq-5.ensures,
+  c.leave.ensures,
+  c.eq-4.ensures,
+  c.enter-inside.ensures,
+  c.either-texts.ensures,
+  c.either.ensures,
+  c.eq-3.ensures,
+  c.eq-2.ensures,
+  c.eq.ensures,
+)

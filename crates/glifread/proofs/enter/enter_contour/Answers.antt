@@ -3,15 +3,6 @@ use mathlib.Core.Path.{◌∙◌}
 use Rattle.glifread.proofs.Entering.{contour_is}
 use Rattle.glifread.proofs.enter.enter_contour.Goals as goal
 
-pub seek-on-requires : goal.seek-on-requires
-seek-on-requires c = tt
-
-pub enter_places-middle-requires : goal.enter_places-middle-requires
-enter_places-middle-requires c = tt
-
-pub enter_places-end-requires : goal.enter_places-end-requires
-enter_places-end-requires c = tt
-
 pub shape_of-xs : goal.shape_of-xs
 shape_of-xs c = c.enter_places-end.auto.xs ∙ c.enter_places-middle.auto.xs
 

@@ -9,12 +9,6 @@ use Rattle.lines.proofs.Signs.{minus_in, minus_in_16, read_back}
 use Rattle.glifread.proofs.Entering.{signed_below, signed_above, signed_out}
 use Rattle.glifread.proofs.enter.signed.Goals as goal
 
-pub less-below-requires : goal.less-below-requires
-less-below-requires c = tt
-
-pub less-above-requires : goal.less-above-requires
-less-above-requires c = tt
-
 pub overflow_cast-result : goal.overflow_cast-result
 overflow_cast-result c = let h : c.less-below.result ≤ 32768 = omega (arith, c.less-below.ensures) in search rules
 
@@ -26,9 +20,6 @@ overflow_cast-result-then-below-gt0 c = let h : c.less-below.result ≤ 32768 = 
 
 pub returns-then-below-gt0 : goal.returns-then-below-gt0
 returns-then-below-gt0 c = let h : c.less-below.result ≤ 32768 = omega (arith, c.less-below.ensures) in read_back _ h ∙ signed_below _ _ _ c.less-below.ensures c.less-above.ensures c.if-below-gt0.true
-
-pub overflow_cast-result-then-above-lt32768 : goal.overflow_cast-result-then-above-lt32768
-overflow_cast-result-then-above-lt32768 c = search rules
 
 pub returns-then-above-lt32768 : goal.returns-then-above-lt32768
 returns-then-above-lt32768 c = to_z_pos w16 {n = c.less-above.result} (omega arith) ∙ signed_above _ _ _ c.less-below.ensures c.less-above.ensures c.if-below-gt0.false c.if-above-lt32768.true

@@ -3,27 +3,6 @@ use mathlib.Core.Path.{◌∙◌}
 use Rattle.glifread.proofs.Leaving.{read_answer, read_left}
 use Rattle.glifread.proofs.read.read_glif.Goals as goal
 
-pub clear-requires : goal.clear-requires
-clear-requires c = tt
-
-pub judge-f-requires : goal.judge-f-requires
-judge-f-requires c = tt
-
-pub refuse-k-requires : goal.refuse-k-requires
-refuse-k-requires c = tt
-
-pub pick-requires : goal.pick-requires
-pick-requires c = tt
-
-pub enter_all-requires : goal.enter_all-requires
-enter_all-requires c = tt
-
-pub clear-requires-2 : goal.clear-requires-2
-clear-requires-2 c = tt
-
-pub report_of-requires : goal.report_of-requires
-report_of-requires c = tt
-
 pub shape_of-ends : goal.shape_of-ends
 shape_of-ends c = c.enter_all.auto.ends
 

@@ -1,11 +1,7 @@
 -- `gliftext::choice::more` meets its contract. Assumes nothing.
 use Rattle.gliftext.specs.Pick.{pick, more}
 use borrow.Author.Tests.{lt-ltb, le-ltb}
-use borrow.Author.Rules.{rules}
 use Rattle.gliftext.proofs.choice.more.Goals as goal
-
-pub overflow_add-result : goal.overflow_add-result
-overflow_add-result c = search rules
 
 pub returns-then-a-lt18446744073709551615 : goal.returns-then-a-lt18446744073709551615
 unfolding more pick

@@ -4,8 +4,8 @@ use Rattle.gliftext.proofs.choice.pick.Goals as goal
 
 pub returns-then-c : goal.returns-then-c
 unfolding pick
-returns-then-c c = rw c.if-c.true
+returns-then-c g c = rw c.if-c.true
 
 pub returns-else-c : goal.returns-else-c
 unfolding pick
-returns-else-c c = rw c.if-c.false
+returns-else-c g c = rw c.if-c.false

@@ -2,14 +2,7 @@
 use Rattle.gliftext.specs.Pick.{pick}
 use Rattle.gliftext.specs.Pick.{sum}
 use borrow.Author.Tests.{le-leb, lt-leb}
-use borrow.Author.Rules.{rules}
 use Rattle.gliftext.proofs.choice.plus.Goals as goal
-
-pub overflow_sub-b : goal.overflow_sub-b
-overflow_sub-b c = search rules
-
-pub overflow_add-result : goal.overflow_add-result
-overflow_add-result c = search rules
 
 pub returns-then-a-b : goal.returns-then-a-b
 unfolding sum pick

@@ -2,9 +2,6 @@
 use Rattle.gliftext.specs.Table.{class_of, classes}
 use Rattle.gliftext.proofs.table.class_of.Goals as goal
 
-pub wide8-requires : goal.wide8-requires
-wide8-requires c = tt
-
 pub returns : goal.returns
 unfolding class_of classes
 returns c = c.wide8.ensures

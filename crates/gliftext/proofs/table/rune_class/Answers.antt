@@ -2,9 +2,6 @@
 use Rattle.gliftext.specs.Utf8.{rune_class, runes}
 use Rattle.gliftext.proofs.table.rune_class.Goals as goal
 
-pub wide8-requires : goal.wide8-requires
-wide8-requires c = tt
-
 pub returns : goal.returns
 unfolding rune_class runes
 returns c = c.wide8.ensures

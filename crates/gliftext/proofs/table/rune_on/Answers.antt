@@ -5,15 +5,6 @@ use Rattle.gliftext.proofs.Tables.{runes_in, runes_past, runes_out}
 use borrow.Author.Rules.{rules}
 use Rattle.gliftext.proofs.table.rune_on.Goals as goal
 
-pub overflow_mul-state : goal.overflow_mul-state
-overflow_mul-state c = search rules
-
-pub overflow_add-state : goal.overflow_add-state
-overflow_add-state c = search rules
-
-pub wide8-requires : goal.wide8-requires
-wide8-requires c = tt
-
 pub returns-then-class-lt15 : goal.returns-then-class-lt15
 unfolding rune_table
 returns-then-class-lt15 c = c.wide8.ensures ∙ runes_in _ _ (search rules) (search rules)

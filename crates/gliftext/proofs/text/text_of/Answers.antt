@@ -2,33 +2,6 @@
 use Rattle.gliftext.specs.Text.{texted}
 use Rattle.gliftext.proofs.text.text_of.Goals as goal
 
-pub name_of-tag-requires : goal.name_of-tag-requires
-name_of-tag-requires c = tt
-
-pub name_of-name-requires : goal.name_of-name-requires
-name_of-name-requires c = tt
-
-pub refer-r-requires : goal.refer-r-requires
-refer-r-requires c = tt
-
-pub value_of-value-requires : goal.value_of-value-requires
-value_of-value-requires c = tt
-
-pub point_of-point-requires : goal.point_of-point-requires
-point_of-point-requires c = tt
-
-pub say-d-requires : goal.say-d-requires
-say-d-requires c = tt
-
-pub wrong_text-wrong-requires : goal.wrong_text-wrong-requires
-wrong_text-wrong-requires c = tt
-
-pub count_attributes-requires : goal.count_attributes-requires
-count_attributes-requires c = tt
-
-pub either-requires : goal.either-requires
-either-requires c = tt
-
 pub returns : goal.returns
 unfolding texted
 returns c = rw (
@@ -40,5 +13,9 @@ returns c = rw (
   c.value_of-value.ensures,
   c.refer-r.ensures,
   c.name_of-name.ensures,
+  c.eq-4.ensures,
+  c.eq-3.ensures,
   c.name_of-tag.ensures,
+  c.eq-2.ensures,
+  c.eq.ensures,
 )

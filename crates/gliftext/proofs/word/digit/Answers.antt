@@ -3,25 +3,15 @@ use Rattle.gliftext.specs.Pick.{pick}
 use Rattle.gliftext.specs.Words.{digit_of}
 use borrow.Author.Tests.{lt-ltb, le-ltb}
 use native.Mathlib.Omega.{arith}
-use borrow.Author.Rules.{rules}
 use Rattle.gliftext.proofs.word.digit.Goals as goal
-
-pub less-requires : goal.less-requires
-less-requires c = search rules
 
 pub returns-then-b-lt58 : goal.returns-then-b-lt58
 unfolding digit_of pick
 returns-then-b-lt58 c = record { value = rw (c.less.ensures, lt-ltb _ _ c.if-b-lt58.true); upper_bound = omega (arith, c.less.ensures) }
 
-pub less-requires-then-b-lt71 : goal.less-requires-then-b-lt71
-less-requires-then-b-lt71 c = search rules
-
 pub returns-then-b-lt71 : goal.returns-then-b-lt71
 unfolding digit_of pick
 returns-then-b-lt71 c = record { value = rw (c.less-then-b-lt71.ensures, le-ltb _ _ c.if-b-lt58.false, lt-ltb _ _ c.if-b-lt71.true); upper_bound = omega (arith, c.less-then-b-lt71.ensures) }
-
-pub less-requires-2 : goal.less-requires-2
-less-requires-2 c = search rules
 
 pub returns : goal.returns
 unfolding digit_of pick

@@ -4,14 +4,10 @@ use Rattle.gliftext.specs.Words.{grown}
 use borrow.Author.Tests.{lt-ltb, le-ltb}
 use native.Mathlib.Omega.{arith}
 use native.Mathlib.Nat.{mul-le-mul_left}
-use borrow.Author.Rules.{rules}
 use Rattle.gliftext.proofs.word.grow.Goals as goal
 
 pub overflow_mul-result : goal.overflow_mul-result
 overflow_mul-result c = record { fits = omega (arith, mul-le-mul_left c.args.n c.requires) }
-
-pub digit-requires : goal.digit-requires
-digit-requires c = search rules
 
 pub overflow_add-result : goal.overflow_add-result
 overflow_add-result c = record { fits = omega (arith, mul-le-mul_left c.args.n c.requires, c.digit.ensures.upper_bound) }

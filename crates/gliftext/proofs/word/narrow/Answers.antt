@@ -2,11 +2,7 @@
 use Rattle.gliftext.specs.Pick.{pick}
 use Rattle.gliftext.specs.Words.{narrowed}
 use borrow.Author.Tests.{lt-ltb, le-ltb}
-use borrow.Author.Rules.{rules}
 use Rattle.gliftext.proofs.word.narrow.Goals as goal
-
-pub overflow_cast-result : goal.overflow_cast-result
-overflow_cast-result c = search rules
 
 pub returns-then-n-lt256 : goal.returns-then-n-lt256
 unfolding narrowed pick

@@ -2,14 +2,7 @@
 use Rattle.gliftext.specs.Pick.{pick}
 use Rattle.gliftext.specs.Words.{pushed}
 use borrow.Author.Tests.{lt-ltb, le-ltb}
-use borrow.Author.Rules.{rules}
 use Rattle.gliftext.proofs.word.push.Goals as goal
-
-pub overflow_mul-result : goal.overflow_mul-result
-overflow_mul-result c = search rules
-
-pub overflow_add-result : goal.overflow_add-result
-overflow_add-result c = search rules
 
 pub returns-then-word-lt72057594037927936 : goal.returns-then-word-lt72057594037927936
 unfolding pushed pick

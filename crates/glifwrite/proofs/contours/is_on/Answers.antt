@@ -1,12 +1,8 @@
 -- `glifwrite::contours::is_on` meets its contract. Assumes nothing.
-use borrow.Author.Rules.{rules}
 use mathlib.Core.Path.{refl}
 use lib.ListN.{get_or-eq_default}
 use Rattle.glifwrite.specs.Contours.{is_on}
 use Rattle.glifwrite.proofs.contours.is_on.Goals as goal
-
-pub bounds-flags-i : goal.bounds-flags-i
-bounds-flags-i c = search rules
 
 pub returns-then-i-flags : goal.returns-then-i-flags
 unfolding is_on

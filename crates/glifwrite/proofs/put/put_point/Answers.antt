@@ -5,24 +5,6 @@ use mathlib.Core.Path.{◌∙◌}
 use Rattle.glifwrite.proofs.Putting.{point_is}
 use Rattle.glifwrite.proofs.put.put_point.Goals as goal
 
-pub put_range-a-requires : goal.put_range-a-requires
-put_range-a-requires c = tt
-
-pub put_number-b-requires : goal.put_number-b-requires
-put_number-b-requires c = tt
-
-pub put_range-c-requires : goal.put_range-c-requires
-put_range-c-requires c = tt
-
-pub put_number-d-requires : goal.put_number-d-requires
-put_number-d-requires c = tt
-
-pub put_range-e-requires : goal.put_range-e-requires
-put_range-e-requires c = tt
-
-pub put_kind-requires : goal.put_kind-requires
-put_kind-requires c = tt
-
 pub shape_of-out : goal.shape_of-out
 shape_of-out c = c.put_kind.auto.out ∙ c.put_range-e.auto.out ∙ c.put_number-d.auto.out ∙ c.put_range-c.auto.out ∙ c.put_number-b.auto.out ∙ c.put_range-a.auto.out
 

@@ -1,12 +1,7 @@
 -- `glifwrite::put::put_range` meets its contract. Assumes nothing.
-use Prim.Native.Nat.{◌-◌, ◌≤◌}
-use mathlib.Core.Path.{◌≡◌}
-use lib.ListN.{length}
+use Rattle.std.proofs.Common.{◌≡◌}
 use Rattle.glifwrite.specs.Puts.{put, put_range}
 use Rattle.glifwrite.proofs.put.put_range.Given as goal
 
 abbrev pub invariant-loop-k : goal.invariant-loop-k
-invariant-loop-k l = (l.n ≡ l.to - l.from) × (l.k ≤ l.n) × (put l.a l.out ≡ put_range l.bytes l.from l.k (put l.initial.a l.initial.out)) × (length l.out ≡ length l.initial.out)
-
-abbrev pub decreases-loop-k : goal.decreases-loop-k
-decreases-loop-k l = l.n - l.k
+invariant-loop-k l = put l.a l.out ≡ put_range l.bytes l.from l.k (put l.initial.a l.initial.out)

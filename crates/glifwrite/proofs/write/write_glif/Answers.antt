@@ -1,40 +1,12 @@
 -- `glifwrite::write::write_glif` meets its contract. Assumes nothing.
-use borrow.Author.Rules.{rules}
 use Rattle.glifwrite.proofs.Copying.{few, write_answer, write_left}
 use Rattle.glifwrite.proofs.write.write_glif.Goals as goal
-
-pub slice_bounds-judge-end : goal.slice_bounds-judge-end
-slice_bounds-judge-end c = search rules
-
-pub judge-f-requires : goal.judge-f-requires
-judge-f-requires c = tt
-
-pub refuse-k-requires : goal.refuse-k-requires
-refuse-k-requires c = tt
-
-pub pick-n-requires : goal.pick-n-requires
-pick-n-requires c = tt
-
-pub slice_bounds-write_all-end : goal.slice_bounds-write_all-end
-slice_bounds-write_all-end c = search rules
 
 pub write_all-size-requires : goal.write_all-size-requires
 write_all-size-requires c = few _ c.pick-n.ensures
 
-pub pick-requires : goal.pick-requires
-pick-requires c = tt
-
-pub pick-number-requires : goal.pick-number-requires
-pick-number-requires c = tt
-
-pub pick-m-requires : goal.pick-m-requires
-pick-m-requires c = tt
-
 pub write_all-requires : goal.write_all-requires
 write_all-requires c = few _ c.pick-m.ensures
-
-pub report_of-requires : goal.report_of-requires
-report_of-requires c = tt
 
 pub shape_of-out : goal.shape_of-out
 shape_of-out c = c.write_all.auto.out

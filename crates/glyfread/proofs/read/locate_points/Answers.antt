@@ -5,9 +5,6 @@ use mathlib.Core.Path.{sym, ◌∙◌, subst}
 use Rattle.glyfread.proofs.Parts.{no_flags, no_points_lem, stands}
 use Rattle.glyfread.proofs.read.locate_points.Goals as goal
 
-pub points_of-points-requires : goal.points_of-points-requires
-points_of-points-requires c = (c.requires.simple, omega (arith, c.requires.after_ends, c.requires.inside))
-
 pub overflow_add-flags : goal.overflow_add-flags
 overflow_add-flags c = omega (arith, c.requires.inside)
 
@@ -18,13 +15,13 @@ pub returns-in_default : goal.returns-in_default
 returns-in_default c = no_flags _ _ _ _ c.requires c.points_of-points.ensures.value (sym c.in_default.is ∙ c.scan_flags.ensures.value)
 
 pub overflow_add-ys : goal.overflow_add-ys
-overflow_add-ys c = let w = subst (ScanWithin _) c.in-Is.is c.scan_flags.ensures.scan_within in omega arith
+overflow_add-ys c = let w = subst (ScanWithin _) c.in-Some.is c.scan_flags.ensures.scan_within in omega arith
 
 pub overflow_add-ys-2 : goal.overflow_add-ys-2
-overflow_add-ys-2 c = let w = subst (ScanWithin _) c.in-Is.is c.scan_flags.ensures.scan_within in omega arith
+overflow_add-ys-2 c = let w = subst (ScanWithin _) c.in-Some.is c.scan_flags.ensures.scan_within in omega arith
 
 pub returns-then-bytes-ys : goal.returns-then-bytes-ys
-returns-then-bytes-ys c = no_points_lem _ _ _ _ c.requires c.points_of-points.ensures.value (sym c.in-Is.is ∙ c.scan_flags.ensures.value) c.if-bytes-ys.true
+returns-then-bytes-ys c = no_points_lem _ _ _ _ c.requires c.points_of-points.ensures.value (sym c.in-Some.is ∙ c.scan_flags.ensures.value) c.if-bytes-ys.true
 
 pub returns : goal.returns
-returns c = stands _ _ _ _ c.requires c.points_of-points.ensures.value (sym c.in-Is.is ∙ c.scan_flags.ensures.value) c.if-bytes-ys.false
+returns c = stands _ _ _ _ c.requires c.points_of-points.ensures.value (sym c.in-Some.is ∙ c.scan_flags.ensures.value) c.if-bytes-ys.false

@@ -1,11 +1,7 @@
 -- `glyfread::row::signed_of` meets its contract. Assumes nothing.
 use native.Mathlib.Omega.{arith}
 use Rattle.glyfread.proofs.Signs.{low_half, high_fits, high_half}
-use borrow.Author.Rules.{rules}
 use Rattle.glyfread.proofs.row.signed_of.Goals as goal
-
-pub overflow_cast-w : goal.overflow_cast-w
-overflow_cast-w c = search rules
 
 pub overflow_sub-result : goal.overflow_sub-result
 overflow_sub-result c = high_fits _ (omega arith) c.if-v-lt32768.false

@@ -8,6 +8,3 @@ use Rattle.glyfread.proofs.row.words_rise.Given as goal
 
 abbrev pub invariant-loop-i : goal.invariant-loop-i
 invariant-loop-i l = (1 ≤ l.i) × (rising (words_at l.bytes l.from l.n) ≡ rising (drop (l.i - 1) (words_at l.bytes l.from l.n)))
-
-abbrev pub decreases-loop-i : goal.decreases-loop-i
-decreases-loop-i l = l.n - l.i

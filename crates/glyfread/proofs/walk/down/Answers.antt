@@ -1,11 +1,7 @@
 -- `glyfread::walk::down` meets its contract. Assumes nothing.
 use native.Mathlib.Omega.{arith}
 use Rattle.glyfread.proofs.Signs.{down_fits, down_is}
-use borrow.Author.Rules.{rules}
 use Rattle.glyfread.proofs.walk.down.Goals as goal
-
-pub overflow_cast-result : goal.overflow_cast-result
-overflow_cast-result c = search rules
 
 pub overflow_sub-result : goal.overflow_sub-result
 overflow_sub-result c = down_fits c.args.b (omega arith)

@@ -2,7 +2,6 @@
 use native.Mathlib.Omega.{arith}
 use Rattle.glyfread.proofs.Walking.{no_change, no_long, half_long, long_is}
 use Prim.Native.Nat.{◌+◌}
-use borrow.Author.Rules.{rules}
 use Rattle.glyfread.proofs.walk.long_at.Goals as goal
 
 pub returns-then-same : goal.returns-then-same
@@ -11,20 +10,8 @@ returns-then-same c = no_change _ _ _ c.if-same.true
 pub returns-then-bytes-at : goal.returns-then-bytes-at
 returns-then-bytes-at c = no_long _ _ _ c.if-same.false c.if-bytes-at.true
 
-pub overflow_add-at : goal.overflow_add-at
-overflow_add-at c = search rules
-
 pub returns-then-bytes-at-2 : goal.returns-then-bytes-at-2
 returns-then-bytes-at-2 c = half_long _ _ _ c.if-same.false c.if-bytes-at.false c.if-bytes-at-2.true
-
-pub word_at-requires : goal.word_at-requires
-word_at-requires c = search rules
-
-pub signed_of-requires : goal.signed_of-requires
-signed_of-requires c = search rules
-
-pub overflow_add-result : goal.overflow_add-result
-overflow_add-result c = search rules
 
 pub returns : goal.returns
 returns c = long_is c.args.bytes.now c.args.at _ c.if-same.false c.if-bytes-at.false c.if-bytes-at-2.false (omega (arith, c.type_inv.bytes c.args.at, c.type_inv.bytes (c.args.at + 1))) c.word_at.ensures c.signed_of.ensures

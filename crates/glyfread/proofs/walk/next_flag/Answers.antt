@@ -2,38 +2,19 @@
 use native.Mathlib.Omega.{arith}
 use mathlib.Core.Path.{sym, ◌∙◌}
 use Rattle.glyfread.proofs.Walking.{still_due, no_flag, plain_flag, no_count, counted_flag}
-use borrow.Author.Rules.{rules}
 use Rattle.glyfread.proofs.walk.next_flag.Goals as goal
 
-pub overflow_sub-result : goal.overflow_sub-result
-overflow_sub-result c = search rules
-
 pub returns-then-due-gt0 : goal.returns-then-due-gt0
-returns-then-due-gt0 c = record { flag_within = (λ h. h); value = still_due _ _ _ _ c.if-due-gt0.true }
+returns-then-due-gt0 c = record { flag_within = λ h. h; value = still_due _ _ _ _ c.if-due-gt0.true }
 
 pub returns-then-bytes-at : goal.returns-then-bytes-at
-returns-then-bytes-at c = record { flag_within = (λ h. tt); value = no_flag _ _ _ _ c.if-due-gt0.false c.if-bytes-at.true }
-
-pub bounds-bytes-at : goal.bounds-bytes-at
-bounds-bytes-at c = search rules
-
-pub overflow_add-next : goal.overflow_add-next
-overflow_add-next c = search rules
-
-pub bit_of-requires : goal.bit_of-requires
-bit_of-requires c = search rules
+returns-then-bytes-at c = record { flag_within = λ h. tt; value = no_flag _ _ _ _ c.if-due-gt0.false c.if-bytes-at.true }
 
 pub returns-then-bytes-next : goal.returns-then-bytes-next
-returns-then-bytes-next c = record { flag_within = (λ h. tt); value = no_count _ _ _ _ c.if-due-gt0.false c.if-bytes-at.false (sym c.bit_of.ensures ∙ c.if-bit_of.true) c.if-bytes-next.true }
-
-pub overflow_add-result : goal.overflow_add-result
-overflow_add-result c = search rules
-
-pub bounds-bytes-next : goal.bounds-bytes-next
-bounds-bytes-next c = search rules
+returns-then-bytes-next c = record { flag_within = λ h. tt; value = no_count _ _ _ _ c.if-due-gt0.false c.if-bytes-at.false (sym c.bit_of.ensures ∙ c.if-bit_of.true) c.if-bytes-next.true }
 
 pub returns-then-bit_of : goal.returns-then-bit_of
-returns-then-bit_of c = record { flag_within = (λ h. omega arith); value = counted_flag _ _ _ _ c.if-due-gt0.false c.if-bytes-at.false (sym c.bit_of.ensures ∙ c.if-bit_of.true) c.if-bytes-next.false }
+returns-then-bit_of c = record { flag_within = λ h. omega arith; value = counted_flag _ _ _ _ c.if-due-gt0.false c.if-bytes-at.false (sym c.bit_of.ensures ∙ c.if-bit_of.true) c.if-bytes-next.false }
 
 pub returns : goal.returns
-returns c = record { flag_within = (λ h. omega arith); value = plain_flag _ _ _ _ c.if-due-gt0.false c.if-bytes-at.false (sym c.bit_of.ensures ∙ c.if-bit_of.false) }
+returns c = record { flag_within = λ h. omega arith; value = plain_flag _ _ _ _ c.if-due-gt0.false c.if-bytes-at.false (sym c.bit_of.ensures ∙ c.if-bit_of.false) }

@@ -4,7 +4,6 @@ use native.Mathlib.Omega.{arith}
 use mathlib.Core.Path.{sym}
 use native.Mathlib.Nat.{add-zero}
 use Rattle.glyfwrite.specs.Differences.{bits_in}
-use borrow.Author.Rules.{rules}
 use Rattle.glyfwrite.proofs.difference.bits.Goals as goal
 
 pub returns-then-d-eq0 : goal.returns-then-d-eq0
@@ -14,9 +13,6 @@ returns-then-d-eq0 c = record { value = rw (is_still c.args.d c.if-d-eq0.true); 
 pub returns-then-d-gt255 : goal.returns-then-d-gt255
 unfolding bits_in
 returns-then-d-gt255 c = record { value = rw (is_large c.args.d c.if-d-eq0.false c.if-d-gt255.true); upper_bound = omega arith }
-
-pub overflow_add-result : goal.overflow_add-result
-overflow_add-result c = search rules
 
 pub returns-then-d : goal.returns-then-d
 unfolding bits_in

@@ -3,34 +3,15 @@ use native.Mathlib.Omega.{arith}
 use Rattle.glyfwrite.specs.Differences.{code_in}
 use Rattle.glyfwrite.proofs.Coding.{is_still, is_small, is_large}
 use Rattle.glyfwrite.proofs.Putting.{nothing}
-use borrow.Author.Rules.{rules}
 use Rattle.glyfwrite.proofs.difference.put_difference.Goals as goal
 
 pub returns-then-d-eq0 : goal.returns-then-d-eq0
 unfolding code_in
 returns-then-d-eq0 c = record { put = rw (is_still c.args.d c.if-d-eq0.true) (nothing _ _); upper_bound = omega arith }
 
-pub short-requires : goal.short-requires
-short-requires c = search rules
-
-pub put_byte-requires : goal.put_byte-requires
-put_byte-requires c = search rules
-
-pub shape_of-out-then-d-le255 : goal.shape_of-out-then-d-le255
-shape_of-out-then-d-le255 c = search rules
-
 pub returns-then-d-le255 : goal.returns-then-d-le255
 unfolding code_in
 returns-then-d-le255 c = record { put = rw (is_small c.args.d c.if-d-eq0.false c.if-d-le255.true, ← c.short.ensures) c.put_byte.ensures; upper_bound = omega (arith, c.put_byte.ensures.next) }
-
-pub long-requires : goal.long-requires
-long-requires c = tt
-
-pub put_word-requires : goal.put_word-requires
-put_word-requires c = search rules
-
-pub shape_of-out : goal.shape_of-out
-shape_of-out c = search rules
 
 pub returns : goal.returns
 unfolding code_in

@@ -1,5 +1,5 @@
 -- `glyfwrite::flags::put_flags` meets its contract. Assumes nothing.
-use Prim.Native.Nat.{◌+◌, ◌-◌, ◌*◌, ◌<◌, ◌≤◌}
+use Prim.Native.Nat.{◌+◌, ◌*◌, ◌<◌, ◌≤◌}
 use lib.IntN.{pos}
 use lib.ListN.{length, drop}
 use Rattle.glyf.specs.Layout.{steps, packed, packed_flags, coded_flags}
@@ -10,6 +10,3 @@ abbrev pub invariant-loop-i : goal.invariant-loop-i
 invariant-loop-i l = Going l.initial.out l.from (packed_flags (coded_flags l.flags (steps (pos 0) l.xs) (steps (pos 0) l.ys))) l.out l.run.at
     (packed (coded_flags (drop l.i l.flags) (steps l.last_x (drop l.i l.xs)) (steps l.last_y (drop l.i l.ys))) l.run.flag l.run.times) ×
     (l.i ≤ length l.flags) × (l.run.at ≤ l.from + 2 * l.i) × (l.run.flag < 64) × (l.run.times ≤ 256)
-
-abbrev pub decreases-loop-i : goal.decreases-loop-i
-decreases-loop-i l = length l.flags - l.i

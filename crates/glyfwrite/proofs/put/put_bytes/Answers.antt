@@ -2,26 +2,11 @@ use native.Mathlib.Omega.{arith}
 use Rattle.glyfwrite.proofs.Putting.{begin, more, all, next_byte, no_byte}
 use Rattle.glyfwrite.proofs.put.put_bytes.Goals as goal
 
-pub loop-i-init : goal.loop-i-init
-loop-i-init c = (begin _ _ _, omega arith, omega arith)
+pub loop-b-init : goal.loop-b-init
+loop-b-init c = (begin _ _ _, omega arith, omega arith)
 
-pub bounds-row-i : goal.bounds-row-i
-bounds-row-i c = omega arith
-
-pub put_byte-at-requires : goal.put_byte-at-requires
-put_byte-at-requires c = omega arith
-
-pub overflow_add-i : goal.overflow_add-i
-overflow_add-i c = omega arith
-
-pub loop-i-smaller : goal.loop-i-smaller
-loop-i-smaller c = omega arith
-
-pub loop-i-preserved : goal.loop-i-preserved
-loop-i-preserved c = (more c.loop-i.invariant.0 (next_byte _ _ c.loop-i-test.true) c.put_byte-at.ensures, omega arith, omega (arith, c.put_byte-at.ensures.next))
-
-pub shape_of-out : goal.shape_of-out
-shape_of-out c = c.loop-i.invariant.0.same
+pub loop-b-preserved : goal.loop-b-preserved
+loop-b-preserved c = (more c.loop-b.invariant.0 (next_byte _ _ c.loop-b-test.true) c.put_byte-at.ensures, omega arith, omega (arith, c.put_byte-at.ensures.next))
 
 pub returns : goal.returns
-returns c = all c.loop-i.invariant.0 (no_byte _ _ c.loop-i-test.false)
+returns c = all c.loop-b.invariant.0 (no_byte _ _ c.loop-b-test.false)

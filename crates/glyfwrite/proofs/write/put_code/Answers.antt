@@ -2,17 +2,7 @@
 use mathlib.Core.Path.{◌∙◌}
 use native.Mathlib.Omega.{arith}
 use Rattle.glyfwrite.proofs.Putting.{then, same_row}
-use borrow.Author.Rules.{rules}
 use Rattle.glyfwrite.proofs.write.put_code.Goals as goal
-
-pub overflow_cast-instructions : goal.overflow_cast-instructions
-overflow_cast-instructions c = search rules
-
-pub put_word-from-requires : goal.put_word-from-requires
-put_word-from-requires c = search rules
-
-pub put_bytes-requires : goal.put_bytes-requires
-put_bytes-requires c = search rules
 
 pub shape_of-out : goal.shape_of-out
 shape_of-out c = same_row c.put_bytes.ensures ∙ same_row c.put_word-from.ensures

@@ -4,9 +4,6 @@ use mathlib.Core.Path.{◌∙◌}
 use Rattle.glyfwrite.proofs.Writing.{whole_put}
 use Rattle.glyfwrite.proofs.write.put_glyph.Goals as goal
 
-pub put_head-code_at-requires : goal.put_head-code_at-requires
-put_head-code_at-requires c = c.requires.few_ends
-
 pub put_code-points_at-requires : goal.put_code-points_at-requires
 put_code-points_at-requires c = (c.put_head-code_at.ensures.upper_bound, c.requires.few_bytes)
 

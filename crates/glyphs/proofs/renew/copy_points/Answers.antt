@@ -3,9 +3,6 @@ use native.Mathlib.Omega.{arith}
 use Rattle.glyphs.proofs.Writing.{not_fine, too_many, all_copied, all_placed}
 use Rattle.glyphs.proofs.renew.copy_points.Goals as goal
 
-pub is_fine-requires : goal.is_fine-requires
-is_fine-requires c = tt
-
 pub returns-then-not-is_fine : goal.returns-then-not-is_fine
 returns-then-not-is_fine c = not_fine c.args.settings c.args.points.now c.args.n c.args.xs.now c.args.ys.now c.args.flags.now c.is_fine.ensures c.if-not-is_fine.true-raw
 
@@ -14,15 +11,6 @@ returns-then-n-gt65536 c = too_many c.args.settings c.args.points.now c.args.n c
 
 pub copy_out-requires : goal.copy_out-requires
 copy_out-requires c = c.requires
-
-pub shape_of-xs : goal.shape_of-xs
-shape_of-xs c = c.copy_out.auto.ox
-
-pub shape_of-ys : goal.shape_of-ys
-shape_of-ys c = c.copy_out.auto.oy
-
-pub shape_of-flags : goal.shape_of-flags
-shape_of-flags c = c.copy_out.auto.of
 
 pub returns : goal.returns
 returns c =

@@ -1,20 +1,11 @@
 -- `glyphs::renew::crunch_rows` meets its contract. Assumes nothing.
 use mathlib.Core.Path.{sym}
 use lib.ListN.{length, drop}
-use lib.Seq.{length-take-le, length_front}
+use lib.Seq.{length-take-le}
 use native.Mathlib.Omega.{arith}
 use Rattle.crunch.proofs.Whole.{room_in, room_is, room_few}
 use Rattle.glyphs.proofs.Writing.{first_is, apart, gathered_in, gathered_fits, at_room}
 use Rattle.glyphs.proofs.renew.crunch_rows.Goals as goal
-
-pub least-requires : goal.least-requires
-least-requires c = tt
-
-pub least-requires-2 : goal.least-requires-2
-least-requires-2 c = tt
-
-pub least-room-requires : goal.least-room-requires
-least-room-requires c = tt
 
 pub slice_bounds-crunch_contours-end : goal.slice_bounds-crunch_contours-end
 slice_bounds-crunch_contours-end c = c.requires.in_ends
@@ -54,33 +45,6 @@ copy_gathered-requires c =
     let (x, y, f) = room_few _ _ _ c.args.points.now c.least.ensures c.least-2.ensures c.least-room.ensures in
     gathered_fits (drop c.least-room.result c.args.points.now) (length c.args.xs.now) (length c.args.ys.now) (length c.args.flags.now) c.crunch_contours-g.ensures
     (omega (arith, c.crunch_contours-g.auto.points), omega (arith, c.crunch_contours-g.auto.points), omega (arith, c.crunch_contours-g.auto.points))
-
-pub shape_of-ends : goal.shape_of-ends
-shape_of-ends c = length_front c.args.ends.now c.crunch_contours-g.new.ends c.args.contours c.crunch_contours-g.auto.ends
-
-pub shape_of-xs : goal.shape_of-xs
-shape_of-xs c = c.copy_gathered.auto.xs
-
-pub shape_of-ys : goal.shape_of-ys
-shape_of-ys c = c.copy_gathered.auto.ys
-
-pub shape_of-flags : goal.shape_of-flags
-shape_of-flags c = c.copy_gathered.auto.flags
-
-pub shape_of-samples : goal.shape_of-samples
-shape_of-samples c = c.crunch_contours-g.auto.samples
-
-pub shape_of-breaks : goal.shape_of-breaks
-shape_of-breaks c = c.crunch_contours-g.auto.breaks
-
-pub shape_of-answers : goal.shape_of-answers
-shape_of-answers c = c.crunch_contours-g.auto.answers
-
-pub shape_of-links : goal.shape_of-links
-shape_of-links c = c.crunch_contours-g.auto.links
-
-pub shape_of-points : goal.shape_of-points
-shape_of-points c = length_front c.args.points.now c.crunch_contours-g.new.points c.least-room.result c.crunch_contours-g.auto.points
 
 pub returns : goal.returns
 returns c =

@@ -1,31 +1,11 @@
-use native.Mathlib.Omega.{arith}
 use Rattle.lines.proofs.Texts.{begin, next_of, all_of}
 use Rattle.lines.proofs.put.put_all.Goals as goal
 
-pub least-a-requires : goal.least-a-requires
-least-a-requires c = tt
+pub loop-b-init : goal.loop-b-init
+loop-b-init c = begin _ _ _ _ c.min-a.ensures
 
-pub loop-i-init : goal.loop-i-init
-loop-i-init c = begin _ _ _ _ c.least-a.ensures
-
-pub bounds-text-i : goal.bounds-text-i
-bounds-text-i c = omega arith
-
-pub put_byte-a-requires : goal.put_byte-a-requires
-put_byte-a-requires c = tt
-
-pub overflow_add-i : goal.overflow_add-i
-overflow_add-i c = omega arith
-
-pub loop-i-smaller : goal.loop-i-smaller
-loop-i-smaller c = omega arith
-
-pub loop-i-preserved : goal.loop-i-preserved
-loop-i-preserved c =
-    next_of _ _ c.loop-i-test.true c.loop-i.invariant c.put_byte-a.ensures
-
-pub shape_of-out : goal.shape_of-out
-shape_of-out c = c.loop-i.invariant.same
+pub loop-b-preserved : goal.loop-b-preserved
+loop-b-preserved c = next_of _ _ c.loop-b-test.true c.loop-b.invariant c.put_byte-a.ensures
 
 pub returns : goal.returns
-returns c = all_of _ _ c.loop-i-test.false c.loop-i.invariant
+returns c = all_of _ _ c.loop-b-test.false c.loop-b.invariant

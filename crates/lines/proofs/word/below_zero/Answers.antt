@@ -1,29 +1,17 @@
--- `lines::word::below_zero` meets its contract. Assumes nothing.
-use borrow.Author.Rules.{rules}
-use borrow.Author.Tests.{le-leb, lt-leb}
-use mathlib.Core.Path.{ap}
-use Rattle.lines.specs.declared.word.Coordinate.TheVariants as C
-use Rattle.lines.proofs.Signs.{minus_in, minus_in_16, read_back}
+use Rattle.std.proofs.Common.{Some, ap, rules, le-leb}
+use borrow.Author.Tests.{lt-leb}
 use Rattle.lines.specs.Steps.{below_zero}
+use Rattle.lines.proofs.Signs.{read_back}
 use Rattle.lines.proofs.word.below_zero.Goals as goal
 
-pub overflow_cast-result : goal.overflow_cast-result
-overflow_cast-result c = search rules
-
-pub overflow_sub-result : goal.overflow_sub-result
-overflow_sub-result c = minus_in _ c.if-v-le32768.true
-
-pub overflow_cast-result-then-v-le32768 : goal.overflow_cast-result-then-v-le32768
-overflow_cast-result-then-v-le32768 c = minus_in_16 _ c.if-v-le32768.true
+pub returns-in_err-v : goal.returns-in_err-v
+unfolding below_zero
+returns-in_err-v c = search rules
 
 pub returns-then-v-le32768 : goal.returns-then-v-le32768
 unfolding below_zero
-returns-then-v-le32768 c = rw (c.in-Is.is, le-leb _ _ c.if-v-le32768.true) (ap C.Is (read_back _ c.if-v-le32768.true))
+returns-then-v-le32768 c = rw (c.in_ok-v.was, le-leb _ _ c.if-v-le32768.true) (ap (λ z. Some z) (read_back _ c.if-v-le32768.true))
 
 pub returns-else-v-le32768 : goal.returns-else-v-le32768
 unfolding below_zero
-returns-else-v-le32768 c = rw (c.in-Is.is, lt-leb _ _ c.if-v-le32768.false)
-
-pub returns-in-Not : goal.returns-in-Not
-unfolding below_zero
-returns-in-Not c = search rules
+returns-else-v-le32768 c = rw (c.in_ok-v.was, lt-leb _ _ c.if-v-le32768.false)

@@ -1,31 +1,21 @@
-use mathlib.Core.Path.{refl, sym, ◌∙◌}
-use native.Mathlib.Omega.{arith}
-use Rattle.lines.proofs.Words.{past, found, passed}
+use Rattle.std.proofs.Common.{◌+◌, ◌-◌, ap, length, take, drop, eqb, arith, rules, tests, length-drop}
+use Rattle.std.proofs.lemmas.List.{take_rest}
+use Rattle.std.proofs.lemmas.Iterator.{YieldsList-from_slice}
+use Rattle.std.proofs.lemmas.Iterator.Search.{position_from_yields_List}
+use Rattle.lines.proofs.Words.{found, missed}
 use Rattle.lines.proofs.word.end_of.Goals as goal
 
-pub loop-i-init : goal.loop-i-init
-loop-i-init c = (omega arith, omega arith, refl)
+pub returns-in-Some-clause-value : goal.returns-in-Some-clause-value
+returns-in-Some-clause-value c =
+    let row = c.args.bytes.now in
+    let rest = take (length row - c.args.from) (drop c.args.from row) in
+    let told = position_from_yields_List (λ b. eqb b c.args.stop) _ _ _ c.position.ensures.ran (YieldsList-from_slice rest c.iter.ensures.rest) (λ x b q k. search (rules, tests)) in
+    ap (λ k. c.args.from + k) (found c.args.stop (drop c.args.from row) (rw take_rest at told) _ c.in-Some.is)
 
-pub bounds-bytes-i : goal.bounds-bytes-i
-bounds-bytes-i c = omega arith
-
-pub returns-then-bytes-i : goal.returns-then-bytes-i
-returns-then-bytes-i c =
-    let inv = c.loop-i.invariant in
-    record { lower_bound = (inv.0, inv.1); value = sym (inv.2 ∙ found _ _ _ c.loop-i-test.true c.if-bytes-i.true) }
-
-pub overflow_add-i : goal.overflow_add-i
-overflow_add-i c = omega arith
-
-pub loop-i-smaller : goal.loop-i-smaller
-loop-i-smaller c = omega arith
-
-pub loop-i-preserved : goal.loop-i-preserved
-loop-i-preserved c =
-    let inv = c.loop-i.invariant in
-    (omega arith, omega arith, inv.2 ∙ passed _ _ _ c.loop-i-test.true c.if-bytes-i.false)
-
-pub returns : goal.returns
-returns c =
-    let inv = c.loop-i.invariant in
-    record { lower_bound = (inv.0, inv.1); value = sym (inv.2 ∙ past _ _ _ c.loop-i-test.false) }
+pub returns-in-None-clause-value : goal.returns-in-None-clause-value
+returns-in-None-clause-value c =
+    let row = c.args.bytes.now in
+    let rest = take (length row - c.args.from) (drop c.args.from row) in
+    let told = position_from_yields_List (λ b. eqb b c.args.stop) _ _ _ c.position.ensures.ran (YieldsList-from_slice rest c.iter.ensures.rest) (λ x b q k. search (rules, tests)) in
+    let none = missed c.args.stop (drop c.args.from row) (rw take_rest at told) c.in-None.is in
+    omega (arith, length-drop c.args.from row)

@@ -1,10 +1,6 @@
--- `measure::MeasureFunctor::walk` meets its contract. The loop's invariant is `Walking`; the measure is the steps left. Assumes nothing.
-use Prim.Native.Nat.{◌-◌}
+-- `measure::MeasureFunctor::walk` meets its contract. The loop's invariant is `Walking`. Assumes nothing.
 use Rattle.measure.proofs.Steps.{Walking}
 use Rattle.measure.proofs.MeasureFunctor.walk.Given as goal
 
-abbrev pub invariant-loop-i : goal.invariant-loop-i
-invariant-loop-i l = Walking l.row l.self l.t l.y l.fallen l.i
-
-abbrev pub decreases-loop-i : goal.decreases-loop-i
-decreases-loop-i l = 10 - l.i
+abbrev pub invariant-loop : goal.invariant-loop
+invariant-loop l = Walking l.row l.self l.t l.y l.fallen l.counter

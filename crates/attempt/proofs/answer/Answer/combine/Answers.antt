@@ -1,6 +1,5 @@
 -- `attempt::answer::Answer::combine` meets its contract. Assumes nothing.
 use mathlib.Core.Bool.{true, false}
-use borrow.Author.Rules.{rules}
 use borrow.Author.Tests.{eq-eqb, ne_eqb}
 use Rattle.attempt.specs.Value.{combine_of}
 use Rattle.attempt.proofs.Against.{compared}
@@ -9,9 +8,6 @@ use Rattle.attempt.proofs.answer.Answer.combine.Goals as goal
 pub returns-then-previous-eq0 : goal.returns-then-previous-eq0
 unfolding combine_of
 returns-then-previous-eq0 c = rw (eq-eqb _ _ c.if-previous-eq0.true)
-
-pub total-total-requires : goal.total-total-requires
-total-total-requires c = search rules
 
 pub returns-then-self-eq0 : goal.returns-then-self-eq0
 unfolding combine_of

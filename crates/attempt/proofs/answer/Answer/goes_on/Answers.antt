@@ -4,12 +4,6 @@ use mathlib.Core.Path.{sym, ◌∙◌}
 use Rattle.attempt.proofs.Against.{smooth_on}
 use Rattle.attempt.proofs.answer.Answer.goes_on.Goals as goal
 
-pub is_curve-requires : goal.is_curve-requires
-is_curve-requires c = tt
-
-pub is_smooth-requires : goal.is_smooth-requires
-is_smooth-requires c = tt
-
 pub returns-then-is_curve : goal.returns-then-is_curve
 returns-then-is_curve c =
     c.is_smooth.ensures ∙ smooth_on c.args.self c.args.q true (sym c.if-is_curve.true ∙ c.is_curve.ensures)

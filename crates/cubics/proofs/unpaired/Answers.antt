@@ -1,9 +1,0 @@
--- `cubics::unpaired` meets its contract. Assumes nothing.
-use borrow.Author.Tests.{eq-eqb, ne_eqb}
-use Rattle.cubics.proofs.unpaired.Goals as goal
-
-pub returns-then-n-eq0 : goal.returns-then-n-eq0
-returns-then-n-eq0 c = rw (eq-eqb c.args.n 0 c.if-n-eq0.true)
-
-pub returns : goal.returns
-returns c = rw (ne_eqb c.args.n 0 c.if-n-eq0.false)

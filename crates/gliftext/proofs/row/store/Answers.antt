@@ -1,0 +1,7 @@
+-- `gliftext::row::store` meets its contract. Assumes nothing.
+use Rattle.std.proofs.Common.{sym}
+use lib.Seq.{set_out}
+use Rattle.gliftext.proofs.row.store.Goals as goal
+
+pub returns-else-i-row : goal.returns-else-i-row
+returns-else-i-row g c = sym (set_out _ _ _ c.if-i-row.false)

@@ -1,0 +1,27 @@
+-- The number of each refusal, as docs/REFUSALS.md lists them. Definitions only.
+use Rattle.std.specs.Prelude.{ℕ}
+use Rattle.refusals.specs.declared.refusal.Refusal.{Refusal}
+use Rattle.refusals.specs.declared.refusal.Refusal.TheVariants.{UnevenRows, NoPoint, TooManyPoints, StartsOffCurve, OffCurveNeighbours, TooManySamples, TooManyBreaks, PastLastSample, OutputTooShort, NoSuchRun, NoSuchSegment, CutShort, EndsNotRising, TooLarge, Composite, NoSuchPenalty, Outside16Bits, ListTooShort, Malformed, CubicOrOpen, NoOnCurve}
+
+abbrev pub number_of : Refusal → ℕ
+number_of UnevenRows = 1
+number_of NoPoint = 2
+number_of TooManyPoints = 3
+number_of StartsOffCurve = 4
+number_of OffCurveNeighbours = 5
+number_of TooManySamples = 6
+number_of TooManyBreaks = 7
+number_of PastLastSample = 8
+number_of OutputTooShort = 9
+number_of NoSuchRun = 10
+number_of NoSuchSegment = 11
+number_of CutShort = 12
+number_of EndsNotRising = 13
+number_of TooLarge = 14
+number_of Composite = 15
+number_of NoSuchPenalty = 16
+number_of Outside16Bits = 17
+number_of ListTooShort = 18
+number_of Malformed = 19
+number_of CubicOrOpen = 20
+number_of NoOnCurve = 21
