@@ -99,7 +99,7 @@ impl Grid {
 }
 
 // A break as a row has it.
-fn packed(b: Break) -> [f64; 6]
+pub fn packed(b: Break) -> [f64; 6]
     ensures { result ≡ packed_of b }
 {
     [b.s, b.xy.x, b.xy.y, b.dir.x, b.dir.y, 0.0]
@@ -126,7 +126,7 @@ pub fn places(len: f64) -> usize
 }
 
 // Whether a place opens a break: the first does, and one that is not close to the last of n.
-fn opens(row: &[[f64; 6]], n: usize, p: Point) -> bool
+pub fn opens(row: &[[f64; 6]], n: usize, p: Point) -> bool
     requires { n ≤ length row.now }
     ensures { result ≡ opens (take n row.now) p }
 {
@@ -138,7 +138,7 @@ fn opens(row: &[[f64; 6]], n: usize, p: Point) -> bool
 }
 
 // A break more, where there is room.
-fn push(row: &mut [[f64; 6]], n: usize, b: Break, dist: f64) -> Result<Progress, Stopped>
+pub fn push(row: &mut [[f64; 6]], n: usize, b: Break, dist: f64) -> Result<Progress, Stopped>
     requires { n ≤ length row.old }
     ensures row { (distance : Float → Float) → opened (length row.old) (take n row.old) b (distance dist) ≡ joined_by distance row.new result }
     ensures count { count_joined result ≤ length row.old }

@@ -107,28 +107,15 @@ module _ (starts ends : List ℕ) (n at i : ℕ) (s : Leading starts ends n at i
         pub leads_on : get_or ends i 0 ≤ n → Leading starts ends n (get_or ends i 0) (i + 1)
         leads_on l xs ys = turn xs ys ∙ follows n at _ _ h k l
 
-pub joined_many : (n : ℕ) (ps : List Piece) → (n ≡ 0 → ⊥) → leads n 0 ps ≡ joined n ps
-joined_many zero ps h = absurd (h refl)
-joined_many (suc n) ps h = refl
-
 module _ (starts ends : List ℕ) (xs ys : List Float) where
-  not_one : (k : ℕ) → (k ≡ 1 → ⊥) → stays (pieces_from starts ends xs ys k 0) ≡ false
+  one_alone : (k : ℕ) → stays (pieces_from starts ends xs ys k 0) ≡ ((eqb k 1 && eqb (get_or starts 0 0) 0) && eqb (get_or ends 0 0) 0)
   unfolding pieces_from
-  not_one zero h = refl
-  not_one (suc zero) h = absurd (h refl)
-  not_one (suc (suc k)) h = refl
+  one_alone zero = refl
+  one_alone (suc zero) = refl
+  one_alone (suc (suc k)) = rw (ne_eqb (suc (suc k)) 1 (λ e. omega (arith, e)))
 
-  pub several : (length starts ≡ 1 → ⊥) → false ≡ joined 0 (chain_in starts ends xs ys)
-  several h = sym (not_one (length starts) h)
-
-  module _ (one : length starts ≡ 1) where
-    pub starts_off : (get_or starts 0 0 ≡ 0 → ⊥) → false ≡ joined 0 (chain_in starts ends xs ys)
-    unfolding pieces_from
-    starts_off h = rw (one, ne_eqb (get_or starts 0 0) 0 h)
-
-    pub starts_there : get_or starts 0 0 ≡ 0 → eqb (get_or ends 0 0) 0 ≡ joined 0 (chain_in starts ends xs ys)
-    unfolding pieces_from
-    starts_there h = rw (one, eq-eqb (get_or starts 0 0) 0 h)
+  pub alone : joined 0 (chain_in starts ends xs ys) ≡ ((eqb (length starts) 1 && eqb (get_or starts 0 0) 0) && eqb (get_or ends 0 0) 0)
+  alone = one_alone (length starts)
 
   -- ---- every break number of a chain that is joined is that of a break
   Within : ℕ → ℕ → Type 0
@@ -209,17 +196,9 @@ module _ (breaks : Row) (before : Option Quad) (p : Piece) (ps : List Piece) whe
   good h = rw h
 
 module _ (breaks : Row) (ps : List Piece) where
-  pub unjoined : joined (length breaks - 1) ps ≡ false → false ≡ good_shape breaks ps
-  unfolding good_shape
-  unjoined h = rw h
-
   pub good_joined : good_shape breaks ps ≡ true → joined (length breaks - 1) ps ≡ true
   unfolding good_shape
   good_joined h = (both (joined (length breaks - 1) ps) (valid_from breaks None ps) h).0
-
-  pub well_joined : joined (length breaks - 1) ps ≡ true → valid_from breaks None ps ≡ good_shape breaks ps
-  unfolding good_shape
-  well_joined h = rw h
 
 -- i pieces are valid, and `before` is what comes before the next
 abbrev pub Passing : Row → List ℕ → List ℕ → List Float → List Float → Option Quad → ℕ → Type 0

@@ -1,6 +1,6 @@
 -- Theorems on the definitions of Valid: equality of f64 values, and what a checker's yes and 8 say. Assumes nothing.
-use Rattle.std.specs.Prelude.{ℕ, ◌*◌, Bool, true, false, not, ◌&&◌, ◌||◌, List, ◌↔◌, ◌≡◌, refl, Float, Option, Some, None}
-use Rattle.std.proofs.Common.{arith, eq-eqb}
+use Rattle.std.specs.Prelude.{◌*◌, Bool, true, false, not, ◌&&◌, ◌||◌, List, ◌↔◌, ◌≡◌, refl, Float, Option, Some, None}
+use Rattle.std.proofs.Common.{eq-eqb}
 use Rattle.std.specs.Float.{nan, inf, fin}
 use Rattle.std.specs.Float.Ieee.{up, down, eq, is_nan}
 use Rattle.breaks.specs.Breaks.{Row}

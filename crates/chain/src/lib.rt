@@ -35,6 +35,7 @@ pub struct Checking {
     pub fallen: usize,
 }
 
+#[tactic(auto, using(crate::proofs::Along::good_joined), unfolding(crate::specs::Valid::check_rows, crate::specs::Valid::checked_chain, crate::specs::Fallen::fallen_rows))]
 pub fn check(
     samples: &[[f64; 4]],
     breaks: &[[f64; 6]],
@@ -49,13 +50,7 @@ pub fn check(
     ensures { (result.said ≡ check_rows samples.now breaks.now penalty starts.now ends.now xs.now ys.now score)
         × (result.fallen ≡ fallen_rows samples.now breaks.now penalty starts.now ends.now xs.now ys.now) }
 {
-    if !shape::are_even(starts, ends, xs, ys) {
-        return Checking {
-            said: Some(false),
-            fallen: 0,
-        };
-    }
-    if !shape::is_good(breaks, starts, ends, xs, ys) {
+    if !shape::are_even(starts, ends, xs, ys) || !shape::is_good(breaks, starts, ends, xs, ys) {
         return Checking {
             said: Some(false),
             fallen: 0,

@@ -9,24 +9,17 @@ pub fn are_even(starts: &[u32], ends: &[u32], xs: &[f64], ys: &[f64]) -> bool
     ensures { result ≡ even_rows starts.now ends.now xs.now ys.now }
 {
     let n = starts.len();
-    if ends.len() != n {
-        return false;
-    }
-    if xs.len() != n {
-        return false;
-    }
-    ys.len() == n
+    ends.len() == n && xs.len() == n && ys.len() == n
 }
 
 pub fn read(starts: &[u32], ends: &[u32], xs: &[f64], ys: &[f64], i: usize) -> Piece
     requires { (i < length starts.now) × (i < length ends.now) × (i < length xs.now) × (i < length ys.now) }
     ensures { result ≡ piece_at starts.now ends.now xs.now ys.now i }
 {
-    let control = Point { x: xs[i], y: ys[i] };
     Piece {
         from: starts[i] as usize,
         to: ends[i] as usize,
-        control,
+        control: Point { x: xs[i], y: ys[i] },
     }
 }
 
@@ -34,15 +27,15 @@ pub fn quad_of(breaks: &[[f64; 6]], p: Piece) -> Quad
     requires { (p.from < length breaks.now) × (p.to < length breaks.now) }
     ensures { result ≡ piece_quad breaks.now p }
 {
-    let a = breaks::read(breaks, p.from);
-    let b = breaks::read(breaks, p.to);
-    let p0 = a.xy;
-    let p1 = p.control;
-    let p2 = b.xy;
-    Quad { p0, p1, p2 }
+    Quad {
+        p0: breaks::read(breaks, p.from).xy,
+        p1: p.control,
+        p2: breaks::read(breaks, p.to).xy,
+    }
 }
 
 // Break numbers, of a run with two breaks or more: the last is n.
+#[tactic(auto, using(crate::proofs::Along::leads_on))]
 fn leads(starts: &[u32], ends: &[u32], n: usize) -> bool
     requires { length ends.now ≡ length starts.now }
     ensures { (xs ys : List Float) → result ≡ leads n 0 (chain_in starts.now ends.now xs ys) }
@@ -51,13 +44,7 @@ fn leads(starts: &[u32], ends: &[u32], n: usize) -> bool
     for i in 0..starts.len() {
         let a = starts[i] as usize;
         let b = ends[i] as usize;
-        if a != at {
-            return false;
-        }
-        if b <= a {
-            return false;
-        }
-        if n < b {
+        if a != at || b <= a || n < b {
             return false;
         }
         at = b;
@@ -66,17 +53,12 @@ fn leads(starts: &[u32], ends: &[u32], n: usize) -> bool
 }
 
 // A run with one break has one piece, staying there.
+#[tactic(auto, using(crate::proofs::Along::alone))]
 fn stays(starts: &[u32], ends: &[u32]) -> bool
     requires { length ends.now ≡ length starts.now }
     ensures { (xs ys : List Float) → result ≡ joined 0 (chain_in starts.now ends.now xs ys) }
 {
-    if starts.len() != 1 {
-        return false;
-    }
-    if starts[0] != 0 {
-        return false;
-    }
-    ends[0] == 0
+    starts.len() == 1 && starts[0] == 0 && ends[0] == 0
 }
 
 fn are_valid(breaks: &[[f64; 6]], starts: &[u32], ends: &[u32], xs: &[f64], ys: &[f64]) -> bool
@@ -107,12 +89,10 @@ fn joins(starts: &[u32], ends: &[u32], n: usize) -> bool
     leads(starts, ends, n)
 }
 
+#[tactic(auto, unfolding(crate::specs::Valid::good_shape))]
 pub fn is_good(breaks: &[[f64; 6]], starts: &[u32], ends: &[u32], xs: &[f64], ys: &[f64]) -> bool
     requires { (0 < length breaks.now) × (even_rows starts.now ends.now xs.now ys.now ≡ true) }
     ensures { result ≡ good_shape breaks.now (chain_in starts.now ends.now xs.now ys.now) }
 {
-    if !joins(starts, ends, breaks.len() - 1) {
-        return false;
-    }
-    are_valid(breaks, starts, ends, xs, ys)
+    joins(starts, ends, breaks.len() - 1) && are_valid(breaks, starts, ends, xs, ys)
 }

@@ -10,10 +10,7 @@ use geometry::Quad;
 fn joint(before: Option<Quad>, q: Quad) -> f64
     ensures { result ≡ joint_of before q }
 {
-    if q.is_line() {
-        return 1.0;
-    }
-    if valid::follows_curve(before, q) {
+    if q.is_line() || valid::follows_curve(before, q) {
         1.0
     } else {
         2.0

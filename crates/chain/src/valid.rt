@@ -5,33 +5,23 @@ ghost use Rattle.chain.specs.Valid.{equals, equal_points, straight, bent, follow
 use geometry::{Break, Point, Quad};
 
 // Equal as f64 values, NaN equal to NaN.
+#[tactic(auto, using(crate::proofs::Single::ne_self))]
 pub fn equals(a: f64, b: f64) -> bool
     ensures { result ≡ equals a b }
 {
-    if a == b {
-        return true;
-    }
-    if a == a {
-        return false;
-    }
-    b != b
+    a == b || (a != a && b != b)
 }
 
 fn equal_points(p: Point, q: Point) -> bool
     ensures { result ≡ equal_points p q }
 {
-    if equals(p.x, q.x) {
-        equals(p.y, q.y)
-    } else {
-        false
-    }
+    equals(p.x, q.x) && equals(p.y, q.y)
 }
 
 fn is_straight(a: Break, b: Break, c: Point) -> bool
     ensures { result ≡ straight a b c }
 {
-    let p = a.xy;
-    equal_points(c, p.lerp(b.xy, 0.5))
+    equal_points(c, a.xy.lerp(b.xy, 0.5))
 }
 
 fn is_bent(a: Break, b: Break, c: Point) -> bool
@@ -48,12 +38,7 @@ pub fn follows_curve(before: Option<Quad>, q: Quad) -> bool
 {
     match before {
         None => false,
-        Some(p) => {
-            if p.is_line() {
-                return false;
-            }
-            p.is_smooth(q)
-        }
+        Some(p) => !p.is_line() && p.is_smooth(q),
     }
 }
 
@@ -61,26 +46,20 @@ pub fn follows_curve(before: Option<Quad>, q: Quad) -> bool
 fn is_valid_whole(a: Break, b: Break, c: Point) -> bool
     ensures { result ≡ (straight a b c || bent a b c) }
 {
-    if is_straight(a, b, c) {
-        return true;
-    }
-    is_bent(a, b, c)
+    is_straight(a, b, c) || is_bent(a, b, c)
 }
 
+#[tactic(auto, using(crate::proofs::Single::from_whole, crate::proofs::Single::from_half))]
 pub fn is_valid(before: Option<Quad>, a: Break, b: Break, c: Point) -> bool
     ensures { result ≡ valid_piece before a b c }
 {
-    let p0 = a.xy;
-    if p0.is_whole() {
+    if a.xy.is_whole() {
         return is_valid_whole(a, b, c);
     }
-    let p2 = b.xy;
-    let q = Quad { p0, p1: c, p2 };
-    if q.is_line() {
-        return false;
-    }
-    if !follows_curve(before, q) {
-        return false;
-    }
-    is_bent(a, b, c)
+    let q = Quad {
+        p0: a.xy,
+        p1: c,
+        p2: b.xy,
+    };
+    !q.is_line() && follows_curve(before, q) && is_bent(a, b, c)
 }

@@ -8,4 +8,3 @@ pub mod Sweeping
 pub mod Restoring
 pub mod Theorems
 pub mod Back
-pub mod Writing

@@ -15,13 +15,6 @@ use Rattle.clean.specs.declared.Passed.{Passed}
 
 -- ---- a point is kept or dropped
 
-pub kept_as : (w i : ℕ) (at : Passed) → w ≡ 0 → record { last = i; kept = at.kept + 1; dropped = at.dropped } ≡ numbered_as w i at
-kept_as w i at h = rw h
-
-pub dropped_as : (w i : ℕ) (at : Passed) → (w ≡ 0 → ⊥) → record { last = at.last; kept = at.kept; dropped = at.dropped + 1 } ≡ numbered_as w i at
-dropped_as zero i at h = absurd (h refl)
-dropped_as (suc w) i at h = refl
-
 module _ (i : ℕ) (kept : List ℕ) (gone : List (List ℕ)) (at : Passed) (k : at.kept < length kept) (d : at.dropped < length gone) where
   -- both rows are given the point; it counts in one of them
   stored : (w : ℕ) → held_in (set kept at.kept i) (set gone at.dropped (i ∷ w ∷ [])) (numbered_as w i at) ≡ step_of w i (held_in kept gone at)

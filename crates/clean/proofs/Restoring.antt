@@ -1,39 +1,19 @@
 -- What the entry's rows hold while drops are put back. Assumes nothing.
-use Rattle.std.specs.Prelude.{Result, Ok, Err}
 use Prim.Native.Nat.{ℕ, zero, suc, min, ◌+◌, ◌-◌, ◌≤◌, ◌<◌}
 use mathlib.Core.Bool.{Bool, true, false}
 use mathlib.Core.List.{List, [], ◌∷◌, map}
 use mathlib.Core.Path.{◌≡◌, refl, sym, ap, ◌∙◌}
 use native.Mathlib.Nat.{le_of_suc-le-suc, le_refl}
 use native.Mathlib.Omega.{arith}
-use borrow.Author.Tests.{ne_eqb, leb-true, leb-false, lt-ltb, le-ltb, ltb-true, ltb-false}
-use lib.Dec.{eqb, leb, ltb}
-use lib.IntN.{ℤ}
+use borrow.Author.Tests.{ne_eqb, leb-true, leb-false}
+use lib.Dec.{eqb, leb}
 use lib.ListN.{length, get_or, set, take, drop, length-map, get_or-map}
 use lib.Seq.{take_all, take_at, drop-cons, drop-length}
-use Rattle.refusals.specs.Refusals.{rows_differ, no_point, refuse}
-use Rattle.refusals.specs.declared.refusal.Refusal.TheVariants.{UnevenRows, NoPoint, TooManyPoints, OutputTooShort}
-use Rattle.refusals.specs.declared.refusal.Refusal.{Refusal}
-use Rattle.rows.specs.Lent.{inputs}
 use Rattle.rows.proofs.Filled.{Filled, more, filled}
-use Rattle.contour.specs.Output.{Outputs, outputs}
 use Rattle.clean.specs.Clean.{up_from}
-use Rattle.clean.specs.PutBack.{number_of, why_of, insert_at, restored, put_back, mark_for, copied_spot, kept_spot, bit_by, spots_of}
-use Rattle.clean.specs.Entry.{spots_into, judged_back, Restores}
+use Rattle.clean.specs.PutBack.{number_of, why_of, insert_at, restored, put_back, mark_for, copied_spot, kept_spot, spots_of}
 use Rattle.clean.specs.Determine.{length_up}
 use Rattle.clean.proofs.Inserting.{insert_end}
-
--- ---- a place that is there does not look past the end
-
-pub any_past : {A : Type 0} (l : List A) (i : ℕ) (d e : A) → i < length l → get_or l i d ≡ get_or l i e
-any_past [] i d e h = absurd (omega arith)
-any_past (a ∷ l) zero d e h = refl
-any_past (a ∷ l) (suc i) d e h = any_past l i d e (le_of_suc-le-suc h)
-
-pub other_bit : (m own : ℕ) → (m ≡ 0 → ⊥) → (m ≡ 1 → ⊥) → 0 ≡ bit_by m own
-other_bit zero own f g = absurd (f refl)
-other_bit (suc zero) own f g = absurd (g refl)
-other_bit (suc (suc m)) own f g = refl
 
 -- ---- one drop
 
@@ -126,47 +106,3 @@ module _ (kept : ℕ) (list : List (List ℕ)) where
 pub spots_are : (n : ℕ) (list : List (List ℕ)) {kept row : List (List ℕ)} → row ≡ put_back copied_spot (kept_spot n) 0 list kept → kept ≡ map kept_spot (up_from 0 n) → row ≡ spots_of n list
 unfolding spots_of
 spots_are n list all first = rw (all, first)
-
-never_fine : {k : Refusal} → ◌≡◌ {A = Result Unit Refusal} (Err k) (Ok tt) → ⊥
-never_fine h = let z : ◌≡◌ {A = ℕ} 0 1 = cc in omega arith
-
--- 3 and 9 are not given
-neither_back : (a b c d : Bool) → refuse UnevenRows a (refuse NoPoint b (refuse TooManyPoints c (refuse OutputTooShort d (Ok tt)))) ≡ Ok tt → (c ≡ false) × (d ≡ false)
-neither_back true b c d h = absurd (never_fine h)
-neither_back false true c d h = absurd (never_fine h)
-neither_back false false true d h = absurd (never_fine h)
-neither_back false false false true h = absurd (never_fine h)
-neither_back false false false false h = (refl, refl)
-
--- of any spots, and so many drops
-module _ (xs ys : List ℤ) (fs : List ℕ) (drops : ℕ) (spots : List (List ℕ)) (ox oy : List ℤ) (of : List ℕ) where
-  abbrev lent_out : Outputs
-  lent_out = outputs ox oy of
-
-  module _ {m n : ℕ} {j : Result Unit Refusal} (two : m ≡ min (length ox) (length oy)) (three : n ≡ min m (length of))
-      (is : j ≡ judged_back (length xs) (length ys) (length fs) drops n) where
-    room_is : min (min (length ox) (length oy)) (length of) ≡ n
-    room_is = rw (← two) (sym three)
-
-    pub put_refused : {k : Refusal} → j ≡ Err k → Restores (inputs xs ys fs) drops spots (record { entry = lent_out; exit = lent_out }) (Err k)
-    put_refused h = record { answer = rw (room_is, ← is, h); values = rw (room_is, ← is, h); left = refl }
-
-    pub put_fits : j ≡ Ok tt →
-        (length fs + drops ≤ 1024) × (length fs + drops ≤ length ox) × (length fs + drops ≤ length oy) × (length fs + drops ≤ length of)
-    put_fits h =
-        let none =
-        neither_back (rows_differ (length xs) (length ys) (length fs)) (no_point (length fs)) (ltb 1024 (length fs + drops)) (ltb n (length fs + drops)) (sym is ∙ h) in
-        let total = ltb-false 1024 (length fs + drops) none.0 in
-        let room = ltb-false n (length fs + drops) none.1 in
-        (total, omega arith, omega arith, omega arith)
-
-    pub put_done : j ≡ Ok tt → {ox' oy' : List ℤ} {of' : List ℕ} → outputs ox' oy' of' ≡ spots_into (inputs xs ys fs) spots lent_out →
-        Restores (inputs xs ys fs) drops spots (record { entry = lent_out; exit = outputs ox' oy' of' }) (Ok (length fs + drops))
-    put_done h e = record { answer = rw (room_is, ← is, h); values = rw (room_is, ← is, h); left = e }
-
-over_is : (n m : ℕ) (t : Bool) → n ≤ 1024 → ltb (1024 - n) m ≡ t → t ≡ ltb 1024 (n + m)
-over_is n m true h e = let g = ltb-true (1024 - n) m e in sym (lt-ltb 1024 (n + m) (omega arith))
-over_is n m false h e = let g = ltb-false (1024 - n) m e in sym (le-ltb 1024 (n + m) (omega arith))
-
-pub over_more : (n m : ℕ) → n ≤ 1024 → ltb (1024 - n) m ≡ ltb 1024 (n + m)
-over_more n m h = over_is n m (ltb (1024 - n) m) h refl

@@ -35,7 +35,7 @@ pub struct Passed {
 fn at_or<T: Copy>(row: &[T], i: usize, past: T) -> T
     ensures { result ≡ get_or row.now i past }
 {
-    if i < row.len() { row[i] } else { past }
+    row.get(i).copied().unwrap_or(past)
 }
 
 // Whether coordinates a and b of a row are equal.
@@ -100,15 +100,15 @@ impl Cleaned {
         requires { (self.kept ≤ 1024) × (self.dropped ≤ 1024) }
         ensures { result ≡ counted_as w self }
     {
-        if w == 0 {
-            return Cleaned {
+        match w {
+            0 => Cleaned {
                 kept: self.kept + 1,
                 dropped: self.dropped,
-            };
-        }
-        Cleaned {
-            kept: self.kept,
-            dropped: self.dropped + 1,
+            },
+            _ => Cleaned {
+                kept: self.kept,
+                dropped: self.dropped + 1,
+            },
         }
     }
 }
@@ -119,17 +119,17 @@ impl Passed {
         requires { (self.kept ≤ 1024) × (self.dropped ≤ 1024) }
         ensures { result ≡ numbered_as w i self }
     {
-        if w == 0 {
-            return Passed {
+        match w {
+            0 => Passed {
                 last: i,
                 kept: self.kept + 1,
                 dropped: self.dropped,
-            };
-        }
-        Passed {
-            last: self.last,
-            kept: self.kept,
-            dropped: self.dropped + 1,
+            },
+            _ => Passed {
+                last: self.last,
+                kept: self.kept,
+                dropped: self.dropped + 1,
+            },
         }
     }
 }
@@ -323,10 +323,7 @@ fn spot_at(spots: &[[u32; 2]], n: usize, i: usize, kept: usize) -> [u32; 2]
     requires { (n ≤ length spots.now) × (kept ≤ 1024) }
     ensures { result ≡ get_or (take n spots.now) i (kept_spot kept) }
 {
-    if i < n {
-        return spots[i];
-    }
-    [kept as u32, 0]
+    spots[..n].get(i).copied().unwrap_or([kept as u32, 0])
 }
 
 // Puts v in at place q of the first n: it is put at their end, and changes places until it stands there.
@@ -403,10 +400,11 @@ fn copy_spots(row: &[i16], spots: &[[u32; 2]], n: usize, out: &mut [i16])
 fn bit_by(mark: u32, own: u8) -> u8
     ensures { result ≡ bit_by mark own }
 {
-    if mark == 0 {
-        return own;
+    match mark {
+        0 => own,
+        1 => 1,
+        _ => 0,
     }
-    if mark == 1 { 1 } else { 0 }
 }
 
 fn copy_bits(row: &[u8], spots: &[[u32; 2]], n: usize, out: &mut [u8])

@@ -79,17 +79,14 @@ pub fn push_piece(points: &mut [[i16; 3]], w: Written, q: Quad) -> Written
 fn coordinate(row: &[i16], i: usize) -> i16
     ensures { result ≡ get_or row.now i (pos 0) }
 {
-    if i < row.len() { row[i] } else { 0 }
+    row.get(i).copied().unwrap_or(0)
 }
 
 // The point at a place, on-curve or off.
 pub fn point_as(on: bool, xs: &[i16], ys: &[i16], i: usize) -> [i16; 3]
     ensures { result ≡ point_as on xs.now ys.now i }
 {
-    if on {
-        return [coordinate(xs, i), coordinate(ys, i), 1];
-    }
-    [coordinate(xs, i), coordinate(ys, i), 0]
+    [coordinate(xs, i), coordinate(ys, i), if on { 1 } else { 0 }]
 }
 
 // No point yet.
@@ -305,11 +302,10 @@ pub fn finish(points: &mut [[i16; 3]], w: Written, closed: bool) -> usize
     requires { w.count ≤ length points.old }
     ensures { Holds points.new result (finished closed (take w.count points.old)) }
 {
-    if closed {
-        return drop_implied(points, w.count, true);
+    if !closed {
+        reverse(points, w.count);
     }
-    reverse(points, w.count);
-    drop_implied(points, w.count, false)
+    drop_implied(points, w.count, closed)
 }
 
 // ---- output

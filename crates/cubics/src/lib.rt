@@ -60,17 +60,13 @@ fn put_rounded(points: &mut [[i16; 3]], m: Made, x: f64, y: f64, on: i16) -> Mad
 fn put_start(points: &mut [[i16; 3]], m: Made, c: Cubic) -> Made
     ensures { (n : Curve) (e b : ℕ) → Roomy e b → ExactCubic c n e b → Makes (before points) m (after points) result (start_point e n ∷ []) }
 {
-    let x = c.x;
-    let y = c.y;
-    put_rounded(points, m, x.p0, y.p0, 1)
+    put_rounded(points, m, c.x.p0, c.y.p0, 1)
 }
 
 fn put_control(points: &mut [[i16; 3]], m: Made, c: Cubic) -> Made
     ensures { (n : Curve) (e b : ℕ) → Roomy (e + 2) (8 * b) → ExactCubic c n e b → Makes (before points) m (after points) result (control_point e n ∷ []) }
 {
-    let x = c.x;
-    let y = c.y;
-    put_rounded(points, m, x.control(), y.control(), 0)
+    put_rounded(points, m, c.x.control(), c.y.control(), 0)
 }
 
 // The points between a cubic's ends: of one that is not halved its control; else those of its first half, the
@@ -78,10 +74,7 @@ fn put_control(points: &mut [[i16; 3]], m: Made, c: Cubic) -> Made
 fn between(points: &mut [[i16; 3]], m: Made, c: Cubic, left: usize) -> Made
     ensures { (n : Curve) (e b : ℕ) → Reach left e b → ExactCubic c n e b → Makes (before points) m (after points) result (between left e n) }
 {
-    if left == 0 {
-        return put_control(points, m, c);
-    }
-    if !c.is_bent() {
+    if left == 0 || !c.is_bent() {
         return put_control(points, m, c);
     }
     let second = c.second();
@@ -96,7 +89,7 @@ fn between(points: &mut [[i16; 3]], m: Made, c: Cubic, left: usize) -> Made
 fn coordinate(row: &[i16], i: usize) -> i16
     ensures { result ≡ get_or row.now i (pos 0) }
 {
-    if i < row.len() { row[i] } else { 0 }
+    row.get(i).copied().unwrap_or(0)
 }
 
 // Whether the point at a place is there and is on-curve.
@@ -159,10 +152,7 @@ fn put_place(
     if on_at(flags, i) {
         return put(points, m, [coordinate(xs, i), coordinate(ys, i), 1], false);
     }
-    if i == 0 {
-        return m;
-    }
-    if on_at(flags, i - 1) {
+    if 0 < i && on_at(flags, i - 1) {
         return between(points, m, cubic_at(xs, ys, i, flags.len()), 5);
     }
     m

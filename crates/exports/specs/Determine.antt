@@ -1,6 +1,6 @@
 -- The promises of the exports determine the report and every lent row; and the report and what is written are those of what is read and of the lengths
--- of the rows alone, whatever the rows held. The exports of GLIF promise what their entries do, and need no law of their own. Assumes nothing.
-use Rattle.std.specs.Prelude.{ℕ, List, ◌≡◌, refl, Result}
+-- of the rows alone, whatever the rows held. Assumes nothing.
+use Rattle.std.specs.Prelude.{ℕ, List, ◌≡◌, refl, length, Result}
 use Rattle.std.proofs.Common.{sym, ap, ◌∙◌}
 use Rattle.refusals.specs.declared.refusal.Refusal.{Refusal}
 use denote.Triple.Both.{Both}
@@ -24,6 +24,14 @@ use Rattle.glyfwrite.specs.Entry as Write
 use Rattle.glyfwrite.specs.Determine as WriteOnce
 use Rattle.glyphs.specs.Entry as Crunch
 use Rattle.glyphs.specs.Determine as CrunchOnce
+use Rattle.glifread.specs.Reads as GlifReads
+use Rattle.glifread.specs.Entry as GlifRead
+use Rattle.glifread.specs.Determine as GlifReadOnce
+use Rattle.glifwrite.specs.Writes.{GivenRows}
+use Rattle.glifwrite.specs.Entry as GlifWrite
+use Rattle.glifwrite.specs.Determine as GlifWriteOnce
+use Rattle.glifs.specs.Entry as GlifCrunch
+use Rattle.glifs.specs.Determine as GlifCrunchOnce
 use Rattle.editions.specs.Entry as Editions
 use Rattle.editions.specs.Determine as EditionsOnce
 use Rattle.editions.specs.declared.entry.Editions as Answers
@@ -33,6 +41,7 @@ use Rattle.exports.specs.Reasons as Reasons
 use Rattle.exports.specs.FromCubics as FromCubics
 use Rattle.exports.specs.WrittenOut as WrittenOut
 use Rattle.exports.specs.Glyph.{read_report, write_report}
+use Rattle.exports.specs.Glif as Glif
 use Rattle.exports.specs.BothEditions as BothEditions
 use Rattle.exports.specs.declared.cleaning.CleanReport.{CleanReport}
 use Rattle.exports.specs.declared.cleaning.PutReport.{PutReport}
@@ -41,6 +50,8 @@ use Rattle.exports.specs.declared.from_cubics.CubicReport.{CubicReport}
 use Rattle.exports.specs.declared.written_out.ExplicitReport.{ExplicitReport}
 use Rattle.exports.specs.declared.glyph.GlyphReadReport.{GlyphReadReport}
 use Rattle.exports.specs.declared.glyph.GlyphWriteReport.{GlyphWriteReport}
+use Rattle.exports.specs.declared.glif_files.GlifReadReport.{GlifReadReport}
+use Rattle.exports.specs.declared.glif_files.GlifWriteReport.{GlifWriteReport}
 use Rattle.exports.specs.declared.both_editions.EditionsReport.{EditionsReport}
 
 -- two answers that are one are shown alike
@@ -154,6 +165,60 @@ pub crunch_equal_orders : {bytes : List ℕ} {settings : Settings} {t t' : Crunc
     Shown write_report (Crunch.Promise bytes settings t) r → Shown write_report (Crunch.Promise bytes settings t') r' → CrunchOnce.Alike r r' t t'
 crunch_equal_orders e s s' =
     let d = CrunchOnce.equal_orders e s.promise s'.promise in
+    record {
+      answer = shown_same s s' d.answer;
+      outcome = d.outcome;
+      left = d.left;
+      left' = d.left';
+      read = d.read;
+      work = d.work;
+      points = d.points;
+    }
+
+-- ---- GLIF files
+
+pub glif_read_determined : {bytes : List ℕ} {w w' : Both GlifReads.Kept GlifReads.Kept} {r r' : GlifReadReport} → w.entry ≡ w'.entry →
+    Shown Glif.read_report (GlifRead.Promise bytes w) r → Shown Glif.read_report (GlifRead.Promise bytes w') r' →
+    GlifReadOnce.Same r r' w.exit w'.exit
+glif_read_determined e s s' =
+    let d = GlifReadOnce.determined e s.promise s'.promise in
+    record { answer = shown_same s s' d.answer; left = d.left }
+
+pub glif_read_equal_orders : {bytes : List ℕ} {w w' : Both GlifReads.Kept GlifReads.Kept} {r r' : GlifReadReport} →
+    GlifReads.rooms_of w.entry ≡ GlifReads.rooms_of w'.entry →
+    Shown Glif.read_report (GlifRead.Promise bytes w) r → Shown Glif.read_report (GlifRead.Promise bytes w') r' → GlifReadOnce.Alike r r' w w'
+glif_read_equal_orders e s s' =
+    let d = GlifReadOnce.equal_orders e s.promise s'.promise in
+    record { answer = shown_same s s' d.answer; file = d.file; rooms = d.rooms; left = d.left; left' = d.left' }
+
+pub glif_write_determined : {bytes : List ℕ} {g : GivenRows} {w w' : Both (List ℕ) (List ℕ)} {r r' : GlifWriteReport} → w.entry ≡ w'.entry →
+    Shown Glif.write_report (GlifWrite.Promise bytes g w) r → Shown Glif.write_report (GlifWrite.Promise bytes g w') r' →
+    GlifWriteOnce.Same r r' w.exit w'.exit
+glif_write_determined e s s' =
+    let d = GlifWriteOnce.determined e s.promise s'.promise in
+    record { answer = shown_same s s' d.answer; left = d.left }
+
+pub glif_write_equal_orders : {bytes : List ℕ} {g : GivenRows} {w w' : Both (List ℕ) (List ℕ)} {r r' : GlifWriteReport} →
+    length w.entry ≡ length w'.entry →
+    Shown Glif.write_report (GlifWrite.Promise bytes g w) r → Shown Glif.write_report (GlifWrite.Promise bytes g w') r' →
+    GlifWriteOnce.Alike bytes g r r' w w'
+glif_write_equal_orders e s s' =
+    let d = GlifWriteOnce.equal_orders e s.promise s'.promise in
+    record { answer = shown_same s s' d.answer; room = d.room; left = d.left; left' = d.left' }
+
+pub glif_crunch_determined : {bytes : List ℕ} {settings : Settings} {t t' : GlifCrunch.LentRows} {r r' : GlifWriteReport} → t.entry ≡ t'.entry →
+    Shown Glif.write_report (GlifCrunch.Promise bytes settings t) r → Shown Glif.write_report (GlifCrunch.Promise bytes settings t') r' →
+    GlifCrunchOnce.Same r r' t.exit t'.exit
+glif_crunch_determined e s s' =
+    let d = GlifCrunchOnce.determined e s.promise s'.promise in
+    record { answer = shown_same s s' d.answer; out = d.out; read = d.read; work = d.work; points = d.points }
+
+pub glif_crunch_equal_orders : {bytes : List ℕ} {settings : Settings} {t t' : GlifCrunch.LentRows} {r r' : GlifWriteReport} →
+    GlifCrunch.rooms_of t.entry ≡ GlifCrunch.rooms_of t'.entry →
+    Shown Glif.write_report (GlifCrunch.Promise bytes settings t) r → Shown Glif.write_report (GlifCrunch.Promise bytes settings t') r' →
+    GlifCrunchOnce.Alike bytes r r' t t'
+glif_crunch_equal_orders e s s' =
+    let d = GlifCrunchOnce.equal_orders e s.promise s'.promise in
     record {
       answer = shown_same s s' d.answer;
       outcome = d.outcome;

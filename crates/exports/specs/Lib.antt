@@ -4,6 +4,7 @@ pub mod Reasons
 pub mod FromCubics
 pub mod WrittenOut
 pub mod Glyph
+pub mod Glif
 pub mod BothEditions
 pub mod Determine
 pub mod Calls

@@ -1,14 +1,42 @@
 // GLIF read, written and crunched.
-
+ghost use Rattle.std.specs.Prelude.{◌≡◌};
+ghost use Rattle.rows.specs.Lent.{Shown};
 ghost use Rattle.settings.specs.Settings.{settings_of};
 ghost use Rattle.edition.specs.Scratch.{scratch};
 ghost use Rattle.glifread.specs.Entry as Reading;
 ghost use Rattle.glifwrite.specs.Entry as Writing;
 ghost use Rattle.glifs.specs.Entry as Crunching;
+ghost use Rattle.exports.specs.Glif.{read_report, write_report};
 
-use glifread::GlifReadReport;
-use glifwrite::GlifWriteReport;
+use glifread::Counts;
+use refusals::Refusal;
 use settings::Settings;
+
+// The number of a refusal, or 0; how many contours and points were read.
+#[repr(C)]
+#[derive(Clone, Copy, Debug, PartialEq, Eq)]
+pub struct GlifReadReport {
+    pub number: u32,
+    pub contours: usize,
+    pub points: usize,
+}
+
+fn read_report(r: Result<Counts, Refusal>) -> GlifReadReport
+    ensures { result ≡ read_report r }
+{
+    match r {
+        Err(k) => GlifReadReport {
+            number: k.number() as u32,
+            contours: 0,
+            points: 0,
+        },
+        Ok(Counts { contours, points }) => GlifReadReport {
+            number: 0,
+            contours,
+            points,
+        },
+    }
+}
 
 #[unsafe(no_mangle)]
 pub extern "C" fn fontcrunch_read_glif(
@@ -19,9 +47,29 @@ pub extern "C" fn fontcrunch_read_glif(
     flags: &mut [u8],
     points: &mut [[usize; 3]],
 ) -> GlifReadReport
-    ensures { Reading.Promise bytes.now (Reading.lent ends xs ys flags points) result }
+    ensures { Shown read_report (Reading.Promise bytes.now (Reading.lent ends xs ys flags points)) result }
 {
-    glifread::read_glif(bytes, ends, xs, ys, flags, points)
+    read_report(glifread::read_glif(bytes, ends, xs, ys, flags, points))
+}
+
+// The number of a refusal, or 0; how many bytes were written.
+#[repr(C)]
+#[derive(Clone, Copy, Debug, PartialEq, Eq)]
+pub struct GlifWriteReport {
+    pub number: u32,
+    pub bytes: usize,
+}
+
+fn write_report(r: Result<usize, Refusal>) -> GlifWriteReport
+    ensures { result ≡ write_report r }
+{
+    match r {
+        Err(k) => GlifWriteReport {
+            number: k.number() as u32,
+            bytes: 0,
+        },
+        Ok(bytes) => GlifWriteReport { number: 0, bytes },
+    }
 }
 
 #[unsafe(no_mangle)]
@@ -33,9 +81,9 @@ pub extern "C" fn fontcrunch_write_glif(
     flags: &[u8],
     out: &mut [u8],
 ) -> GlifWriteReport
-    ensures { Writing.Promise bytes.now (Writing.rows_given ends xs ys flags) (Writing.lent out) result }
+    ensures { Shown write_report (Writing.Promise bytes.now (Writing.rows_given ends xs ys flags) (Writing.lent out)) result }
 {
-    glifwrite::write_glif(bytes, ends, xs, ys, flags, out)
+    write_report(glifwrite::write_glif(bytes, ends, xs, ys, flags, out))
 }
 
 #[unsafe(no_mangle)]
@@ -56,10 +104,10 @@ pub extern "C" fn fontcrunch_crunch_glif(
     links: &mut [u32],
     points: &mut [[i16; 3]],
 ) -> GlifWriteReport
-    ensures { Crunching.Promise bytes.now (settings_of penalty whole_units closed)
-        (Crunching.rows out (Reading.lent ends xs ys flags marks) (scratch samples breaks answers links) points) result }
+    ensures { Shown write_report (Crunching.Promise bytes.now (settings_of penalty whole_units closed)
+        (Crunching.rows out (Reading.lent ends xs ys flags marks) (scratch samples breaks answers links) points)) result }
 {
-    glifs::crunch_glif(
+    write_report(glifs::crunch_glif(
         bytes,
         Settings {
             penalty,
@@ -77,5 +125,5 @@ pub extern "C" fn fontcrunch_crunch_glif(
         answers,
         links,
         points,
-    )
+    ))
 }

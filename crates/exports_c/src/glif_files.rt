@@ -1,12 +1,13 @@
 // GLIF read, written and crunched.
+ghost use Rattle.rows.specs.Lent.{Shown};
 ghost use Rattle.settings.specs.Settings.{settings_of};
 ghost use Rattle.edition.specs.Scratch.{scratch};
 ghost use Rattle.glifread.specs.Entry as Reading;
 ghost use Rattle.glifwrite.specs.Entry as Writing;
 ghost use Rattle.glifs.specs.Entry as Crunching;
+ghost use Rattle.exports.specs.Glif.{read_report, write_report};
 
-use glifread::GlifReadReport;
-use glifwrite::GlifWriteReport;
+use exports::glif_files::{GlifReadReport, GlifWriteReport};
 
 #[unsafe(no_mangle)]
 pub extern "C" fn fontcrunch_read_glif(
@@ -17,7 +18,7 @@ pub extern "C" fn fontcrunch_read_glif(
     flags: &mut [u8],
     points: &mut [[usize; 3]],
 ) -> GlifReadReport
-    ensures { Reading.Promise bytes.now (Reading.lent ends xs ys flags points) result }
+    ensures { Shown read_report (Reading.Promise bytes.now (Reading.lent ends xs ys flags points)) result }
 {
     exports::glif_files::fontcrunch_read_glif(bytes, ends, xs, ys, flags, points)
 }
@@ -31,7 +32,7 @@ pub extern "C" fn fontcrunch_write_glif(
     flags: &[u8],
     out: &mut [u8],
 ) -> GlifWriteReport
-    ensures { Writing.Promise bytes.now (Writing.rows_given ends xs ys flags) (Writing.lent out) result }
+    ensures { Shown write_report (Writing.Promise bytes.now (Writing.rows_given ends xs ys flags) (Writing.lent out)) result }
 {
     exports::glif_files::fontcrunch_write_glif(bytes, ends, xs, ys, flags, out)
 }
@@ -54,8 +55,8 @@ pub extern "C" fn fontcrunch_crunch_glif(
     links: &mut [u32],
     points: &mut [[i16; 3]],
 ) -> GlifWriteReport
-    ensures { Crunching.Promise bytes.now (settings_of penalty whole_units closed)
-        (Crunching.rows out (Reading.lent ends xs ys flags marks) (scratch samples breaks answers links) points) result }
+    ensures { Shown write_report (Crunching.Promise bytes.now (settings_of penalty whole_units closed)
+        (Crunching.rows out (Reading.lent ends xs ys flags marks) (scratch samples breaks answers links) points)) result }
 {
     exports::glif_files::fontcrunch_crunch_glif(
         bytes,

@@ -1,5 +1,7 @@
 -- A file read byte by byte. Definitions only.
-use Rattle.std.specs.Prelude.{ℕ, zero, suc, ◌/◌, ◌%◌, Bool, not, List, eqb, length, get_or, replicate}
+use Rattle.std.specs.Prelude.{ℕ, zero, suc, ◌/◌, ◌%◌, Bool, not, List, eqb, length, get_or, replicate, Option, Some, None}
+use Rattle.refusals.specs.declared.refusal.Refusal.{Refusal}
+use Rattle.refusals.specs.declared.refusal.Refusal.TheVariants.{TooLarge, Malformed, CubicOrOpen, NoOnCurve}
 use Rattle.gliftext.specs.Pick.{pick, both, either}
 use Rattle.gliftext.specs.Table.{class_of, move_of}
 use Rattle.gliftext.specs.Text.{fresh_text, texted}
@@ -44,17 +46,17 @@ unfoldable pub scanned : List ℕ → ℕ → List ℕ → List (List ℕ) → P
 scanned bytes zero names points = pass fresh_scan names points
 scanned bytes (suc k) names points = turned bytes k (scanned bytes k names points)
 
--- 19, 20, 14, 21, each over the whole file before the next; 0 where nothing is refused
-unfoldable pub number_of : Scan → Bool → ℕ
-number_of s utf8 =
+-- 19, 20, 14, 21, each over the whole file before the next
+unfoldable pub refusal_of : Scan → Bool → Option Refusal
+refusal_of s utf8 =
     pick
     (either (either s.text.wrong (either s.tree.wrong s.sum.wrong))
     (either (not (both (eqb s.text.state 12) (both (eqb s.tree.depth 0) s.tree.root))) (not utf8)))
-    19
-    (pick s.sum.cubic 20 (pick s.sum.far 14 (pick s.sum.bare 21 0)))
+    (Some Malformed)
+    (pick s.sum.cubic (Some CubicOrOpen) (pick s.sum.far (Some TooLarge) (pick s.sum.bare (Some NoOnCurve) None)))
 
 unfoldable pub totals_of : Scan → Bool → Totals
-totals_of s utf8 = record { number = number_of s utf8; contours = s.sum.contours; points = s.sum.points; full = s.sum.full }
+totals_of s utf8 = record { refusal = refusal_of s utf8; contours = s.sum.contours; points = s.sum.points; full = s.sum.full }
 
 -- what is found, and the points' row
 pub data Judged : Type 0 where

@@ -1,6 +1,6 @@
 // A file read byte by byte: its points into the scratch row, and what is refused of it.
 ghost use Rattle.std.specs.Prelude.{◌≡◌, ◌<◌, length};
-ghost use Rattle.glif.specs.Scan.{fresh_scan, pass, turned, scanned, number_of, totals_of, judged, judged_of};
+ghost use Rattle.glif.specs.Scan.{fresh_scan, pass, turned, scanned, refusal_of, totals_of, judged, judged_of};
 
 use crate::names::{keep_name, wrong_names};
 use crate::outline::{Sum, keep_point, no_sum, point_met, sum_of};
@@ -8,6 +8,7 @@ use crate::tree::{Tree, no_tree, tree_of};
 use gliftext::{
     Text, action_of, both, class_of, either, fresh_text, is_utf8, move_of, pick, text_of,
 };
+use refusals::Refusal;
 
 #[derive(Clone, Copy, Debug, PartialEq, Eq)]
 pub struct Scan {
@@ -63,23 +64,29 @@ pub fn scan_bytes(bytes: &[u8], names: &mut [usize], points: &mut [[usize; 3]]) 
     s
 }
 
-// 19, 20, 14, 21, or 0: each over the whole file before the next.
-fn number_of(s: Scan, utf8: bool) -> usize
-    ensures { result ≡ number_of s utf8 }
+// 19, 20, 14, 21, or none: each over the whole file before the next.
+fn refusal_of(s: Scan, utf8: bool) -> Option<Refusal>
+    ensures { result ≡ refusal_of s utf8 }
 {
     let text = s.text;
     let tree = s.tree;
     let sum = s.sum;
     let whole = both(text.state == 12, both(tree.depth == 0, tree.root));
     let wrong = either(text.wrong, either(tree.wrong, sum.wrong));
-    let number = pick(sum.cubic, 20, pick(sum.far, 14, pick(sum.bare, 21, 0)));
-    pick(either(wrong, either(!whole, !utf8)), 19, number)
+    let bare = pick(sum.bare, Some(Refusal::NoOnCurve), None);
+    let far = pick(sum.far, Some(Refusal::TooLarge), bare);
+    let later = pick(sum.cubic, Some(Refusal::CubicOrOpen), far);
+    pick(
+        either(wrong, either(!whole, !utf8)),
+        Some(Refusal::Malformed),
+        later,
+    )
 }
 
-// The number of a refusal, or 0; how many contours, how many points as they stand, and as they enter.
+// What the file is refused for; how many contours, how many points as they stand, and as they enter.
 #[derive(Clone, Copy, Debug, PartialEq, Eq)]
 pub struct Totals {
-    pub number: usize,
+    pub refusal: Option<Refusal>,
     pub contours: usize,
     pub points: usize,
     pub full: usize,
@@ -90,7 +97,7 @@ fn totals_in(s: Scan, utf8: bool) -> Totals
 {
     let sum = s.sum;
     Totals {
-        number: number_of(s, utf8),
+        refusal: refusal_of(s, utf8),
         contours: sum.contours,
         points: sum.points,
         full: sum.full,

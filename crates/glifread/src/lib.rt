@@ -4,4 +4,4 @@
 mod enter;
 mod read;
 
-pub use crate::read::{GlifReadReport, read_glif};
+pub use crate::read::{Counts, read_glif};

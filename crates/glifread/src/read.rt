@@ -1,52 +1,59 @@
 // A file into rows: it is judged whole, with its points in the scratch row; then the contours enter the rows.
 ghost use Rattle.std.specs.Prelude.{◌≡◌, length, replicate};
 ghost use Rattle.glifread.specs.Enter.{no_place};
-ghost use Rattle.glifread.specs.Reads.{refusal, report_of, numbered};
+ghost use Rattle.glifread.specs.Reads.{refusal, answer_of};
 ghost use Rattle.glifread.specs.Entry.{lent, Promise};
 
 use crate::enter::enter_all;
 use glif::{Totals, judge};
 use gliftext::pick;
+use refusals::Refusal;
 
-// The number of a refusal, or 0; how many contours and points were read.
-#[repr(C)]
+// How many contours and points were read.
 #[derive(Clone, Copy, Debug, PartialEq, Eq)]
-pub struct GlifReadReport {
-    pub number: u32,
+pub struct Counts {
     pub contours: usize,
     pub points: usize,
 }
 
-// The number of the file's refusal, else 9 where a row is too short.
-fn refuse(f: Totals, ends: usize, xs: usize, ys: usize, flags: usize, points: usize) -> usize
+// What the file is refused for, else 9 where a row is too short.
+fn refuse(
+    f: Totals,
+    ends: usize,
+    xs: usize,
+    ys: usize,
+    flags: usize,
+    points: usize,
+) -> Option<Refusal>
     ensures { result ≡ refusal f ends xs ys flags points }
 {
+    let nine = Some(Refusal::OutputTooShort);
     let output = pick(
         xs < f.full,
-        9,
-        pick(ys < f.full, 9, pick(flags < f.full, 9, 0)),
+        nine,
+        pick(ys < f.full, nine, pick(flags < f.full, nine, None)),
     );
-    let short = pick(ends < f.contours, 9, pick(points < f.points, 9, output));
-    pick(f.number == 0, short, f.number)
+    let short = pick(
+        ends < f.contours,
+        nine,
+        pick(points < f.points, nine, output),
+    );
+    f.refusal.or(short)
 }
 
-fn small(n: usize) -> u32
-    ensures { result ≡ numbered n }
+fn answer_of(f: Totals, k: Option<Refusal>) -> Result<Counts, Refusal>
+    ensures { result ≡ answer_of f k }
 {
-    (n % 256) as u32
-}
-
-fn report_of(f: Totals, k: usize) -> GlifReadReport
-    ensures { result ≡ report_of f k }
-{
-    GlifReadReport {
-        number: small(k),
-        contours: pick(k == 0, f.contours, 0),
-        points: pick(k == 0, f.full, 0),
+    match k {
+        Some(e) => Err(e),
+        None => Ok(Counts {
+            contours: f.contours,
+            points: f.full,
+        }),
     }
 }
 
-fn clear(points: &mut [[usize; 3]])
+pub fn clear(points: &mut [[usize; 3]])
     ensures { points.new ≡ replicate (length points.old) no_place }
 {
     for i in 0..points.len() {
@@ -62,7 +69,7 @@ pub fn read_glif(
     ys: &mut [i16],
     flags: &mut [u8],
     points: &mut [[usize; 3]],
-) -> GlifReadReport
+) -> Result<Counts, Refusal>
     ensures { Promise bytes.now (lent ends xs ys flags points) result }
 {
     clear(points);
@@ -71,12 +78,12 @@ pub fn read_glif(
     enter_all(
         points,
         f.points,
-        pick(k == 0, f.contours, 0),
+        pick(k.is_some(), 0, f.contours),
         ends,
         xs,
         ys,
         flags,
     );
     clear(points);
-    report_of(f, k)
+    answer_of(f, k)
 }

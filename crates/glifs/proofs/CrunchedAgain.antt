@@ -7,6 +7,8 @@ use mathlib.Core.List.{List, [], ◌∷◌, ◌++◌, map-append}
 use mathlib.Core.Path.{◌≡◌, refl, sym, ap, subst, ◌∙◌}
 use borrow.Author.Tests.{le-leb, leb-true, ltb-true, ltb-false}
 use lib.Dec.{eqb, ltb}
+use Rattle.std.specs.Prelude.{Result, Ok, Err, is_ok}
+use Rattle.refusals.specs.declared.refusal.Refusal.{Refusal}
 use lib.IntN.{ℤ, pos, negsuc, neg_ℤ}
 use lib.Signed.{mag}
 use lib.ListN.{length, get_or, set, take, drop, replicate, length-append, length-map, get_or-eq_default}
@@ -19,8 +21,9 @@ use Rattle.contour.specs.Implied.{number}
 use Rattle.contour.specs.Output.{column, flag_of, flags}
 use Rattle.contour.specs.Kept.{StartsOn}
 use Rattle.crunch.proofs.Written.{comes_back}
-use Rattle.glyf.specs.Layout.{in16, all16}
+use Rattle.glyf.specs.Layout.{done, in16, all16}
 use Rattle.glyf.proofs.Codes.{and_left, and_right}
+use Rattle.glyf.proofs.Again.{done_is}
 use Rattle.glyphs.specs.Glyphs.{contours_from, together, ends_from}
 use Rattle.glyphs.specs.Separately.{Each}
 use Rattle.glyphs.proofs.Sixteen.{All16, crunched_16, both}
@@ -29,13 +32,12 @@ use Rattle.gliftext.specs.Pick.{pick}
 use Rattle.glifread.specs.Enter.{signed_of, Rows, rows, put_at, Drawn, drawn, enter_one, enter_to, Walked, walked, pen_up, enter_contour, Entering, entering, enter_next, enter_up_to, Filled, filled, enter_all, ending}
 use Rattle.glifread.specs.Reads.{Rooms, rooms, answer_by, enters_by}
 use Rattle.glifread.specs.Entry.{judged_in}
-use Rattle.glifread.specs.declared.read.GlifReadReport.{GlifReadReport}
+use Rattle.glifread.specs.declared.read.Counts.{Counts}
 use Rattle.glif.specs.Scan as Scan
 use Rattle.glifwrite.specs.Contours.{is_on, end_at, start_of}
 use Rattle.glifwrite.specs.Texts.{Small}
 use Rattle.glifwrite.specs.Writes.{GivenRows, given, answer_of}
-use Rattle.glifs.specs.Numbered.{done, refuse}
-use Rattle.glifs.specs.Glifs.{given_of, first_of, read_of, zero_in}
+use Rattle.glifs.specs.Glifs.{given_of, first_of, found_by, read_of, zero_in}
 use Rattle.glifs.specs.Separately.{contours_of}
 use Rattle.glifs.specs.Back.{OnEach, ReadAgain, CrunchedReadAgain}
 use Rattle.glifs.proofs.Entered.{end_at_lem}
@@ -158,14 +160,12 @@ by_judged (Scan.judged f ps) n h = all_16 ps _ _ h
 zero_16 : (n : Rooms) → Filled16 (zero_in n)
 zero_16 (rooms e x y f m) = so (are (zeros_16 x) (zeros_16 y))
 
-refuse_16 : (k : ℕ) (t : Bool) {g old : GivenRows} → Given16 g → refuse k t (done g) ≡ done old → Given16 old
-refuse_16 k true h e = absurd cc
-refuse_16 k false {g} {old} h e = let same : g ≡ old = cc in subst Given16 same h
+found_16 : (r : Result Counts Refusal) {f : Filled} {old : GivenRows} → Filled16 f → found_by r f ≡ done old → Given16 old
+found_16 (Err k) h e = let z : ◌≡◌ {A = ℕ} 0 1 = cc in absurd (omega arith)
+found_16 (Ok c) h e = subst Given16 (done_is e) (first_16 c.contours c.points h)
 
 read_16 : (n : Rooms) (bytes : List ℕ) {old : GivenRows} → read_of n bytes ≡ done old → Given16 old
-read_16 n bytes e =
-    let r : GlifReadReport = answer_by (judged_in bytes n) n in
-    refuse_16 r.number (not (eqb r.number 0)) (first_16 r.contours r.points (by_judged (judged_in bytes n) n (zero_16 n))) e
+read_16 n bytes e = found_16 (answer_by (judged_in bytes n) n) (by_judged (judged_in bytes n) n (zero_16 n)) e
 
 -- ---- crunched contours
 
@@ -289,7 +289,7 @@ crunched_read_again r settings bytes g out n few room e answer marks =
     let well = good r.work settings (old_16 (read_16 r.read bytes c.read)) c.each in
     let ps : Points = together c.contours in
     let each = on_each c.contours well c.few in
-    let again : (answer_of bytes (given_of c.contours) (length out)).number ≡ 0 = subst (λ (v : GivenRows). (answer_of bytes v (length out)).number ≡ 0) c.are answer in
+    let again : is_ok (answer_of bytes (given_of c.contours) (length out)) ≡ true = subst (λ (v : GivenRows). is_ok (answer_of bytes v (length out)) ≡ true) c.are answer in
     subst (λ (v : GivenRows). ReadAgain bytes v out n) (sym c.are)
     (record {
       no_fault = rows_read_without_fault bytes (ends_from 0 c.contours) (column 0 ps) (column 1 ps) (flags ps) out n few room again each marks;

@@ -1,11 +1,16 @@
 -- Rows in which each contour has an on-curve point, written into a file and read. Assumes nothing.
 use Prim.Native.Nat.{ℕ, zero, suc, ◌+◌, ◌-◌, ◌≤◌, ◌<◌}
 use native.Mathlib.Omega.{arith}
-use mathlib.Core.Bool.{Bool, true, false, not}
+use mathlib.Core.Bool.{Bool, true, false}
 use mathlib.Core.List.{List}
 use mathlib.Core.Path.{◌≡◌, refl, sym, ap, subst, ◌∙◌}
 use borrow.Author.Tests.{le-ltb, ltb-true, ltb-false}
-use lib.Dec.{eqb, ltb}
+use lib.Dec.{ltb}
+use Rattle.std.specs.Prelude.{Option, Some, None, Ok, is_ok}
+use Rattle.std.specs.Option.{option_or}
+use Rattle.refusals.specs.Number.{number_of}
+use Rattle.refusals.specs.declared.refusal.Refusal.{Refusal}
+use Rattle.refusals.specs.declared.refusal.Refusal.TheVariants.{TooLarge, OutputTooShort, Malformed, CubicOrOpen, NoOnCurve}
 use lib.IntN.{ℤ, pos}
 use lib.ListN.{length, take, replicate, length-map, length-replicate}
 use Rattle.contour.specs.Points.{Points}
@@ -18,22 +23,21 @@ use Rattle.gliftext.specs.Pick.{pick, most}
 use Rattle.glif.specs.Outline.{nowhere}
 use Rattle.glif.specs.Scan as Scan
 use Rattle.glif.specs.declared.scan.Totals.{Totals}
-use Rattle.glifread.specs.Enter.{no_place, rows, filled, enter_all}
-use Rattle.glifread.specs.Reads.{refusal, numbered, report_of, Rooms, rooms, refusal_in, answer_by, enters_by}
+use Rattle.glifread.specs.Enter.{no_place, rows, Filled, filled, enter_all}
+use Rattle.glifread.specs.Reads.{nine, refusal, Rooms, rooms, refusal_in, answer_of, answer_by, enters_by}
 use Rattle.glifread.specs.Entry.{judged_in}
-use Rattle.glifread.specs.declared.read.GlifReadReport.{GlifReadReport}
 use Rattle.glifwrite.specs.Contours.{is_on, end_at, start_of}
 use Rattle.glifwrite.specs.Writes.{GivenRows, given, file_in}
 use Rattle.glifwrite.specs.Texts.{written}
-use Rattle.glifs.specs.Numbered.{done, refused, refuse}
-use Rattle.glifs.specs.Glifs.{given_of, first_of, found_by, read_of, zero_in}
-use Rattle.glifs.specs.Back.{OnCurve, OnEach, explicit_each, explicit_count, NoFault, RowsReadExplicit, RowsReadWithoutFault}
+use Rattle.glyf.specs.Layout.{done, refused}
+use Rattle.glifs.specs.Glifs.{given_of, found_by, read_of, zero_in}
+use Rattle.glifs.specs.Back.{OnCurve, OnEach, explicit_each, explicit_count, bytes_in, NoFault, RowsReadExplicit, RowsReadWithoutFault}
 use Rattle.glifs.proofs.Contour.{on_to, Sound}
 use Rattle.glifs.proofs.Whole.{full_at, too_far, row_to}
 use Rattle.glifs.proofs.Written.{reads_written}
 use Rattle.glifs.proofs.Explicit.{Room, shown}
 use Rattle.glifs.proofs.Again.{shown_to, shown_long, ends_long, listed, full_is, enters_explicit}
-use Rattle.glifs.proofs.RoundTrip.{Belong, belongs, short, row_holds, answered_zero}
+use Rattle.glifs.proofs.RoundTrip.{Belong, belongs, short, row_holds, answered_none}
 
 -- ---- a contour with an on-curve point
 
@@ -64,19 +68,27 @@ sound_of {fs} {from} {to} c =
 
 -- ---- numbers of refusals
 
-pick_small : (t : Bool) (a b : ℕ) → a < 19 → b < 19 → pick t a b < 19
+abbrev number_or : Option Refusal → ℕ
+number_or None = 0
+number_or (Some k) = number_of k
+
+pick_small : (t : Bool) (a b : Option Refusal) → number_or a < 19 → number_or b < 19 → number_or (pick t a b) < 19
 unfolding pick
 pick_small true a b h l = h
 pick_small false a b h l = l
 
-refused_is : (n : ℕ) (t : Bool) (g : GivenRows) (k : ℕ) → refuse n t (done g) ≡ refused k → n ≡ k
-refused_is n true g k e = cc
-refused_is n false g k e = let z : ◌≡◌ {A = ℕ} 0 1 = cc in absurd (omega arith)
+or_small : (a b : Option Refusal) → number_or a < 19 → number_or b < 19 → number_or (option_or a b) < 19
+or_small (Some k) b h l = h
+or_small None b h l = l
+
+refused_is : (f : Totals) (o : Option Refusal) (e : Filled) (k : Refusal) → found_by (answer_of f o) e ≡ refused k → number_or o ≡ number_of k
+refused_is f (Some j) e k h = let same : j ≡ k = cc in ap number_of same
+refused_is f None e k h = absurd (let z : ◌≡◌ {A = ℕ} 0 1 = cc in omega arith)
 
 -- ---- what is read of the file
 
 module _ (bs ends : List ℕ) (xs ys : List ℤ) (fs out : List ℕ) (few : length bs ≤ most) (room : length out < most)
-    (answer : (Rattle.glifwrite.specs.Writes.answer_of bs (given ends xs ys fs) (length out)).number ≡ 0) (on : OnEach ends xs ys fs) where
+    (answer : is_ok (Rattle.glifwrite.specs.Writes.answer_of bs (given ends xs ys fs) (length out)) ≡ true) (on : OnEach ends xs ys fs) where
   abbrev g : GivenRows
   g = given ends xs ys fs
 
@@ -84,13 +96,13 @@ module _ (bs ends : List ℕ) (xs ys : List ℤ) (fs out : List ℕ) (few : leng
   ws = written bs g
 
   in_file : Belong (file_in bs) ends (length xs) (length ys) (length fs)
-  in_file = belongs bs ends xs ys fs out few room (answered_zero bs ends xs ys fs (length out) answer)
+  in_file = belongs bs ends xs ys fs out few room (answered_none bs ends xs ys fs (length out) answer)
 
   low : (k : ℕ) → end_at ends k ≤ 65536
-  low = short bs ends xs ys fs out few room (answered_zero bs ends xs ys fs (length out) answer) on.small_x on.small_y on.wide
+  low = short bs ends xs ys fs out few room (answered_none bs ends xs ys fs (length out) answer) on.small_x on.small_y on.wide
 
-  at_front : take (Rattle.glifwrite.specs.Writes.answer_of bs g (length out)).bytes (Rattle.glifwrite.specs.Writes.left_in bs g (length out) out) ≡ ws
-  at_front = row_holds bs ends xs ys fs out few room (answered_zero bs ends xs ys fs (length out) answer) on.small_x on.small_y on.wide
+  at_front : take (bytes_in (Rattle.glifwrite.specs.Writes.answer_of bs g (length out))) (Rattle.glifwrite.specs.Writes.left_in bs g (length out) out) ≡ ws
+  at_front = row_holds bs ends xs ys fs out few room (answered_none bs ends xs ys fs (length out) answer) on.small_x on.small_y on.wide
 
   sound : (k : ℕ) → k < length ends → Sound fs (start_of ends k) (end_at ends k)
   sound k h = sound_of (on.some k h)
@@ -100,37 +112,33 @@ module _ (bs ends : List ℕ) (xs ys : List ℤ) (fs out : List ℕ) (few : leng
   late = too_far ends fs (length ends)
 
   abbrev found : Totals
-  found = record { number = pick late 14 0; contours = length ends; points = start_of ends (length ends); full = full_at ends fs (length ends) }
+  found = record { refusal = pick late (Some TooLarge) None; contours = length ends; points = start_of ends (length ends); full = full_at ends fs (length ends) }
 
   abbrev laid : ℕ → List (List ℕ)
   laid m = row_to bs ends xs ys fs (replicate m no_place) (length ends)
 
   judged_is : (m : ℕ) → m ≤ nowhere → Scan.judged_of ws (replicate m no_place) ≡ Scan.judged found (laid m)
   judged_is m h =
-      reads_written bs few in_file.number ends xs ys fs on.small_x on.small_y low in_file.many sound (replicate m no_place) (omega (arith, length-replicate m no_place))
+      reads_written bs few in_file.passes ends xs ys fs on.small_x on.small_y low in_file.many sound (replicate m no_place) (omega (arith, length-replicate m no_place))
 
   -- ---- none of 19, 20, 21
 
   module _ (e x y f m : ℕ) (few-m : m ≤ most) where
-    number_small : refusal_in found (rooms e x y f m) < 19
+    number_small : number_or (refusal_in found (rooms e x y f m)) < 19
     unfolding refusal
     number_small =
-        pick_small _ _ _ (pick_small _ 9 _ (omega arith) (pick_small _ 9 _ (omega arith) (pick_small _ 9 _ (omega arith) (pick_small _ 9 _ (omega arith) (pick_small _ 9 0 (omega arith) (omega arith))))))
-        (pick_small late 14 0 (omega arith) (omega arith))
+        or_small found.refusal _ (pick_small late (Some TooLarge) None (omega arith) (omega arith))
+        (pick_small _ nine _ (omega arith) (pick_small _ nine _ (omega arith) (pick_small _ nine _ (omega arith) (pick_small _ nine _ (omega arith) (pick_small _ nine None (omega arith) (omega arith))))))
 
-    answer_small : (answer_by (judged_in ws (rooms e x y f m)) (rooms e x y f m)).number < 19
-    unfolding report_of numbered
-    answer_small = rw (judged_is m few-m) (omega (arith, number_small))
-
-    not_above : (k : ℕ) → 19 ≤ k → read_of (rooms e x y f m) ws ≡ refused k → ⊥
+    not_above : (k : Refusal) → 19 ≤ number_of k → read_of (rooms e x y f m) ws ≡ refused k → ⊥
     not_above k h is =
-        let r : GlifReadReport = answer_by (judged_in ws (rooms e x y f m)) (rooms e x y f m) in
-        let rows-read = first_of r.contours r.points (enters_by (judged_in ws (rooms e x y f m)) (rooms e x y f m) (zero_in (rooms e x y f m))) in
-        let number_is : r.number ≡ k = refused_is r.number (not (eqb r.number 0)) rows-read k is in
-        omega (arith, answer_small)
+        let rs : Rooms = rooms e x y f m in
+        let entered : Filled = enters_by (judged_in ws rs) rs (zero_in rs) in
+        let number_is = refused_is found (refusal_in found rs) entered k (sym (ap (λ (j : Scan.Judged). found_by (answer_by j rs) entered) (judged_is m few-m)) ∙ is) in
+        omega (arith, number_small, number_is)
 
     no_fault : NoFault (read_of (rooms e x y f m) ws)
-    no_fault = record { not_19 = not_above 19 (omega arith); not_20 = not_above 20 (omega arith); not_21 = not_above 21 (omega arith) }
+    no_fault = record { not_19 = not_above Malformed (omega arith); not_20 = not_above CubicOrOpen (omega arith); not_21 = not_above NoOnCurve (omega arith) }
 
   -- ---- the rows, with their implied points written out
 
@@ -153,7 +161,7 @@ module _ (bs ends : List ℕ) (xs ys : List ℤ) (fs out : List ℕ) (few : leng
       not_late : late ≡ false
       not_late = le-ltb 65536 (full_at ends fs (length ends)) told
 
-      none_refused : refusal_in found rs ≡ 0
+      none_refused : refusal_in found rs ≡ None
       unfolding refusal pick
       none_refused =
           rw (
@@ -165,8 +173,7 @@ module _ (bs ends : List ℕ) (xs ys : List ℤ) (fs out : List ℕ) (few : leng
             le-ltb (length F) (full_at ends fs (length ends)) places.f,
           )
 
-      report_is : answer_by (judged_in ws rs) rs ≡ record { number = 0; contours = length ends; points = full_at ends fs (length ends) }
-      unfolding report_of numbered pick
+      report_is : answer_by (judged_in ws rs) rs ≡ Ok (record { contours = length ends; points = full_at ends fs (length ends) })
       report_is = rw (judged_is m few-m, none_refused)
 
       rows_are : enters_by (judged_in ws rs) rs (filled E (rows X Y F)) ≡ filled (front (ends_from 0 so) E) (shown X Y F (together so))

@@ -8,21 +8,19 @@ use lib.Dec.{eqb}
 use lib.IntN.{ℤ}
 use lib.ListN.{length, take}
 use lib.Seq.{length-take-le}
-use Rattle.refusals.specs.Number.{number_of}
+use Rattle.std.specs.Prelude.{Result, Err}
 use Rattle.refusals.specs.declared.refusal.Refusal.{Refusal}
-use Rattle.glyf.specs.Layout as Layout
+use Rattle.refusals.specs.declared.refusal.Refusal.TheVariants.{UnevenRows}
 use Rattle.settings.specs.declared.Settings.{Settings}
 use Rattle.contour.specs.Points.{Points}
 use Rattle.edition.specs.Edition as Edition
-use Rattle.glyf.specs.Layout.{count_of, rising}
-use Rattle.glyphs.specs.Glyphs.{contours_from, least_of, crunch_rows}
+use Rattle.glyf.specs.Layout.{Outcome, done, refused, refuse, count_of, rising}
+use Rattle.glyphs.specs.Glyphs.{and_then, contours_from, least_of, crunch_rows}
 use Rattle.glyphs.specs.Stands.{Held}
 use Rattle.glyphs.proofs.Writing.{Anew}
 use Rattle.glifwrite.specs.Writes.{GivenRows, given}
 use Rattle.glifwrite.specs.Entry as Written
-use Rattle.glifwrite.specs.declared.write.GlifWriteReport.{GlifWriteReport}
-use Rattle.glifs.specs.Numbered.{Outcome, done, refused, refuse, and_then, by_number}
-use Rattle.glifs.specs.Glifs.{belong, given_of, renewed_of, refused_by}
+use Rattle.glifs.specs.Glifs.{belong, given_of, renewed_of}
 use Rattle.glifs.specs.Stands.{InRows, Writes}
 
 -- ---- what the test says
@@ -51,38 +49,35 @@ module _ (ends : List ℕ) (xs ys : List ℤ) (fs : List ℕ) {contours count : 
         }
 
     module _ (work : Edition.Rooms) (settings : Settings) (np : ℕ) where
-      abbrev contours_crunched : Layout.Outcome (List Points)
-      contours_crunched =
+      abbrev crunched : Outcome (List Points)
+      crunched =
           crunch_rows work settings (least_of (length xs) (length ys) (length fs) np)
           (contours_from 0 (take contours ends) (take count xs) (take count ys) (take count fs))
-
-      abbrev crunched : Outcome (List Points)
-      crunched = by_number contours_crunched
 
       abbrev renewed : Outcome GivenRows
       renewed =
           renewed_of work settings (length xs) (length ys) (length fs) np (given (take contours ends) (take count xs) (take count ys) (take count fs))
 
-      tested : {b : Bool} → not t ≡ b → renewed ≡ refuse 1 b (and_then crunched (λ cs. done (given_of cs)))
+      tested : {b : Bool} → not t ≡ b → renewed ≡ refuse UnevenRows b (and_then crunched (λ cs. done (given_of cs)))
       tested h =
           let same : belong (take contours ends) (length (take count xs)) ≡ t = ap (belong (take contours ends)) counted ∙ sym e in
-          λ i. refuse 1 ((ap not same ∙ h) i) (and_then crunched (λ cs. done (given_of cs)))
+          λ i. refuse UnevenRows ((ap not same ∙ h) i) (and_then crunched (λ cs. done (given_of cs)))
 
       module _ (bytes out : List ℕ) where
-        pub not_held : not t ≡ true → {r : GlifWriteReport} → r ≡ refused_by 1 → Writes bytes out out renewed r
-        not_held h {r} is = subst (λ (o : Outcome GivenRows). Writes bytes out out o r) (sym (tested h)) (record { answer = is; left = refl })
+        pub not_held : not t ≡ true → Writes bytes out out renewed (Err UnevenRows)
+        not_held h = subst (λ (o : Outcome GivenRows). Writes bytes out out o (Err UnevenRows)) (sym (tested h)) (record { answer = refl; left = refl })
 
         module _ (h : not t ≡ false) where
           after : {o : Outcome (List Points)} → crunched ≡ o → renewed ≡ and_then o (λ cs. done (given_of cs))
           after c = tested h ∙ ap (λ (o : Outcome (List Points)). and_then o (λ cs. done (given_of cs))) c
 
-          pub not_crunched : {k : Refusal} → contours_crunched ≡ Layout.refused k → {r : GlifWriteReport} → r ≡ refused_by (number_of k) → Writes bytes out out renewed r
-          not_crunched c {r} is = subst (λ (o : Outcome GivenRows). Writes bytes out out o r) (sym (after (ap by_number c))) (record { answer = is; left = refl })
+          pub not_crunched : {k : Refusal} → crunched ≡ refused k → Writes bytes out out renewed (Err k)
+          not_crunched {k} c = subst (λ (o : Outcome GivenRows). Writes bytes out out o (Err k)) (sym (after c)) (record { answer = refl; left = refl })
 
-          pub all_crunched : {ends' : List ℕ} {n : ℕ} {xs' ys' : List ℤ} {fs' : List ℕ} → Anew contours_crunched ends' n xs' ys' fs' → {out' : List ℕ} {r : GlifWriteReport} →
+          pub all_crunched : {ends' : List ℕ} {n : ℕ} {xs' ys' : List ℤ} {fs' : List ℕ} → Anew crunched ends' n xs' ys' fs' → {out' : List ℕ} {r : Result ℕ Refusal} →
               Written.Promise bytes (given ends' (take n xs') (take n ys') (take n fs')) (record { entry = out; exit = out' }) r → Writes bytes out out' renewed r
           all_crunched {ends'} {n} {xs'} {ys'} {fs'} a {out'} {r} p =
               let q = a.placed in
               let is : renewed ≡ done (given ends' (take n xs') (take n ys') (take n fs')) =
-              after (ap by_number a.is) ∙ (λ i. done (given (sym a.ends_are i) (sym q.are_xs i) (sym q.are_ys i) (sym q.are_flags i))) in
+              after a.is ∙ (λ i. done (given (sym a.ends_are i) (sym q.are_xs i) (sym q.are_ys i) (sym q.are_flags i))) in
               subst (λ (o : Outcome GivenRows). Writes bytes out out' o r) (sym is) (record { answer = p.answer; left = p.left })

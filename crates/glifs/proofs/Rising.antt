@@ -1,62 +1,52 @@
 -- The rows that are read belong together: the ends rise, and the last of them says as many points as there are. Assumes nothing.
-use Prim.Native.Nat.{ℕ, ◌%◌, ◌≤◌}
+use Prim.Native.Nat.{ℕ, ◌≤◌}
 use native.Mathlib.Omega.{arith}
 use mathlib.Core.Bool.{Bool, true, false, ◌&&◌}
 use mathlib.Core.List.{List}
 use mathlib.Core.Path.{◌≡◌, refl, sym, ap, subst, ◌∙◌}
-use borrow.Author.Tests.{ltb-false, eqb-true, eqb-false, eq-eqb, not-false}
+use borrow.Author.Tests.{ltb-false, eq-eqb}
+use Rattle.std.specs.Prelude.{Option, Some, None, Ok}
+use Rattle.refusals.specs.declared.refusal.Refusal.{Refusal}
+use Rattle.refusals.specs.declared.refusal.Refusal.TheVariants.{OutputTooShort}
 use lib.Dec.{eqb}
 use lib.IntN.{ℤ, pos}
 use lib.ListN.{length, take, replicate, length-replicate}
 use lib.Seq.{length-take-le}
 use Rattle.gliftext.specs.Pick.{pick}
+use Rattle.glyf.proofs.Again.{done_is}
 use Rattle.gliftext.specs.Utf8.{is_utf8}
 use Rattle.glif.specs.Scan.{Pass, pass, Judged, judged, totals_of}
 use Rattle.glif.proofs.Stems.{points_in}
 use Rattle.glif.specs.declared.scan.Scan.{Scan}
 use Rattle.glif.specs.declared.scan.Totals.{Totals}
-use Rattle.glyf.specs.Layout.{count_of, rising}
-use Rattle.glifread.specs.Enter.{no_place, Rows, rows, filled, entering, enter_up_to, at_end, enter_all}
-use Rattle.glifread.specs.Reads.{refusal, numbered, report_of, Rooms, rooms, refusal_in, answer_by, enters_by}
+use Rattle.glyf.specs.Layout.{done, count_of, rising}
+use Rattle.glifread.specs.Enter.{no_place, Rows, rows, filled, entering, enter_up_to, at_end, enter_all, Filled}
+use Rattle.glifread.specs.Reads.{refusal, Rooms, rooms, refusal_in, answer_of, answer_by, enters_by}
 use Rattle.glifread.specs.Entry.{judged_in}
 use Rattle.glifwrite.specs.Writes.{GivenRows, given, scan_in}
-use Rattle.glifs.specs.Numbered.{done, refuse}
 use Rattle.glifs.specs.Separately.{ReadBelongs}
 use Rattle.glifs.specs.Glifs.{zero_in, first_of, found_by, read_of, belong}
-use Rattle.glifs.proofs.Written.{Accepted, accepted, below, file_small, judged_by_lem, found_number}
+use Rattle.glifs.proofs.Written.{Accepted, accepted, passed, first_none, judged_by_lem, found_refusal}
 use Rattle.glifs.proofs.Laid.{wide_of, Laid, laid_least, laid_most, Entered, laid_enters}
 use Rattle.glifs.proofs.Lying.{pass_at, tree_at, row_in, Unrefused, ground_at, all_lies}
 
 -- ---- what is not refused
 
-nine : (t : Bool) (x : ℕ) → pick t 9 x ≡ 0 → (t ≡ false) × (x ≡ 0)
-unfolding pick
-nine true x e = absurd (omega (arith, e))
-nine false x e = (refl, e)
-
-first_zero : (n x : ℕ) → pick (eqb n 0) x n ≡ 0 → (n ≡ 0) × (x ≡ 0)
-unfolding pick
-first_zero n x e = by (eqb n 0) refl e
-  where
-    by : (t : Bool) → eqb n 0 ≡ t → pick t x n ≡ 0 → (n ≡ 0) × (x ≡ 0)
-    by true h g = (eqb-true n 0 h, g)
-    by false h g = absurd (eqb-false n 0 h g)
-
 record Room (f : Totals) (ends xs ys flags points : ℕ) : Type 0 where
-  number : f.number ≡ 0
+  passes : f.refusal ≡ None
   in_ends : f.contours ≤ ends
   in_points : f.points ≤ points
   in_xs : f.full ≤ xs
 
-room_of : (f : Totals) (ends xs ys flags points : ℕ) → refusal f ends xs ys flags points ≡ 0 → Room f ends xs ys flags points
+room_of : (f : Totals) (ends xs ys flags points : ℕ) → refusal f ends xs ys flags points ≡ None → Room f ends xs ys flags points
 unfolding refusal
 room_of f ends xs ys flags points e =
-    let a = first_zero f.number _ e in
-    let b = nine _ _ a.1 in
-    let c = nine _ _ b.1 in
-    let d = nine _ _ c.1 in
+    let a = first_none f.refusal _ e in
+    let b = passed OutputTooShort _ _ a.1 in
+    let c = passed OutputTooShort _ _ b.1 in
+    let d = passed OutputTooShort _ _ c.1 in
     record {
-      number = a.0;
+      passes = a.0;
       in_ends = ltb-false ends f.contours b.0;
       in_points = ltb-false points f.points c.0;
       in_xs = ltb-false xs f.full d.0;
@@ -79,9 +69,9 @@ taken_wide k (rows xs ys fs) h ends c {gends} {gxs} {gys} {gfs} e =
     let b : take k xs ≡ gxs = cc in
     (a, sym (ap length b) ∙ length-take-le k xs h)
 
-refuse_done : {A : Type 0} (n : ℕ) (t : Bool) (a b : A) → refuse n t (done a) ≡ done b → (t ≡ false) × (a ≡ b)
-refuse_done n true a b e = absurd (let z : ◌≡◌ {A = ℕ} 0 1 = cc in omega arith)
-refuse_done n false a b e = (refl, cc)
+none_of : (f : Totals) (o : Option Refusal) (e : Filled) (g : GivenRows) → found_by (answer_of f o) e ≡ done g → o ≡ None
+none_of f (Some k) e g h = absurd (let z : ◌≡◌ {A = ℕ} 0 1 = cc in omega arith)
+none_of f None e g h = refl
 
 module _ (bytes : List ℕ) (e x y f m : ℕ) where
   abbrev row : List (List ℕ)
@@ -105,12 +95,12 @@ module _ (bytes : List ℕ) (e x y f m : ℕ) where
   judged_is : judged_in bytes rs ≡ judged found ps
   judged_is = judged_by_lem bytes row (pass_at bytes row n) refl ∙ ap (judged found) (rows_same bytes (pass_at bytes row n))
 
-  module _ (none : refusal_in found rs ≡ 0) where
+  module _ (none : refusal_in found rs ≡ None) where
     room : Room found e x y f m
     room = room_of found e x y f m none
 
     through : Accepted false s (is_utf8 bytes)
-    through = accepted s (is_utf8 bytes) (sym (found_number s (is_utf8 bytes)) ∙ room.number)
+    through = accepted s (is_utf8 bytes) (sym (found_refusal s (is_utf8 bytes)) ∙ room.passes)
 
     unrefused : Unrefused bytes row n
     unrefused = record { tree = through.tree; bare = through.bare; far = through.late }
@@ -143,8 +133,7 @@ module _ (bytes : List ℕ) (e x y f m : ℕ) where
     unfolding enter_all pick
     enters = rw (judged_is, none) (ap at_end entered.is)
 
-    report : answer_by (judged_in bytes rs) rs ≡ record { number = 0; contours = found.contours; points = found.full }
-    unfolding report_of numbered pick
+    report : answer_by (judged_in bytes rs) rs ≡ Ok (record { contours = found.contours; points = found.full })
     report = rw (judged_is, none)
 
     belongs : (ends : List ℕ) (xs ys : List ℤ) (fs : List ℕ) → read_of rs bytes ≡ done (given ends xs ys fs) → belong ends (length xs) ≡ true
@@ -152,7 +141,7 @@ module _ (bytes : List ℕ) (e x y f m : ℕ) where
     belongs ends xs ys fs read =
         let shown : found_by (answer_by (judged_in bytes rs) rs) (enters_by (judged_in bytes rs) rs (zero_in rs)) ≡ done (first_of found.contours found.full (filled entered.ends entered.rows)) =
         λ i. found_by (report i) (enters i) in
-        let same = (refuse_done 0 false _ _ (sym shown ∙ read)).1 in
+        let same = done_is (sym shown ∙ read) in
         let wide : found.full ≤ wide_of entered.rows = omega (arith, entered.wide_is, room.in_xs, length-replicate x (pos 0)) in
         let taken = taken_wide found.full entered.rows wide entered.ends found.contours same in
         let rise : rising ends ≡ true = subst (λ (l : List ℕ). rising l ≡ true) taken.0 entered.risen.rise in
@@ -160,19 +149,10 @@ module _ (bytes : List ℕ) (e x y f m : ℕ) where
         both_and (rising ends) (eqb (length xs) (count_of ends)) rise (eq-eqb (length xs) (count_of ends) (taken.1 ∙ sym count))
 
   -- what was read was not refused
-  none_refused : (g : GivenRows) → read_of rs bytes ≡ done g → refusal_in found rs ≡ 0
-  unfolding report_of numbered refusal
+  none_refused : (g : GivenRows) → read_of rs bytes ≡ done g → refusal_in found rs ≡ None
   none_refused g read =
-      let k = refusal_in found rs in
-      let report : (answer_by (judged_in bytes rs) rs).number ≡ refusal_in found rs % 256 = ap (λ (j : Judged). (answer_by j rs).number) judged_is in
-      let zero : eqb (answer_by (judged_in bytes rs) rs).number 0 ≡ true = not-false _ (refuse_done _ _ _ g read).0 in
-      let small : refusal_in found rs ≤ 21 =
-      below _ _ found.number 21 (nines _ _ (nines _ _ (nines _ _ (nines _ _ (nines _ 0 (omega arith)))))) (subst (λ (v : ℕ). v ≤ 21) (sym (found_number s (is_utf8 bytes))) (file_small s (is_utf8 bytes))) in
-      let is : refusal_in found rs % 256 ≡ 0 = sym report ∙ eqb-true _ 0 zero in
-      omega arith
-    where
-      nines : (t : Bool) (x : ℕ) → x ≤ 21 → pick t 9 x ≤ 21
-      nines t x h = below t 9 x 21 (omega arith) h
+      let given_rows : Filled = enters_by (judged_in bytes rs) rs (zero_in rs) in
+      none_of found (refusal_in found rs) given_rows g (sym (ap (λ (j : Judged). found_by (answer_by j rs) given_rows) judged_is) ∙ read)
 
 pub read_belongs : ReadBelongs
 read_belongs (rooms e x y f m) bytes ends xs ys fs read = belongs bytes e x y f m (none_refused bytes e x y f m (given ends xs ys fs) read) ends xs ys fs read

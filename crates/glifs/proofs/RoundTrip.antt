@@ -1,8 +1,7 @@
 -- Rows that are written are read back. Assumes nothing.
-use Rattle.std.specs.Prelude.{Ok}
 use Prim.Native.Nat.{ℕ, zero, suc, ◌+◌, ◌-◌, ◌%◌, ◌≤◌, ◌<◌, min}
 use native.Mathlib.Omega.{arith}
-use mathlib.Core.Bool.{Bool, true, false, true≢false}
+use mathlib.Core.Bool.{Bool, true, false, true≢false, false≢true}
 use mathlib.Core.List.{List, [], ◌∷◌}
 use mathlib.Core.Path.{◌≡◌, refl, sym, ap, subst, ◌∙◌}
 use borrow.Author.Tests.{lt-ltb, le-ltb, ltb-true, ltb-false, eqb-true, eqb-false, leb-false}
@@ -12,6 +11,9 @@ use lib.ListN.{length, take, drop, get_or, set, replicate, length-replicate, len
 use lib.Seq.{sets, sets-eq, take_at, paste, take-paste, take_all, length-take-le, get_or-take, get_or-drop}
 use Rattle.refusals.specs.Refusals.{judged, off_neighbours}
 use Rattle.refusals.specs.Accepted as Refusals
+use Rattle.std.specs.Prelude.{Option, Some, None, Result, Ok, is_ok}
+use Rattle.refusals.specs.declared.refusal.Refusal.{Refusal}
+use Rattle.refusals.specs.declared.refusal.Refusal.TheVariants.{UnevenRows, NoPoint, TooLarge, OutputTooShort}
 use Rattle.glyphs.specs.Glyphs.{stretch}
 use Rattle.gliftext.specs.Utf8.{is_utf8}
 use Rattle.gliftext.specs.Pick.{pick, both, either, more, most, sum}
@@ -20,25 +22,24 @@ use Rattle.glif.specs.Scan.{Judged}
 use Rattle.glif.specs.Scan as Scan
 use Rattle.glif.specs.declared.scan.Totals.{Totals}
 use Rattle.glifread.specs.Enter.{no_place, rows, filled, enter_all}
-use Rattle.glifread.specs.Reads.{refusal, numbered, report_of, Rooms, rooms, refusal_in, answer_by, enters_by}
+use Rattle.glifread.specs.Reads.{refusal, Rooms, rooms, refusal_in, answer_by, enters_by}
 use Rattle.glifread.specs.Entry.{judged_in}
 use Rattle.glifwrite.specs.Puts.{Putting, put, put_byte}
 use Rattle.glifwrite.specs.Contours.{is_on, end_at, start_of, empty_to, some_empty, even, rows_refused}
-use Rattle.glifwrite.specs.Writes.{GivenRows, given, no_points, read_to, scan_in, totals_in, place_in, row_in, file_in, refused_by, size_of, number_of, number_in, write_all}
+use Rattle.glifwrite.specs.Writes.{GivenRows, given, no_points, read_to, scan_in, totals_in, place_in, row_in, file_in, refused_by, size_of, answer_as, write_all}
 use Rattle.glifwrite.specs.Writes.{left_in, answer_of}
 use Rattle.glifwrite.specs.Writes as Writes
 use Rattle.glifwrite.specs.Worked as Worked
-use Rattle.glifwrite.specs.declared.write.GlifWriteReport.{GlifWriteReport}
 use Rattle.glifwrite.specs.Outside.{parts_of, put_parts}
 use Rattle.glifwrite.proofs.Outside.{outside_is_kept}
 use Rattle.gliftext.proofs.Picks.{both_true, both_is, or_left, or-false}
 use Rattle.glifwrite.specs.Texts.{put_text, written, Small}
-use Rattle.glifs.specs.Numbered.{done}
+use Rattle.glyf.specs.Layout.{done}
 use Rattle.glifs.specs.Glifs.{found_by, read_of}
-use Rattle.glifs.specs.Back.{LetThrough, left_at_front, RowsReadBack}
+use Rattle.glifs.specs.Back.{LetThrough, bytes_in, left_at_front, RowsReadBack}
 use Rattle.glifs.proofs.Contour.{Plain, plain_sound, plain_round}
 use Rattle.glifs.proofs.Whole.{start_next, start_first, full_at, too_far, row_to}
-use Rattle.glifs.proofs.Written.{below, file_small, judged_by_lem, found_number, reads_written, puts_written}
+use Rattle.glifs.proofs.Written.{passed, first_none, reads_written, puts_written}
 use Rattle.glifs.proofs.Entered.{end_at_lem, ordered, enters_all}
 
 -- ---- a text in a row
@@ -69,35 +70,17 @@ text_front t out h = rw (sets-eq t out 0 (omega arith)) (take_at t (drop (0 + le
 -- ---- rows that belong to a file
 
 pub record Belong (f : Totals) (ends : List ℕ) (nx ny nf : ℕ) : Type 0 where
-  pub number : f.number ≡ 0
+  pub passes : f.refusal ≡ None
   pub same_x : nx ≡ nf
   pub same_y : ny ≡ nf
   pub many : f.contours ≡ length ends
   pub some : (k : ℕ) → k < length ends → start_of ends k < end_at ends k
   pub all : start_of ends (length ends) ≡ nf
 
-first_zero : (n x : ℕ) → pick (eqb n 0) x n ≡ 0 → (n ≡ 0) × (x ≡ 0)
+then_none : (t : Bool) (x : Option Refusal) → pick t x (Some UnevenRows) ≡ None → (t ≡ true) × (x ≡ None)
 unfolding pick
-first_zero n x e = by (eqb n 0) refl e
-  where
-    by : (t : Bool) → eqb n 0 ≡ t → pick t x n ≡ 0 → (n ≡ 0) × (x ≡ 0)
-    by true h g = (eqb-true n 0 h, g)
-    by false h g = absurd (eqb-false n 0 h g)
-
-then_zero : (t : Bool) (x : ℕ) → pick t x 1 ≡ 0 → (t ≡ true) × (x ≡ 0)
-unfolding pick
-then_zero true x e = (refl, e)
-then_zero false x e = absurd (omega (arith, e))
-
-nine_zero : (t : Bool) → ◌≡◌ {A = ℕ} (pick t 9 0) 0 → t ≡ false
-unfolding pick
-nine_zero true e = absurd (omega (arith, e))
-nine_zero false e = refl
-
-two_zero : (t : Bool) → ◌≡◌ {A = ℕ} (pick t 2 0) 0 → t ≡ false
-unfolding pick
-two_zero true e = absurd (omega (arith, e))
-two_zero false e = refl
+then_none true x e = (refl, e)
+then_none false x e = absurd (let z : ◌≡◌ {A = ℕ} 0 1 = cc in omega arith)
 
 none_empty : (ends : List ℕ) (n k : ℕ) → empty_to ends n ≡ false → k < n → start_of ends k < end_at ends k
 unfolding empty_to
@@ -132,12 +115,12 @@ last_end ends nx (suc n) e h g =
     by true k = absurd (true≢false (sym (both_is (eqb nx 0) (ltb 0 (suc n)) k (lt-ltb 0 (suc n) (omega arith))) ∙ g))
     by false k = k
 
-belong : (f : Totals) (ends : List ℕ) (nx ny nf : ℕ) → rows_refused f.number f.contours ends nx ny nf ≡ 0 → Belong f ends nx ny nf
+belong : (f : Totals) (ends : List ℕ) (nx ny nf : ℕ) → rows_refused f.refusal f.contours ends nx ny nf ≡ None → Belong f ends nx ny nf
 unfolding rows_refused even some_empty
 belong f ends nx ny nf e =
-    let a = first_zero f.number _ e in
-    let b = then_zero _ _ a.1 in
-    let c = or-false _ _ (two_zero _ b.1) in
+    let a = first_none f.refusal _ e in
+    let b = then_none _ _ a.1 in
+    let c = or-false _ _ (passed NoPoint _ None b.1).0 in
     let d = both_true _ _ b.0 in
     let p = both_true _ _ d.0 in
     let q = both_true _ _ d.1 in
@@ -145,7 +128,7 @@ belong f ends nx ny nf e =
     let xf : nx ≡ nf = eqb-true nx nf p.1 in
     let count : length ends ≡ f.contours = eqb-true (length ends) f.contours q.1 in
     record {
-      number = a.0;
+      passes = a.0;
       same_x = xf;
       same_y = omega arith;
       many = sym count;
@@ -184,10 +167,10 @@ module _ (bs ends : List ℕ) (xs ys : List ℤ) (fs out : List ℕ) (few : leng
   abbrev g : GivenRows
   g = given ends xs ys fs
 
-  module _ (answered : number_in bs g (length out) ≡ 0) where
-    refused_none : refused_by (file_in bs) g ≡ 0
-    unfolding number_of
-    refused_none = (first_zero (refused_by (file_in bs) g) _ answered).0
+  module _ (answered : Writes.refusal_in bs g (length out) ≡ None) where
+    refused_none : refused_by (file_in bs) g ≡ None
+    unfolding Writes.refusal_of
+    refused_none = (first_none (refused_by (file_in bs) g) _ answered).0
 
     pub belongs : Belong (file_in bs) ends (length xs) (length ys) (length fs)
     belongs = belong (file_in bs) ends (length xs) (length ys) (length fs) refused_none
@@ -208,7 +191,7 @@ module _ (bs ends : List ℕ) (xs ys : List ℤ) (fs out : List ℕ) (few : leng
       ws = written bs g
 
       puts : (q : Putting) → put_parts bs g (parts_of bs (length bs)) q ≡ put_text ws q
-      puts = puts_written bs few belongs.number ends xs ys fs sx sy short
+      puts = puts_written bs few belongs.passes ends xs ys fs sx sy short
 
       all_put : (row : List ℕ) → write_all bs g (length bs) row ≡ put_text ws (put 0 row)
       all_put row = outside_is_kept bs g (length bs) row ∙ puts (put 0 row)
@@ -221,8 +204,8 @@ module _ (bs ends : List ℕ) (xs ys : List ℤ) (fs out : List ℕ) (few : leng
           zero_more = omega arith
 
       size_fits : size_of bs g (refused_by (file_in bs) g) ≤ length out
-      unfolding number_of
-      size_fits = ltb-false (length out) _ (nine_zero _ (first_zero (refused_by (file_in bs) g) _ answered).1)
+      unfolding Writes.refusal_of
+      size_fits = ltb-false (length out) _ (passed OutputTooShort _ None (first_none (refused_by (file_in bs) g) _ answered).1).0
 
       fits : length ws ≤ length out
       fits = omega (arith, size_is, size_fits)
@@ -230,11 +213,10 @@ module _ (bs ends : List ℕ) (xs ys : List ℤ) (fs out : List ℕ) (few : leng
       size_all : size_of bs g (refused_by (file_in bs) g) ≡ length ws
       size_all = omega (arith, size_is, size_fits)
 
-      pub bytes_are : (answer_of bs g (length out)).bytes ≡ length ws
-      unfolding Writes.report_of pick
+      pub bytes_are : bytes_in (answer_of bs g (length out)) ≡ length ws
       bytes_are = rw answered size_all
 
-      pub row_holds : take (answer_of bs g (length out)).bytes (left_in bs g (length out) out) ≡ ws
+      pub row_holds : take (bytes_in (answer_of bs g (length out))) (left_in bs g (length out) out) ≡ ws
       unfolding pick
       row_holds =
           ap (λ (v : ℕ). take v (left_in bs g (length out) out)) bytes_are
@@ -258,7 +240,7 @@ module _ (bs ends : List ℕ) (xs ys : List ℤ) (fs out : List ℕ) (few : leng
         row = replicate m no_place
 
         abbrev found : Totals
-        found = record { number = 0; contours = length ends; points = start_of ends (length ends); full = start_of ends (length ends) }
+        found = record { refusal = None; contours = length ends; points = start_of ends (length ends); full = start_of ends (length ends) }
 
         full_is : (k : ℕ) → k ≤ length ends → full_at ends fs k ≡ start_of ends k
         unfolding full_at
@@ -278,17 +260,17 @@ module _ (bs ends : List ℕ) (xs ys : List ℤ) (fs out : List ℕ) (few : leng
         abbrev ps : List (List ℕ)
         ps = row_to bs ends xs ys fs row (length ends)
 
-        number_is : ◌≡◌ {A = ℕ} (pick (too_far ends fs (length ends)) 14 0) 0
+        refusal_is : pick (too_far ends fs (length ends)) (Some TooLarge) None ≡ None
         unfolding pick
-        number_is = rw not_late
+        refusal_is = rw not_late
 
         judged_is : judged_in (written bs g) rs ≡ Scan.judged found ps
         judged_is =
-            reads_written bs few belongs.number ends xs ys fs through.small_x through.small_y low belongs.many (λ k h. plain_sound (plain k h)) row
+            reads_written bs few belongs.passes ends xs ys fs through.small_x through.small_y low belongs.many (λ k h. plain_sound (plain k h)) row
             (omega (arith, length-replicate m no_place))
-            ∙ (λ i. Scan.judged (record { number = number_is i; contours = length ends; points = start_of ends (length ends); full = full_is (length ends) (omega arith) i }) ps)
+            ∙ (λ i. Scan.judged (record { refusal = refusal_is i; contours = length ends; points = start_of ends (length ends); full = full_is (length ends) (omega arith) i }) ps)
 
-        none_refused : refusal_in found rs ≡ 0
+        none_refused : refusal_in found rs ≡ None
         unfolding refusal pick
         none_refused =
             rw (
@@ -299,9 +281,8 @@ module _ (bs ends : List ℕ) (xs ys : List ℤ) (fs out : List ℕ) (few : leng
               le-ltb (length F) (start_of ends (length ends)) (omega (arith, belongs.all)),
             )
 
-        pub report_is : answer_by (judged_in (written bs g) rs) rs ≡ record { number = 0; contours = length ends; points = length fs }
-        unfolding report_of numbered pick
-        report_is = rw (judged_is, none_refused) (λ i. record { number = 0; contours = length ends; points = belongs.all i })
+        pub report_is : answer_by (judged_in (written bs g) rs) rs ≡ Ok (record { contours = length ends; points = length fs })
+        report_is = rw (judged_is, none_refused) (λ i. Ok (record { contours = length ends; points = belongs.all i }))
 
         pub rows_are : enters_by (judged_in (written bs g) rs) rs (filled E (rows X Y F)) ≡ filled (paste E 0 ends (length ends)) (rows (paste X 0 xs (length fs)) (paste Y 0 ys (length fs)) (paste F 0 fs (length fs)))
         unfolding pick
@@ -313,24 +294,13 @@ module _ (bs ends : List ℕ) (xs ys : List ℤ) (fs out : List ℕ) (few : leng
 
 -- ---- in the words of the statement
 
-small_file : (bs : List ℕ) → (file_in bs).number ≤ 21
-small_file bs =
-    let is = ap (λ (j : Judged). (totals_in j).number) (judged_by_lem bs no_points (read_to bs (length bs)) refl) ∙ found_number (scan_in (read_to bs (length bs))) (is_utf8 bs) in
-    subst (λ (n : ℕ). n ≤ 21) (sym is) (file_small (scan_in (read_to bs (length bs))) (is_utf8 bs))
+none_of : (o : Option Refusal) (size : ℕ) → is_ok (answer_as o size) ≡ true → o ≡ None
+none_of (Some k) size e = absurd (false≢true e)
+none_of None size e = refl
 
-small_rows : (bs ends : List ℕ) (xs ys : List ℤ) (fs : List ℕ) → refused_by (file_in bs) (given ends xs ys fs) ≤ 21
-unfolding rows_refused
-small_rows bs ends xs ys fs =
-    below _ _ (file_in bs).number 21 (below _ _ 1 21 (below _ 2 0 21 (omega arith) (omega arith)) (omega arith)) (small_file bs)
-
-small_number : (bs ends : List ℕ) (xs ys : List ℤ) (fs : List ℕ) (room : ℕ) → number_in bs (given ends xs ys fs) room ≤ 21
-unfolding number_of
-small_number bs ends xs ys fs room =
-    below _ _ (refused_by (file_in bs) (given ends xs ys fs)) 21 (below _ 9 0 21 (omega arith) (omega arith)) (small_rows bs ends xs ys fs)
-
-pub answered_zero : (bs ends : List ℕ) (xs ys : List ℤ) (fs : List ℕ) (room : ℕ) → (answer_of bs (given ends xs ys fs) room).number ≡ 0 → number_in bs (given ends xs ys fs) room ≡ 0
-unfolding Writes.report_of
-answered_zero bs ends xs ys fs room e = omega (arith, e, small_number bs ends xs ys fs room)
+pub answered_none : (bs ends : List ℕ) (xs ys : List ℤ) (fs : List ℕ) (room : ℕ) → is_ok (answer_of bs (given ends xs ys fs) room) ≡ true →
+    Writes.refusal_in bs (given ends xs ys fs) room ≡ None
+answered_none bs ends xs ys fs room e = none_of (Writes.refusal_in bs (given ends xs ys fs) room) _ e
 
 -- the front of a row that was filled
 front : {A : Type 0} (row s : List A) (n : ℕ) → length s ≡ n → n ≤ length row → take n (paste row 0 s n) ≡ s
@@ -341,7 +311,7 @@ front row s n e h =
 pub rows_read_back : RowsReadBack
 rows_read_back bytes ends xs ys fs out (rooms e x y f m) few room answer through suffices =
     let g = given ends xs ys fs in
-    let answered = answered_zero bytes ends xs ys fs (length out) answer in
+    let answered = answered_none bytes ends xs ys fs (length out) answer in
     let belong = belongs bytes ends xs ys fs out few room answered in
     let ws = written bytes g in
     let E : List ℕ = replicate e 0 in
@@ -406,7 +376,7 @@ points_through = record { fine = fine; bits = bits; small_x = small_x; small_y =
 pub reads_points : read_of (rooms 1 2 2 2 2) (left_at_front Worked.file Worked.points (replicate 110 0)) ≡ done Worked.points
 reads_points =
     rows_read_back Worked.file (1 ∷ []) (pos 1 ∷ pos 3 ∷ []) (negsuc 19 ∷ pos 40 ∷ []) (1 ∷ 0 ∷ []) (replicate 110 0) (rooms 1 2 2 2 2) (omega arith) (omega arith)
-    (ap (λ (r : GlifWriteReport). r.number) Worked.reports_bytes) points_through
+    (ap (λ (r : Result ℕ Refusal). is_ok r) Worked.reports_bytes) points_through
     (record {
       in_rows = record { in_ends = omega arith; in_xs = omega arith; in_ys = omega arith; in_flags = omega arith };
       in_marks = omega arith;

@@ -8,33 +8,30 @@ use borrow.Author.Tests.{ltb-false}
 use lib.Dec.{ltb}
 use lib.IntN.{ℤ}
 use lib.ListN.{length}
-use Rattle.refusals.specs.Number.{number_of}
 use Rattle.refusals.specs.declared.refusal.Refusal.{Refusal}
-use Rattle.refusals.specs.declared.refusal.Refusal.TheVariants.{NoSuchPenalty, TooLarge}
-use Rattle.glyf.specs.Layout as Layout
-use Rattle.glyphs.specs.Glyphs as Glyphs
+use Rattle.refusals.specs.declared.refusal.Refusal.TheVariants.{UnevenRows, NoSuchPenalty, TooLarge}
+use Rattle.glyf.specs.Layout.{Outcome, done, refused, refuse}
 use Rattle.settings.specs.Settings.{settings_fine}
 use Rattle.settings.specs.declared.Settings.{Settings}
 use Rattle.contour.specs.Points.{Points}
 use Rattle.edition.specs.Edition as Edition
-use Rattle.glyphs.specs.Glyphs.{contours_from, least_of, crunch_each, numbered, together}
+use Rattle.glyphs.specs.Glyphs.{and_then, contours_from, least_of, crunch_each, numbered, together}
 use Rattle.glyphs.specs.Separately.{FirstRefused}
 use Rattle.glyphs.proofs.Separately.{each, first}
 use Rattle.glifread.specs.Reads.{rooms}
 use Rattle.glifread.specs.Reads as Reads
 use Rattle.glifwrite.specs.Writes.{GivenRows, given}
 use Rattle.glifs.proofs.Rising.{read_belongs}
-use Rattle.glifs.specs.Numbered.{Outcome, done, refused, refuse, and_then, by_number}
 use Rattle.glifs.specs.Glifs.{Rooms, read_of, belong, given_of, renewed_in, crunch_glif_of}
 use Rattle.glifs.specs.Separately.{contours_of, point_room, ContourByContour, WrittenByContours, RefusedByFirst}
 
 module _ (r : Rooms) (settings : Settings) (bytes : List ℕ) (g : GivenRows) where
-  abbrev each_of : GivenRows → Layout.Outcome (List Points)
+  abbrev each_of : GivenRows → Outcome (List Points)
   each_of old = crunch_each r.work settings (point_room r.read r.points) (contours_of old)
 
   module _ (old : GivenRows) (read : read_of r.read bytes ≡ done old) where
-    tested : (news : List Points) → each_of old ≡ Layout.done news → (unfit many : Bool) → ltb 65536 (length (together news)) ≡ many →
-        and_then (by_number (Layout.refuse NoSuchPenalty unfit (Layout.refuse TooLarge many (Layout.done news)))) (λ cs. done (given_of cs)) ≡ done g → ContourByContour r settings bytes g
+    tested : (news : List Points) → each_of old ≡ done news → (unfit many : Bool) → ltb 65536 (length (together news)) ≡ many →
+        and_then (refuse NoSuchPenalty unfit (refuse TooLarge many (done news))) (λ cs. done (given_of cs)) ≡ done g → ContourByContour r settings bytes g
     tested news is true many m e = absurd cc
     tested news is false true m e = absurd cc
     tested news is false false m e = record {
@@ -46,13 +43,13 @@ module _ (r : Rooms) (settings : Settings) (bytes : List ℕ) (g : GivenRows) wh
       few = ltb-false 65536 (length (together news)) m;
     }
 
-    crunched : (o : Layout.Outcome (List Points)) → each_of old ≡ o → and_then (by_number (Glyphs.and_then o (numbered settings))) (λ cs. done (given_of cs)) ≡ done g →
+    crunched : (o : Outcome (List Points)) → each_of old ≡ o → and_then (and_then o (numbered settings)) (λ cs. done (given_of cs)) ≡ done g →
         ContourByContour r settings bytes g
-    crunched (Layout.refused k) is e = absurd cc
-    crunched (Layout.done news) is e = tested news is (not (settings_fine settings)) (ltb 65536 (length (together news))) refl e
+    crunched (refused k) is e = absurd cc
+    crunched (done news) is e = tested news is (not (settings_fine settings)) (ltb 65536 (length (together news))) refl e
 
   belonging : (old : GivenRows) → read_of r.read bytes ≡ done old → (b : Bool) →
-      refuse 1 b (and_then (by_number (Glyphs.and_then (each_of old) (numbered settings))) (λ cs. done (given_of cs))) ≡ done g → ContourByContour r settings bytes g
+      refuse UnevenRows b (and_then (and_then (each_of old) (numbered settings)) (λ cs. done (given_of cs))) ≡ done g → ContourByContour r settings bytes g
   belonging old read true e = absurd cc
   belonging old read false e = crunched old read (each_of old) refl e
 
@@ -72,7 +69,7 @@ module _ (out : ℕ) (work : Edition.Rooms) (points : ℕ) (settings : Settings)
 
   first_by : (n : Reads.Rooms) (ends : List ℕ) (xs ys : List ℤ) (fs : List ℕ) (k : Refusal) → read_of n bytes ≡ done (given ends xs ys fs) →
       belong ends (length xs) ≡ true → FirstRefused work settings k (point_room n points) (contours_from 0 ends xs ys fs) →
-      crunch_glif_of (lent n) settings bytes ≡ refused (number_of k)
+      crunch_glif_of (lent n) settings bytes ≡ refused k
   unfolding crunch_glif_of
   first_by (rooms e x y f m) ends xs ys fs k read belongs l = rw (read, belongs, first work settings k (least_of x y f points) (contours_from 0 ends xs ys fs) l) refl
 

@@ -8,10 +8,14 @@ use borrow.Author.Tests.{eqb-true, not-false}
 use lib.IntN.{ℤ}
 use lib.ListN.{length, take, drop, length-drop, replicate, length-map}
 use lib.Seq.{take_all}
+use Rattle.std.specs.Prelude.{Option, Some, None}
+use Rattle.std.specs.Option.{option_or}
+use Rattle.refusals.specs.declared.refusal.Refusal.{Refusal}
+use Rattle.refusals.specs.declared.refusal.Refusal.TheVariants.{TooLarge, Malformed, CubicOrOpen, NoOnCurve}
 use Rattle.gliftext.specs.Pick.{pick, most}
 use Rattle.gliftext.specs.Utf8.{rune_at, is_utf8}
 use Rattle.glif.specs.Outline.{nowhere}
-use Rattle.glif.specs.Scan.{Pass, pass, scanned, number_of, totals_of, Judged, judged, judged_of}
+use Rattle.glif.specs.Scan.{Pass, pass, scanned, refusal_of, totals_of, Judged, judged, judged_of}
 use Rattle.glif.specs.declared.scan.Scan.{Scan}
 use Rattle.glif.specs.declared.scan.Totals.{Totals}
 use Rattle.glif.specs.declared.tree.Tree.{Tree}
@@ -47,18 +51,23 @@ pub record Accepted (far : Bool) (s : Scan) (u : Bool) : Type 0 where
   pub late : s.sum.far ≡ far
   pub bare : s.sum.bare ≡ false
 
-not_number : (n : ℕ) (t : Bool) (x : ℕ) → (n ≡ 0 → ⊥) → pick t n x ≡ 0 → (t ≡ false) × (x ≡ 0)
+-- where nothing is refused, a test that refuses does not hold
+pub passed : (k : Refusal) (t : Bool) (x : Option Refusal) → pick t (Some k) x ≡ None → (t ≡ false) × (x ≡ None)
 unfolding pick
-not_number n true x h e = absurd (h e)
-not_number n false x h e = (refl, e)
+passed k true x e = absurd (let z : ◌≡◌ {A = ℕ} 0 1 = cc in omega arith)
+passed k false x e = (refl, e)
 
-pub accepted : (s : Scan) (u : Bool) → number_of s u ≡ 0 → Accepted false s u
-unfolding number_of
+pub first_none : (o x : Option Refusal) → option_or o x ≡ None → (o ≡ None) × (x ≡ None)
+first_none (Some k) x e = absurd (let z : ◌≡◌ {A = ℕ} 0 1 = cc in omega arith)
+first_none None x e = (refl, e)
+
+pub accepted : (s : Scan) (u : Bool) → refusal_of s u ≡ None → Accepted false s u
+unfolding refusal_of
 accepted s u e =
-    let a = not_number 19 _ _ (λ g. omega (arith, g)) e in
-    let b = not_number 20 _ _ (λ g. omega (arith, g)) a.1 in
-    let c = not_number 14 _ _ (λ g. omega (arith, g)) b.1 in
-    let d = not_number 21 _ _ (λ g. omega (arith, g)) c.1 in
+    let a = passed Malformed _ _ e in
+    let b = passed CubicOrOpen _ _ a.1 in
+    let c = passed TooLarge _ _ b.1 in
+    let d = passed NoOnCurve _ _ c.1 in
     let p = or-false _ _ a.0 in
     let q = or-false _ _ p.0 in
     let r = or-false _ _ q.1 in
@@ -78,20 +87,9 @@ accepted s u e =
       bare = d.0;
     }
 
-pub number_late : (far : Bool) (s : Scan) (u : Bool) → Accepted far s u → number_of s u ≡ pick far 14 0
-unfolding number_of pick
-number_late far s u a = rw (a.text, a.tree, a.sum, a.state, a.depth, a.root, a.utf8, a.cubic, a.late, a.bare)
-
--- every refusal of a file is below 22
-pub below : (t : Bool) (n x m : ℕ) → n ≤ m → x ≤ m → pick t n x ≤ m
-unfolding pick
-below true n x m h k = h
-below false n x m h k = k
-
-pub file_small : (s : Scan) (u : Bool) → number_of s u ≤ 21
-unfolding number_of
-file_small s u =
-    below _ 19 _ 21 (omega arith) (below s.sum.cubic 20 _ 21 (omega arith) (below s.sum.far 14 _ 21 (omega arith) (below s.sum.bare 21 0 21 (omega arith) (omega arith))))
+pub refusal_late : (far : Bool) (s : Scan) (u : Bool) → Accepted far s u → refusal_of s u ≡ pick far (Some TooLarge) None
+unfolding refusal_of pick
+refusal_late far s u a = rw (a.text, a.tree, a.sum, a.state, a.depth, a.root, a.utf8, a.cubic, a.late, a.bare)
 
 -- ---- the reader's answer, from what is remembered
 
@@ -132,9 +130,9 @@ rune_utf8 : (bs : List ℕ) → rune_at bs (length bs) ≡ 0 → is_utf8 bs ≡ 
 unfolding is_utf8
 rune_utf8 bs e = rw e
 
-pub found_number : (s : Scan) (u : Bool) → (totals_of s u).number ≡ number_of s u
+pub found_refusal : (s : Scan) (u : Bool) → (totals_of s u).refusal ≡ refusal_of s u
 unfolding totals_of
-found_number s u = refl
+found_refusal s u = refl
 
 found_contours : (s : Scan) (u : Bool) → (totals_of s u).contours ≡ s.sum.contours
 unfolding totals_of
@@ -247,7 +245,7 @@ put_append bs g (p ∷ ps) rs q = put_append bs g ps rs (put_part bs g p q)
 
 -- ---- what is put
 
-module _ (bs : List ℕ) (few : length bs ≤ most) (passes : (file_in bs).number ≡ 0) where
+module _ (bs : List ℕ) (few : length bs ≤ most) (passes : (file_in bs).refusal ≡ None) where
   abbrev n : ℕ
   n = length bs
 
@@ -258,7 +256,7 @@ module _ (bs : List ℕ) (few : length bs ≤ most) (passes : (file_in bs).numbe
   file_is = judged_by_lem bs no_points (read_to bs n) refl
 
   file_accepted : Accepted false (scan_in (read_to bs n)) (is_utf8 bs)
-  file_accepted = accepted (scan_in (read_to bs n)) (is_utf8 bs) (sym (found_number (scan_in (read_to bs n)) (is_utf8 bs)) ∙ sym (ap (λ (j : Judged). (totals_in j).number) file_is) ∙ passes)
+  file_accepted = accepted (scan_in (read_to bs n)) (is_utf8 bs) (sym (found_refusal (scan_in (read_to bs n)) (is_utf8 bs)) ∙ sym (ap (λ (j : Judged). (totals_in j).refusal) file_is) ∙ passes)
 
   abbrev seen : Shown bs (at bs n) (read_to bs n)
   seen = shown_at bs n
@@ -384,13 +382,13 @@ module _ (bs : List ℕ) (few : length bs ≤ most) (passes : (file_in bs).numbe
       }
 
       abbrev found : Totals
-      found = record { number = pick late 14 0; contours = length ends; points = start_of ends (length ends); full = full_at ends fs (length ends) }
+      found = record { refusal = pick late (Some TooLarge) None; contours = length ends; points = start_of ends (length ends); full = full_at ends fs (length ends) }
 
       found_is : totals_of s (is_utf8 ws) ≡ found
       unfolding totals_of
       found_is =
           λ j. record {
-            number = number_late late s (is_utf8 ws) written_accepted j;
+            refusal = refusal_late late s (is_utf8 ws) written_accepted j;
             contours = (ap (λ (v : Sum). v.contours) sum_last ∙ counted.contours ∙ count) j;
             points = (ap (λ (v : Sum). v.points) sum_last ∙ counted.points ∙ ap (start_of ends) count) j;
             full = (ap (λ (v : Sum). v.full) sum_last ∙ counted.full ∙ ap (full_at ends fs) count) j;

@@ -1,8 +1,10 @@
 -- What is written is read back: a coordinate, a type, all rows that 1 to 5 let through, and all rows in which each contour has an on-curve point. The
 -- statements; proofs are in proofs/Back.antt, proofs/RoundTrip.antt and proofs/ReadExplicit.antt. Definitions only.
-use Rattle.std.specs.Prelude.{ℕ, ◌≤◌, ◌<◌, true, false, List, [], ◌∷◌, map, ◌≡◌, ℤ, length, take, get_or, Ok}
+use Rattle.std.specs.Prelude.{ℕ, ◌≤◌, ◌<◌, true, false, List, [], ◌∷◌, map, ◌≡◌, ℤ, length, take, get_or, Result, Ok, Err, is_ok}
 use Rattle.std.specs.Int.Signed.{mag}
 use Rattle.refusals.specs.Refusals.{judged}
+use Rattle.refusals.specs.declared.refusal.Refusal.{Refusal}
+use Rattle.refusals.specs.declared.refusal.Refusal.TheVariants.{Malformed, CubicOrOpen, NoOnCurve}
 use Rattle.lines.specs.Text as Text
 use Rattle.gliftext.specs.Pick.{most}
 use Rattle.gliftext.specs.Words.{pushed, no_number, fed_number}
@@ -11,6 +13,7 @@ use Rattle.gliftext.specs.declared.word.Number.{Number}
 use Rattle.glif.specs.Outline.{is_number, is_far, offset_of}
 use Rattle.contour.specs.Points.{Points}
 use Rattle.explicit.specs.Explicit.{explicit_of}
+use Rattle.glyf.specs.Layout.{Outcome, done, refused}
 use Rattle.glyphs.specs.Glyphs.{stretch, contours_from, together}
 use Rattle.glifread.specs.Enter.{signed_of}
 use Rattle.glifread.specs.Reads.{rooms, scratch_room}
@@ -19,7 +22,6 @@ use Rattle.glifwrite.specs.Contours.{is_on, end_at, start_of}
 use Rattle.glifwrite.specs.Writes.{GivenRows, given, answer_of, left_in}
 use Rattle.glifwrite.specs.Texts.{Small}
 use Rattle.settings.specs.declared.Settings.{Settings}
-use Rattle.glifs.specs.Numbered.{Outcome, done, refused}
 use Rattle.glifs.specs.Glifs.{Rooms, read_of, given_of, crunch_glif_of}
 use Rattle.glifs.specs.Stands.{InRows}
 
@@ -70,15 +72,20 @@ pub record Suffice (ends xs ys flags marks contours count : ℕ) : Type 0 where
 abbrev pub suffice : Reads.Rooms → ℕ → ℕ → Type 0
 suffice (rooms ends xs ys flags marks) contours count = Suffice ends xs ys flags marks contours count
 
+-- how many bytes an answer says
+abbrev pub bytes_in : Result ℕ Refusal → ℕ
+bytes_in (Ok n) = n
+bytes_in (Err k) = 0
+
 -- the file at the front of the row that `write_glif` left
 abbrev pub left_at_front : List ℕ → GivenRows → List ℕ → List ℕ
-left_at_front bytes g out = take (answer_of bytes g (length out)).bytes (left_in bytes g (length out) out)
+left_at_front bytes g out = take (bytes_in (answer_of bytes g (length out))) (left_in bytes g (length out) out)
 
--- rows that 1 to 5 let through, flags 0 or 1, read back the same once written: where `write_glif` answers 0, reading what it left gives the rows
+-- rows that 1 to 5 let through, flags 0 or 1, read back the same once written: where `write_glif` refuses nothing, reading what it left gives the rows
 abbrev pub RowsReadBack : Type 0
 RowsReadBack =
     (bytes ends : List ℕ) (xs ys : List ℤ) (fs out : List ℕ) (n : Reads.Rooms) → length bytes ≤ most → length out < most →
-    (answer_of bytes (given ends xs ys fs) (length out)).number ≡ 0 → LetThrough ends xs ys fs → suffice n (length ends) (length xs) →
+    is_ok (answer_of bytes (given ends xs ys fs) (length out)) ≡ true → LetThrough ends xs ys fs → suffice n (length ends) (length xs) →
     read_of n (left_at_front bytes (given ends xs ys fs) out) ≡ done (given ends xs ys fs)
 
 -- ---- rows of any contours that have an on-curve point
@@ -116,25 +123,25 @@ pub record SufficeFor (ends xs ys flags marks contours count full : ℕ) : Type 
 abbrev pub suffice_for : Reads.Rooms → ℕ → ℕ → ℕ → Type 0
 suffice_for (rooms ends xs ys flags marks) contours count full = SufficeFor ends xs ys flags marks contours count full
 
--- Rows in which each contour has an on-curve point: where `write_glif` answers 0, and the ends can tell the points, reading what it left gives the rows with
+-- Rows in which each contour has an on-curve point: where `write_glif` refuses nothing, and the ends can tell the points, reading what it left gives the rows with
 -- their implied points written out.
 abbrev pub RowsReadExplicit : Type 0
 RowsReadExplicit =
     (bytes ends : List ℕ) (xs ys : List ℤ) (fs out : List ℕ) (n : Reads.Rooms) → length bytes ≤ most → length out < most →
-    (answer_of bytes (given ends xs ys fs) (length out)).number ≡ 0 → OnEach ends xs ys fs → explicit_count (given ends xs ys fs) ≤ 65536 →
+    is_ok (answer_of bytes (given ends xs ys fs) (length out)) ≡ true → OnEach ends xs ys fs → explicit_count (given ends xs ys fs) ≤ 65536 →
     suffice_for n (length ends) (length xs) (explicit_count (given ends xs ys fs)) →
     read_of n (left_at_front bytes (given ends xs ys fs) out) ≡ done (given_of (explicit_each (given ends xs ys fs)))
 
 -- whatever rows it is read into, it is refused by none of 19, 20 and 21
 pub record NoFault (o : Outcome GivenRows) : Type 0 where
-  pub not_19 : o ≡ refused 19 → ⊥
-  pub not_20 : o ≡ refused 20 → ⊥
-  pub not_21 : o ≡ refused 21 → ⊥
+  pub not_19 : o ≡ refused Malformed → ⊥
+  pub not_20 : o ≡ refused CubicOrOpen → ⊥
+  pub not_21 : o ≡ refused NoOnCurve → ⊥
 
 abbrev pub RowsReadWithoutFault : Type 0
 RowsReadWithoutFault =
     (bytes ends : List ℕ) (xs ys : List ℤ) (fs out : List ℕ) (n : Reads.Rooms) → length bytes ≤ most → length out < most →
-    (answer_of bytes (given ends xs ys fs) (length out)).number ≡ 0 → OnEach ends xs ys fs → scratch_room n ≤ most →
+    is_ok (answer_of bytes (given ends xs ys fs) (length out)) ≡ true → OnEach ends xs ys fs → scratch_room n ≤ most →
     NoFault (read_of n (left_at_front bytes (given ends xs ys fs) out))
 
 -- ---- what `crunch_glif` wrote
@@ -150,4 +157,4 @@ pub record ReadAgain (bytes : List ℕ) (g : GivenRows) (out : List ℕ) (n : Re
 abbrev pub CrunchedReadAgain : Type 0
 CrunchedReadAgain =
     (r : Rooms) (settings : Settings) (bytes : List ℕ) (g : GivenRows) (out : List ℕ) (n : Reads.Rooms) → length bytes ≤ most → length out < most →
-    crunch_glif_of r settings bytes ≡ done g → (answer_of bytes g (length out)).number ≡ 0 → scratch_room n ≤ most → ReadAgain bytes g out n
+    crunch_glif_of r settings bytes ≡ done g → is_ok (answer_of bytes g (length out)) ≡ true → scratch_room n ≤ most → ReadAgain bytes g out n

@@ -1,5 +1,6 @@
 -- What `crunch_glif` promises, of any bytes, settings and rows. Definitions only.
-use Rattle.std.specs.Prelude.{ℕ, List, ◌≡◌, ℤ, length, replicate}
+use Rattle.std.specs.Prelude.{ℕ, List, ◌≡◌, ℤ, length, replicate, Result}
+use Rattle.refusals.specs.declared.refusal.Refusal.{Refusal}
 use denote.Triple.Both.{Both}
 use Rattle.rows.specs.Rows.{Work, point_zero}
 use Rattle.rows.specs.Lent.{Lent, before, after}
@@ -7,12 +8,11 @@ use Rattle.settings.specs.declared.Settings.{Settings}
 use Rattle.contour.specs.Points.{Points}
 use Rattle.edition.specs.Scratch.{Scratch, cleared}
 use Rattle.edition.specs.Scratch as Scratch
+use Rattle.glyf.specs.Layout.{Outcome}
 use Rattle.glifread.specs.Enter.{no_place}
 use Rattle.glifread.specs.Reads.{Kept, kept, scratch_room}
 use Rattle.glifread.specs.Reads as Reads
 use Rattle.glifwrite.specs.Writes.{GivenRows}
-use Rattle.glifwrite.specs.declared.write.GlifWriteReport.{GlifWriteReport}
-use Rattle.glifs.specs.Numbered.{Outcome}
 use Rattle.glifs.specs.Glifs.{Rooms, zero_in, crunch_glif_of, shown_of, left_of}
 
 -- the row of bytes out, the rows that a file is read into, the rows that a run is worked in, and the row for points
@@ -42,9 +42,9 @@ whole_of bytes settings t = crunch_glif_of (rooms_of t) settings bytes
 abbrev pub zero_kept : Reads.Rooms → Kept
 zero_kept n = kept (zero_in n) (replicate (scratch_room n) no_place)
 
--- the report; the row of bytes, with the new file at its front, or, where refused, what it held; and that every scratch row is zero throughout,
+-- the answer; the row of bytes, with the new file at its front, or, where refused, what it held; and that every scratch row is zero throughout,
 -- whatever it held: the rows that a file is read into are such rows here
-pub record Promise (bytes : List ℕ) (settings : Settings) (t : LentRows) (r : GlifWriteReport) : Type 0 where
+pub record Promise (bytes : List ℕ) (settings : Settings) (t : LentRows) (r : Result ℕ Refusal) : Type 0 where
   pub answer : r ≡ shown_of bytes (length t.entry.out) (whole_of bytes settings t.entry)
   pub out : t.exit.out ≡ left_of bytes (whole_of bytes settings t.entry) t.entry.out
   pub read : t.exit.read ≡ zero_kept (Reads.rooms_of t.entry.read)

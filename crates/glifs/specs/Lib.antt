@@ -1,5 +1,4 @@
 -- Stands is for contracts inside the product alone: no promise of an entry and no statement for a reader speaks of it.
-pub mod Numbered
 pub mod Glifs
 pub mod Stands
 pub mod Entry

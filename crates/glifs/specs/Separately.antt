@@ -1,16 +1,15 @@
 -- A file that is crunched, contour by contour: the statements. Proofs are in proofs/Separately.antt and proofs/Rising.antt. Definitions only.
 use Rattle.std.specs.Prelude.{ℕ, ◌≤◌, true, List, ◌≡◌, ℤ, length}
-use Rattle.refusals.specs.Number.{number_of}
 use Rattle.refusals.specs.declared.refusal.Refusal.{Refusal}
 use Rattle.rows.specs.Lent.{Inputs}
 use Rattle.settings.specs.declared.Settings.{Settings}
 use Rattle.contour.specs.Points.{Points}
+use Rattle.glyf.specs.Layout.{done, refused}
 use Rattle.glyphs.specs.Glyphs.{contours_from, least_of, together}
 use Rattle.glyphs.specs.Separately.{Each, FirstRefused}
 use Rattle.glifread.specs.Reads.{rooms}
 use Rattle.glifread.specs.Reads as Reads
 use Rattle.glifwrite.specs.Writes.{GivenRows, given}
-use Rattle.glifs.specs.Numbered.{done, refused}
 use Rattle.glifs.specs.Glifs.{Rooms, read_of, belong, given_of, crunch_glif_of}
 
 abbrev pub contours_of : GivenRows → List Inputs
@@ -37,9 +36,9 @@ abbrev pub ReadBelongs : Type 0
 ReadBelongs =
     (n : Reads.Rooms) (bytes ends : List ℕ) (xs ys : List ℤ) (fs : List ℕ) → read_of n bytes ≡ done (given ends xs ys fs) → belong ends (length xs) ≡ true
 
--- the first contour that is refused refuses the file by its number
+-- the first contour that is refused refuses the file for the same reason
 abbrev pub RefusedByFirst : Type 0
 RefusedByFirst =
     (r : Rooms) (settings : Settings) (bytes : List ℕ) (ends : List ℕ) (xs ys : List ℤ) (fs : List ℕ) (k : Refusal) →
     read_of r.read bytes ≡ done (given ends xs ys fs) →
-    FirstRefused r.work settings k (point_room r.read r.points) (contours_from 0 ends xs ys fs) → crunch_glif_of r settings bytes ≡ refused (number_of k)
+    FirstRefused r.work settings k (point_room r.read r.points) (contours_from 0 ends xs ys fs) → crunch_glif_of r settings bytes ≡ refused k

@@ -5,19 +5,13 @@ ghost use Rattle.edition.specs.Scratch.{scratch, rooms_in};
 ghost use Rattle.glifread.specs.Enter.{no_place};
 ghost use Rattle.glifread.specs.Entry.{lent};
 ghost use Rattle.glifwrite.specs.Writes.{given};
-ghost use Rattle.glifs.specs.Glifs.{refused_by, renewed_of};
+ghost use Rattle.glifs.specs.Glifs.{renewed_of};
 ghost use Rattle.glifs.specs.Stands.{InRows, Writes};
 ghost use Rattle.glifs.specs.Entry.{rows, whole_of, Promise};
 
 use crate::lent::{belongs, clear_rows};
-use glifwrite::GlifWriteReport;
+use refusals::Refusal;
 use settings::Settings;
-
-fn refused(number: u32) -> GlifWriteReport
-    ensures { result ≡ refused_by number }
-{
-    GlifWriteReport { number, bytes: 0 }
-}
 
 // The contours that stand in the first places of the rows. That these belong together is tested, and never fails.
 fn crunch_read(
@@ -35,28 +29,26 @@ fn crunch_read(
     answers: &mut [[f64; 3]],
     links: &mut [u32],
     points: &mut [[i16; 3]],
-) -> GlifWriteReport
+) -> Result<usize, Refusal>
     requires { InRows (length ends.old) (length xs.old) (length ys.old) (length flags.old) contours count }
     ensures { Writes bytes.now (before out) (after out)
         (renewed_of (rooms_in samples breaks answers links) settings (room xs) (room ys) (room flags) (room points)
         (given (take contours (before ends)) (take count (before xs)) (take count (before ys)) (take count (before flags)))) result }
 {
     if !belongs(&ends[..contours], count) {
-        return refused(1);
+        return Err(Refusal::UnevenRows);
     }
-    match glyphs::crunch_rows(
+    let n = glyphs::crunch_rows(
         contours, count, settings, ends, xs, ys, flags, samples, breaks, answers, links, points,
-    ) {
-        Err(k) => refused(k.number() as u32),
-        Ok(n) => glifwrite::write_glif(
-            bytes,
-            &ends[..contours],
-            &xs[..n],
-            &ys[..n],
-            &flags[..n],
-            out,
-        ),
-    }
+    )?;
+    glifwrite::write_glif(
+        bytes,
+        &ends[..contours],
+        &xs[..n],
+        &ys[..n],
+        &flags[..n],
+        out,
+    )
 }
 
 // The whole, but for the scratch rows, which are left as they are.
@@ -74,20 +66,29 @@ fn crunch_bytes(
     answers: &mut [[f64; 3]],
     links: &mut [u32],
     points: &mut [[i16; 3]],
-) -> GlifWriteReport
+) -> Result<usize, Refusal>
     ensures writes { Writes bytes.now (before out) (after out)
         (whole_of bytes.now settings (rows out (lent ends xs ys flags marks) (scratch samples breaks answers links) points).entry) result }
     ensures marks_value { after marks ≡ replicate (room marks) no_place }
 {
     clear_rows(ends, xs, ys, flags);
-    let f = glifread::read_glif(bytes, ends, xs, ys, flags, marks);
-    if f.number == 0 {
-        return crunch_read(
-            bytes, f.contours, f.points, settings, out, ends, xs, ys, flags, samples, breaks,
-            answers, links, points,
-        );
-    }
-    refused(f.number)
+    let read = glifread::read_glif(bytes, ends, xs, ys, flags, marks)?;
+    crunch_read(
+        bytes,
+        read.contours,
+        read.points,
+        settings,
+        out,
+        ends,
+        xs,
+        ys,
+        flags,
+        samples,
+        breaks,
+        answers,
+        links,
+        points,
+    )
 }
 
 pub fn crunch_glif(
@@ -104,7 +105,7 @@ pub fn crunch_glif(
     answers: &mut [[f64; 3]],
     links: &mut [u32],
     points: &mut [[i16; 3]],
-) -> GlifWriteReport
+) -> Result<usize, Refusal>
     ensures { Promise bytes.now settings (rows out (lent ends xs ys flags marks) (scratch samples breaks answers links) points) result }
 {
     let r = crunch_bytes(

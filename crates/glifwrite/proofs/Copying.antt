@@ -6,6 +6,10 @@ use mathlib.Core.Path.{◌≡◌, ap, ◌∙◌}
 use native.Mathlib.Numerals.{add-one}
 use native.Mathlib.Omega.{arith}
 use lib.Dec.{eqb, ltb}
+use Rattle.std.specs.Prelude.{Option, Some, None, is_some, Result}
+use Rattle.std.specs.Option.{option_or}
+use Rattle.refusals.specs.declared.refusal.Refusal.{Refusal}
+use Rattle.refusals.specs.declared.refusal.Refusal.TheVariants.{OutputTooShort}
 use lib.IntN.{ℤ}
 use lib.ListN.{length, replicate}
 use Rattle.gliftext.specs.Pick.{pick, both, more}
@@ -15,9 +19,8 @@ use Rattle.glif.specs.declared.scan.Totals.{Totals}
 use Rattle.glifwrite.specs.Puts.{Putting, put, put_range}
 use Rattle.glifwrite.specs.Contours.{end_at, start_of, put_to, rows_refused}
 use Rattle.glifwrite.specs.Writes.{GivenRows, given, no_points, read_to, Copying, copying, no_copy, copy_on, copy_to, write_all}
-use Rattle.glifwrite.specs.Writes.{place_in, row_in, totals_in, refused_by, file_in, number_of, report_of, number_in, answer_of, left_in}
+use Rattle.glifwrite.specs.Writes.{place_in, row_in, totals_in, refused_by, file_in, refusal_of, answer_as, refusal_in, answer_of, left_in}
 use Rattle.glifwrite.specs.declared.write.Copy.{Copy}
-use Rattle.glifwrite.specs.declared.write.GlifWriteReport.{GlifWriteReport}
 
 pub copy_is : (bs ends : List ℕ) (xs ys : List ℤ) (fs : List ℕ) (i : ℕ) (s t : Scan) (c : Copy) (out : List ℕ) {opens closes : Bool} {tag next stop a
     last first end at count from : ℕ}
@@ -48,36 +51,36 @@ copy_all bs g n out₀ {i} h k e f =
     f ∙ rw (← same, ← e)
 
 -- at most so many bytes are read
-pub few : (t : Bool) {n m : ℕ} → m ≡ pick t n 0 → m ≤ n
+pub few : (t : Bool) {n m : ℕ} → m ≡ pick t 0 n → m ≤ n
 unfolding pick
 few true {n} {m} e = omega arith
 few false {n} {m} e = omega arith
 
-module _ (bytes ends : List ℕ) (xs ys : List ℤ) (fs out : List ℕ) {f : Totals} {p : List (List ℕ)} {k n size nine number m place : ℕ} {nothing out' :
-    List ℕ} {r : GlifWriteReport}
-    (found : judged f p ≡ judged_of bytes no_points) (refused : k ≡ rows_refused f.number f.contours ends (length xs) (length ys) (length fs))
-    (many : n ≡ pick (eqb k 0) (length bytes) 0) (measured : put size nothing ≡ write_all bytes (given ends xs ys fs) n (replicate 1 0))
-    (short : nine ≡ pick (ltb (length out) size) 9 0) (numbered : number ≡ pick (eqb k 0) nine k) (most : m ≡ pick (eqb number 0) (length bytes) 0)
-    (written : put place out' ≡ write_all bytes (given ends xs ys fs) m out) (report : r ≡ report_of number size) where
+module _ (bytes ends : List ℕ) (xs ys : List ℤ) (fs out : List ℕ) {f : Totals} {p : List (List ℕ)} {k nine last : Option Refusal} {n size m place : ℕ} {nothing out' :
+    List ℕ} {r : Result ℕ Refusal}
+    (found : judged f p ≡ judged_of bytes no_points) (refused : k ≡ rows_refused f.refusal f.contours ends (length xs) (length ys) (length fs))
+    (many : n ≡ pick (is_some k) 0 (length bytes)) (measured : put size nothing ≡ write_all bytes (given ends xs ys fs) n (replicate 1 0))
+    (short : nine ≡ pick (ltb (length out) size) (Some OutputTooShort) None) (all : last ≡ option_or k nine) (most : m ≡ pick (is_some last) 0 (length bytes))
+    (written : put place out' ≡ write_all bytes (given ends xs ys fs) m out) (answer : r ≡ answer_as last size) where
   abbrev g : GivenRows
   g = given ends xs ys fs
 
-  abbrev refusal : ℕ
+  abbrev refusal : Option Refusal
   refusal = refused_by (file_in bytes) g
 
   is_refusal : k ≡ refusal
   is_refusal = refused ∙ ap (λ (j : Judged). refused_by (totals_in j) g) found
 
-  is_size : size ≡ place_in (write_all bytes g (pick (eqb refusal 0) (length bytes) 0) (replicate 1 0))
-  is_size = ap place_in measured ∙ ap (λ (v : ℕ). place_in (write_all bytes g v (replicate 1 0))) (many ∙ ap (λ (v : ℕ). pick (eqb v 0) (length bytes) 0)
+  is_size : size ≡ place_in (write_all bytes g (pick (is_some refusal) 0 (length bytes)) (replicate 1 0))
+  is_size = ap place_in measured ∙ ap (λ (v : ℕ). place_in (write_all bytes g v (replicate 1 0))) (many ∙ ap (λ (o : Option Refusal). pick (is_some o) 0 (length bytes))
       is_refusal)
 
-  is_number : number ≡ number_in bytes g (length out)
-  unfolding number_of
-  is_number = numbered ∙ rw (short, is_size, is_refusal)
+  is_last : last ≡ refusal_in bytes g (length out)
+  unfolding refusal_of
+  is_last = all ∙ rw (short, is_size, is_refusal)
 
   pub write_answer : r ≡ answer_of bytes g (length out)
-  write_answer = report ∙ rw (is_number, is_size)
+  write_answer = answer ∙ rw (is_last, is_size)
 
   pub write_left : out' ≡ left_in bytes g (length out) out
-  write_left = ap row_in written ∙ ap (λ (v : ℕ). row_in (write_all bytes g v out)) (most ∙ ap (λ (v : ℕ). pick (eqb v 0) (length bytes) 0) is_number)
+  write_left = ap row_in written ∙ ap (λ (v : ℕ). row_in (write_all bytes g v out)) (most ∙ ap (λ (o : Option Refusal). pick (is_some o) 0 (length bytes)) is_last)

@@ -1,5 +1,8 @@
 -- The points of a contour of the rows, and what is asked of these. Definitions only.
-use Rattle.std.specs.Prelude.{ℕ, zero, suc, ◌-◌, ◌%◌, Bool, false, List, eqb, ltb, leb, ℤ, pos, length, get_or}
+use Rattle.std.specs.Prelude.{ℕ, zero, suc, ◌-◌, ◌%◌, Bool, false, List, eqb, ltb, leb, ℤ, pos, length, get_or, Option, Some, None}
+use Rattle.std.specs.Option.{option_or}
+use Rattle.refusals.specs.declared.refusal.Refusal.{Refusal}
+use Rattle.refusals.specs.declared.refusal.Refusal.TheVariants.{UnevenRows, NoPoint}
 use Rattle.gliftext.specs.Pick.{pick, both, either, sum}
 use Rattle.glifwrite.specs.Puts.{Putting, put_point}
 
@@ -37,9 +40,10 @@ even contours ends xs ys flags =
     both (both (eqb xs ys) (eqb xs flags))
     (both (either (eqb xs (end_at ends (length ends - 1))) (eqb xs 0)) (eqb (length ends) contours))
 
--- the file's own number; 1; 2
-unfoldable pub rows_refused : ℕ → ℕ → List ℕ → ℕ → ℕ → ℕ → ℕ
-rows_refused number contours ends xs ys flags =
-    pick (eqb number 0)
-    (pick (even contours ends xs ys flags) (pick (either (some_empty ends) (both (eqb xs 0) (ltb 0 (length ends)))) 2 0) 1)
-    number
+-- the file's own refusal; 1; 2
+unfoldable pub rows_refused : Option Refusal → ℕ → List ℕ → ℕ → ℕ → ℕ → Option Refusal
+rows_refused refusal contours ends xs ys flags =
+    option_or refusal
+    (pick (even contours ends xs ys flags)
+    (pick (either (some_empty ends) (both (eqb xs 0) (ltb 0 (length ends)))) (Some NoPoint) None)
+    (Some UnevenRows))

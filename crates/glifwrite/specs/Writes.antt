@@ -1,5 +1,8 @@
 -- A file with the insides of its contours replaced. Definitions only.
-use Rattle.std.specs.Prelude.{ℕ, zero, suc, ◌-◌, ◌%◌, Bool, List, eqb, ltb, ℤ, length, replicate}
+use Rattle.std.specs.Prelude.{ℕ, zero, suc, ◌-◌, Bool, List, eqb, ltb, ℤ, length, replicate, Option, Some, None, is_some, Result, Ok, Err}
+use Rattle.std.specs.Option.{option_or}
+use Rattle.refusals.specs.declared.refusal.Refusal.{Refusal}
+use Rattle.refusals.specs.declared.refusal.Refusal.TheVariants.{OutputTooShort}
 use Rattle.gliftext.specs.Pick.{pick, both, more}
 use Rattle.glif.specs.Scan.{Pass, pass, scanned, Judged, judged, judged_of}
 use Rattle.glif.specs.declared.scan.Scan.{Scan}
@@ -7,7 +10,6 @@ use Rattle.glif.specs.declared.scan.Totals.{Totals}
 use Rattle.glifwrite.specs.Puts.{Putting, put, put_range}
 use Rattle.glifwrite.specs.Contours.{end_at, start_of, put_to, rows_refused}
 use Rattle.glifwrite.specs.declared.write.Copy.{Copy}
-use Rattle.glifwrite.specs.declared.write.GlifWriteReport.{GlifWriteReport}
 
 -- the rows: ends, x, y, flags
 pub data GivenRows : Type 0 where
@@ -63,7 +65,7 @@ rest bytes n (copying c out) = put_range bytes c.from (n - c.from) (put c.at out
 unfoldable pub write_all : List ℕ → GivenRows → ℕ → List ℕ → Putting
 write_all bytes g n out = rest bytes n (copy_to bytes g n (copying no_copy out))
 
--- ---- refusals and the report
+-- ---- refusals and the answer
 
 abbrev pub place_in : Putting → ℕ
 place_in (put at out) = at
@@ -77,29 +79,30 @@ totals_in (judged f points) = f
 abbrev pub file_in : List ℕ → Totals
 file_in bytes = totals_in (judged_of bytes no_points)
 
-abbrev pub refused_by : Totals → GivenRows → ℕ
-refused_by f (given ends xs ys flags) = rows_refused f.number f.contours ends (length xs) (length ys) (length flags)
+abbrev pub refused_by : Totals → GivenRows → Option Refusal
+refused_by f (given ends xs ys flags) = rows_refused f.refusal f.contours ends (length xs) (length ys) (length flags)
 
 -- how long the file is when written: what is put into a row of one place is counted all the same
-abbrev pub size_of : List ℕ → GivenRows → ℕ → ℕ
-size_of bytes g k = place_in (write_all bytes g (pick (eqb k 0) (length bytes) 0) (replicate 1 0))
+abbrev pub size_of : List ℕ → GivenRows → Option Refusal → ℕ
+size_of bytes g k = place_in (write_all bytes g (pick (is_some k) 0 (length bytes)) (replicate 1 0))
 
--- the file's number, 1, 2, and last 9
-unfoldable pub number_of : List ℕ → GivenRows → ℕ → ℕ → ℕ
-number_of bytes g room k = pick (eqb k 0) (pick (ltb room (size_of bytes g k)) 9 0) k
+-- the file's refusal, 1, 2, and last 9
+unfoldable pub refusal_of : List ℕ → GivenRows → ℕ → Option Refusal → Option Refusal
+refusal_of bytes g room k = option_or k (pick (ltb room (size_of bytes g k)) (Some OutputTooShort) None)
 
-unfoldable pub report_of : ℕ → ℕ → GlifWriteReport
-report_of number size = record { number = number % 256; bytes = pick (eqb number 0) size 0 }
+abbrev pub answer_as : Option Refusal → ℕ → Result ℕ Refusal
+answer_as (Some k) size = Err k
+answer_as None size = Ok size
 
 -- where nothing is refused all is written, else nothing
-abbrev pub written_as : List ℕ → GivenRows → ℕ → List ℕ → Putting
-written_as bytes g number out = write_all bytes g (pick (eqb number 0) (length bytes) 0) out
+abbrev pub written_as : List ℕ → GivenRows → Option Refusal → List ℕ → Putting
+written_as bytes g refusal out = write_all bytes g (pick (is_some refusal) 0 (length bytes)) out
 
-abbrev pub number_in : List ℕ → GivenRows → ℕ → ℕ
-number_in bytes g room = number_of bytes g room (refused_by (file_in bytes) g)
+abbrev pub refusal_in : List ℕ → GivenRows → ℕ → Option Refusal
+refusal_in bytes g room = refusal_of bytes g room (refused_by (file_in bytes) g)
 
-abbrev pub answer_of : List ℕ → GivenRows → ℕ → GlifWriteReport
-answer_of bytes g room = report_of (number_in bytes g room) (size_of bytes g (refused_by (file_in bytes) g))
+abbrev pub answer_of : List ℕ → GivenRows → ℕ → Result ℕ Refusal
+answer_of bytes g room = answer_as (refusal_in bytes g room) (size_of bytes g (refused_by (file_in bytes) g))
 
 abbrev pub left_in : List ℕ → GivenRows → ℕ → List ℕ → List ℕ
-left_in bytes g room out = row_in (written_as bytes g (number_in bytes g room) out)
+left_in bytes g room out = row_in (written_as bytes g (refusal_in bytes g room) out)

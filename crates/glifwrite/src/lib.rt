@@ -5,4 +5,4 @@ mod contours;
 mod put;
 mod write;
 
-pub use crate::write::{GlifWriteReport, write_glif};
+pub use crate::write::write_glif;

@@ -2,13 +2,14 @@
 ghost use Rattle.std.specs.Prelude.{◌≡◌, ◌≤◌, length};
 ghost use Rattle.glifwrite.specs.Puts.{put};
 ghost use Rattle.glifwrite.specs.Contours.{even, rows_refused};
-ghost use Rattle.glifwrite.specs.Writes.{given, no_copy, copying, copy_on, write_all, report_of};
+ghost use Rattle.glifwrite.specs.Writes.{given, no_copy, copying, copy_on, write_all, answer_as};
 ghost use Rattle.glifwrite.specs.Entry.{rows_given, lent, Promise};
 
 use crate::contours::{end_at, put_contour, some_empty, start_of};
 use crate::put::put_range;
 use glif::{Scan, fresh_scan, judge, turn};
 use gliftext::{both, either, less, more, pick};
+use refusals::Refusal;
 
 // The file from `from` on is still to be copied; the last `<` stands at `tag`; the next contour is number k;
 // the next place of the output.
@@ -102,35 +103,36 @@ fn is_even(contours: usize, ends: &[u16], xs: usize, ys: usize, flags: usize) ->
     )
 }
 
-// The number of the file's refusal, else 1 where the rows do not belong together, and 2 where a contour has no
+// What the file is refused for, else 1 where the rows do not belong together, and 2 where a contour has no
 // point.
-fn refuse(number: usize, contours: usize, ends: &[u16], xs: usize, ys: usize, flags: usize) -> usize
-    ensures { result ≡ rows_refused number contours ends.now xs ys flags }
+fn refuse(
+    refusal: Option<Refusal>,
+    contours: usize,
+    ends: &[u16],
+    xs: usize,
+    ys: usize,
+    flags: usize,
+) -> Option<Refusal>
+    ensures { result ≡ rows_refused refusal contours ends.now xs ys flags }
 {
     let even = is_even(contours, ends, xs, ys, flags);
     let empty = either(some_empty(ends), both(xs == 0, 0 < ends.len()));
-    let rows = pick(even, pick(empty, 2, 0), 1);
-    pick(number == 0, rows, number)
+    let two = pick(empty, Some(Refusal::NoPoint), None);
+    let rows = pick(even, two, Some(Refusal::UnevenRows));
+    refusal.or(rows)
 }
 
-// The number of a refusal, or 0; how many bytes were written.
-#[repr(C)]
-#[derive(Clone, Copy, Debug, PartialEq, Eq)]
-pub struct GlifWriteReport {
-    pub number: u32,
-    pub bytes: usize,
-}
-
-fn report_of(number: usize, size: usize) -> GlifWriteReport
-    ensures { result ≡ report_of number size }
+fn answer_as(refusal: Option<Refusal>, size: usize) -> Result<usize, Refusal>
+    ensures { result ≡ answer_as refusal size }
 {
-    GlifWriteReport {
-        number: (number % 256) as u32,
-        bytes: pick(number == 0, size, 0),
+    match refusal {
+        Some(k) => Err(k),
+        None => Ok(size),
     }
 }
 
-// The file is judged, and measured into a row of one place; where it is refused, none of it is copied.
+// How many bytes. The file is judged, and measured into a row of one place; where it is refused, none of it is
+// copied.
 pub fn write_glif(
     bytes: &[u8],
     ends: &[u16],
@@ -138,17 +140,18 @@ pub fn write_glif(
     ys: &[i16],
     flags: &[u8],
     out: &mut [u8],
-) -> GlifWriteReport
+) -> Result<usize, Refusal>
     ensures { Promise bytes.now (rows_given ends xs ys flags) (lent out) result }
 {
     let mut none = [[0; 3]; 1];
     let f = judge(bytes, &mut none);
-    let k = refuse(f.number, f.contours, ends, xs.len(), ys.len(), flags.len());
+    let k = refuse(f.refusal, f.contours, ends, xs.len(), ys.len(), flags.len());
     let mut nothing = [0; 1];
-    let n = pick(k == 0, bytes.len(), 0);
+    let n = pick(k.is_some(), 0, bytes.len());
     let size = write_all(bytes, n, ends, xs, ys, flags, &mut nothing);
-    let number = pick(k == 0, pick(out.len() < size, 9, 0), k);
-    let m = pick(number == 0, bytes.len(), 0);
+    let short = pick(out.len() < size, Some(Refusal::OutputTooShort), None);
+    let refusal = k.or(short);
+    let m = pick(refusal.is_some(), 0, bytes.len());
     write_all(bytes, m, ends, xs, ys, flags, out);
-    report_of(number, size)
+    answer_as(refusal, size)
 }

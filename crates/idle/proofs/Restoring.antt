@@ -14,16 +14,7 @@ use Rattle.clean.specs.Pass.{pick_number}
 use Rattle.clean.specs.PutBack.{number_of}
 use Rattle.clean.proofs.Shortcut.{both_hold}
 use Rattle.clean.proofs.Restoring.{number_more, number_all}
-use Rattle.idle.specs.PutBack.{beside_kept, drop_at, is_back, spot_at, passed_as, passed_to, spot_of, spots_of}
-
--- a kept point, of no more than n and k
-pub beside_few : (which n k : ℕ) → beside_kept which n k ≤ k
-beside_few which n k = by (eqb which 1) (ltb k n)
-  where
-    by : (s t : Bool) → pick_number s (k - 1) (pick_number t k 0) ≤ k
-    by true t = omega arith
-    by false true = omega arith
-    by false false = omega arith
+use Rattle.idle.specs.PutBack.{drop_at, is_back, spot_at, passed_as, passed_to, spot_of, spots_of}
 
 module _ (n : ℕ) (list : List (List ℕ)) where
   -- ---- one place

@@ -27,6 +27,7 @@ fn preceding(i: usize, n: usize) -> usize
 }
 
 // Which neighbour point i is idle on: 1 the one before it, 2 the one after it, the first that holds; 0 it is not idle.
+#[tactic(auto, unfolding(crate::specs::Idle::beside_of))]
 fn beside(xs: &[i16], ys: &[i16], flags: &[u8], i: usize) -> u32
     requires { i < length flags.now }
     ensures { result ≡ beside_of xs.now ys.now flags.now i }

@@ -23,12 +23,10 @@ use Rattle.optimize.specs.Optimize.{Measure, measure_by, best_at, States, refuse
 use Rattle.optimize.specs.Fallen.{Fallen, fallen_between, fell_bent_at, fell_bent, fell_then_bent, fell_pair, fell_onward, fell_all}
 use Rattle.optimize.specs.Stored.{slot_at, loaded, standing_at, row_of, Stands, lacks, has, Phase, Room, Into, Rep, Becomes}
 use Rattle.optimize.specs.Steps.{by_all}
-use Rattle.optimize.specs.declared.Trial.{Trial}
 use Rattle.optimize.specs.Marks.{bend_of, Offers, by_line, by_bend, Marked}
 use Rattle.optimize.proofs.Compare.{lt_number, lt_lt, lt_beyond, lt_self}
 use Rattle.optimize.proofs.Attempt.{stands_total, attempted}
 use Rattle.optimize.proofs.Trying.{quad_made, bend_ends, bent_is, from_whole, from_upto}
-use Rattle.std.specs.Prelude.{Option, Some, None}
 
 -- ---- what two states have in common along the pairs into a break
 
@@ -438,7 +436,7 @@ module _ {f : Phase} {n : ℕ} {bs : Row} {rs : List (List Float)} {ls : List �
       }
 
 -- what the search from a mark becomes, it becomes from the states before
-pub from_mark : {samples : List (List Float)} {bs : Row} {penalty : Float} {f : Phase} {n : ℕ} {rs rs' : List (List Float)} {ls ls' : List ℕ} {j : ℕ} {st : List Best} {r : Trial}
+pub from_mark : {samples : List (List Float)} {bs : Row} {penalty : Float} {f : Phase} {n : ℕ} {rs rs' : List (List Float)} {ls ls' : List ℕ} {j : ℕ} {st : List Best} {r : Option ℕ}
     (m : Marked samples bs penalty f n rs ls j st) → Becomes f n bs rs' ls' (by_all samples bs penalty (falling j j) m.now).0 (by_all samples bs penalty (falling j j) m.now).1 r →
     Becomes f n bs rs' ls' (by_all samples bs penalty (falling j j) st).0 (by_all samples bs penalty (falling j j) st).1 r
 from_mark {bs = bs} {f = f} {n = n} {rs' = rs'} {ls' = ls'} {r = r} m b = subst (λ (e : States × ℕ). Becomes f n bs rs' ls' e.0 e.1 r) (sym m.same) b

@@ -2,7 +2,7 @@
 use Rattle.std.specs.Prelude.{Option, Some, None}
 use Prim.Native.Nat.{ℕ, ◌+◌, ◌-◌, ◌≤◌, ◌<◌}
 use native.Mathlib.Omega.{arith}
-use mathlib.Core.Bool.{true, false, false≢true, true≢false}
+use mathlib.Core.Bool.{true, false}
 use mathlib.Core.List.{List, [], ◌∷◌}
 use mathlib.Core.Path.{◌≡◌, refl, sym, ap, ◌∙◌}
 use lib.Dec.{T}
@@ -23,16 +23,15 @@ use Rattle.measure.proofs.Asked.{fallen_most}
 use Rattle.measure.specs.declared.Measure as M
 use Rattle.breaks.specs.Breaks.{Row, break_at}
 use Rattle.attempt.specs.declared.answer.Answer as A
-use Rattle.optimize.specs.declared.Trial.{Trial}
 use Rattle.attempt.specs.Answers.{Leg, Statelet, first, score_of, Best, none, best, total_of, combined}
 use Rattle.optimize.specs.Optimize.{Measure, measure_by, States, refused, states, try_quad, bent_quad, bent_at, bent, then_bent, try_line_quad, refused8, unchanged, solved, optimize_of}
 use Rattle.optimize.specs.Fallen.{Fallen, fallen_between, fell_bent_at, fell_bent, fell_pair, fell_of}
 use Rattle.attempt.specs.Value.{best_of, nothing_at}
-use Rattle.optimize.specs.Stored.{row_of, Holds, Anywhere, in_place, Spoilt, measured_ok, bend_ok, bend_in_place}
+use Rattle.optimize.specs.Stored.{row_of, Holds, Anywhere, in_place, Spoilt, measured_fell, bend_fell, bend_in_place}
 use Rattle.optimize.proofs.Held.{new_start}
 use Rattle.optimize.proofs.Solving.{optimized_by, fell_by_lem}
 use Rattle.optimize.proofs.Trying.{quad_refused, quad_made, no_bend, from_whole, from_half, fell_whole, fell_half}
-use Rattle.std.specs.Prelude.{Option, Some, None}
+use Rattle.std.proofs.lemmas.Option.{none-some, same_Some}
 
 -- an answer whose score is a NaN stays
 nan_stays : (a : Statelet) (p : Leg) (e penalty : Float) → score_of a ≡ nan → combined (best a) (best a) p e penalty ≡ best a
@@ -101,66 +100,66 @@ module _ (samples : List (List Float)) (bs : Row) (penalty : Float) (one : lengt
       stored = quad_made measure bs penalty 0 0 line (none ∷ []) m made
 
       -- the bent piece changes nothing, where its measure is not refused
-      tried_bent : (q : Quad) (w : Option M.Measure) → measure_of samples (break_at bs 0).s (break_at bs 0).s q ≡ w → (measured_ok w (fallen 0 0 q)).ok ≡ true →
+      tried_bent : (q : Quad) (w : Option M.Measure) {n : ℕ} → measure_of samples (break_at bs 0).s (break_at bs 0).s q ≡ w → measured_fell w (fallen 0 0 q) ≡ Some n →
           try_quad measure bs penalty 0 0 q (best answer ∷ []) ≡ states (best answer ∷ [])
       tried_bent q (Some x) e ok =
           quad_made measure bs penalty 0 0 q (best answer ∷ []) x e
           ∙ ap (λ (t : Best). states (t ∷ [])) (nan_stays answer (record { from = 0; to = 0; quad = q }) x.error penalty score_nan)
-      tried_bent q None e ok = absurd (false≢true ok)
+      tried_bent q None {n} e ok = absurd (none-some n ok)
 
-      refused_bent : (q : Quad) (w : Option M.Measure) → measure_of samples (break_at bs 0).s (break_at bs 0).s q ≡ w → (measured_ok w (fallen 0 0 q)).ok ≡ false →
+      refused_bent : (q : Quad) (w : Option M.Measure) → measure_of samples (break_at bs 0).s (break_at bs 0).s q ≡ w → measured_fell w (fallen 0 0 q) ≡ None →
           try_quad measure bs penalty 0 0 q (best answer ∷ []) ≡ refused
-      refused_bent q (Some x) e bad = absurd (true≢false bad)
+      refused_bent q (Some x) e bad = absurd (none-some (fallen 0 0 q) (sym bad))
       refused_bent q None e bad = quad_refused measure bs penalty 0 0 q (best answer ∷ []) e
 
-      bends : (c : Option Point) → (bend_ok samples (break_at bs 0) c).ok ≡ true → bent_at measure bs penalty c 0 0 (best answer ∷ []) ≡ states (best answer ∷ [])
+      bends : (c : Option Point) {n : ℕ} → bend_fell samples (break_at bs 0) c ≡ Some n → bent_at measure bs penalty c 0 0 (best answer ∷ []) ≡ states (best answer ∷ [])
       bends None ok = refl
       bends (Some p) ok = rw whole (tried_bent (bent_quad measure bs penalty 0 0 p) _ refl ok)
 
-      bends_not : (c : Option Point) → (bend_ok samples (break_at bs 0) c).ok ≡ false → bent_at measure bs penalty c 0 0 (best answer ∷ []) ≡ refused
-      bends_not None bad = absurd (true≢false bad)
+      bends_not : (c : Option Point) → bend_fell samples (break_at bs 0) c ≡ None → bent_at measure bs penalty c 0 0 (best answer ∷ []) ≡ refused
+      bends_not None bad = absurd (none-some 0 (sym bad))
       bends_not (Some p) bad = rw whole (refused_bent (bent_quad measure bs penalty 0 0 p) _ refl bad)
 
       both : {s : States} → bent measure bs penalty 0 0 (best answer ∷ []) ≡ s → try_line_quad measure bs penalty 0 0 (none ∷ []) ≡ s
       both e = from_whole measure bs penalty 0 0 (none ∷ []) whole ∙ ap (then_bent measure bs penalty 0 0) stored ∙ e
 
-      pub one_solved : (bend_in_place samples (break_at bs 0)).ok ≡ true → optimize_of measure bs penalty ≡ solved answer 1
+      pub one_solved : {n : ℕ} → bend_in_place samples (break_at bs 0) ≡ Some n → optimize_of measure bs penalty ≡ solved answer 1
       unfolding bent bend_in_place
       one_solved ok =
           optimized_by measure penalty bs 0 (states (best answer ∷ [])) one (both (bends crossing ok))
           ∙ rw (last, ap (lt (mul binary64 three penalty)) score_nan ∙ less_nan (mul binary64 three penalty)) refl
 
       -- what fell in the two pieces
-      ok_fell : (q : Quad) (w : Option M.Measure) → (measured_ok w (fallen 0 0 q)).ok ≡ true → fallen 0 0 q ≡ (measured_ok w (fallen 0 0 q)).fallen
-      ok_fell q (Some x) ok = refl
-      ok_fell q None ok = absurd (false≢true ok)
+      made_fell : (q : Quad) (w : Option M.Measure) {n : ℕ} → measured_fell w (fallen 0 0 q) ≡ Some n → fallen 0 0 q ≡ n
+      made_fell q (Some x) {n} ok = same_Some (fallen 0 0 q) n ok
+      made_fell q None {n} ok = absurd (none-some n ok)
 
-      bends_fell : (c : Option Point) → (bend_ok samples (break_at bs 0) c).ok ≡ true → fell_bent_at measure fallen bs penalty c 0 0 (best answer ∷ []) ≡ (bend_ok samples (break_at bs 0) c).fallen
-      bends_fell None ok = refl
+      bends_fell : (c : Option Point) {n : ℕ} → bend_fell samples (break_at bs 0) c ≡ Some n → fell_bent_at measure fallen bs penalty c 0 0 (best answer ∷ []) ≡ n
+      bends_fell None {n} ok = same_Some 0 n ok
       bends_fell (Some p) ok =
-          rw whole (ok_fell (bent_quad measure bs penalty 0 0 p) (measure_of samples (break_at bs 0).s (break_at bs 0).s (bent_quad measure bs penalty 0 0 p)) ok)
+          rw whole (made_fell (bent_quad measure bs penalty 0 0 p) (measure_of samples (break_at bs 0).s (break_at bs 0).s (bent_quad measure bs penalty 0 0 p)) ok)
 
-      one_fell : (bend_in_place samples (break_at bs 0)).ok ≡ true → fell_bent measure fallen bs penalty 0 0 (best answer ∷ []) ≡ (bend_in_place samples (break_at bs 0)).fallen
+      one_fell : {n : ℕ} → bend_in_place samples (break_at bs 0) ≡ Some n → fell_bent measure fallen bs penalty 0 0 (best answer ∷ []) ≡ n
       unfolding fell_bent bend_in_place
       one_fell ok = bends_fell crossing ok
 
-      pub one_solved_fell : (bend_in_place samples (break_at bs 0)).ok ≡ true →
-          fell_of measure fallen bs penalty ≡ fallen_of samples (break_at bs 0).s (break_at bs 0).s line + (bend_in_place samples (break_at bs 0)).fallen
+      pub one_solved_fell : {n : ℕ} → bend_in_place samples (break_at bs 0) ≡ Some n →
+          fell_of measure fallen bs penalty ≡ fallen_of samples (break_at bs 0).s (break_at bs 0).s line + n
       unfolding bent bend_in_place
-      one_solved_fell ok =
-          let pair : fell_pair measure fallen bs penalty 0 0 (none ∷ []) ≡ fallen 0 0 line + (bend_in_place samples (break_at bs 0)).fallen =
+      one_solved_fell {n} ok =
+          let pair : fell_pair measure fallen bs penalty 0 0 (none ∷ []) ≡ fallen 0 0 line + n =
           fell_whole measure fallen bs penalty 0 0 (none ∷ []) whole ∙ rw (stored, one_fell ok) refl in
-          let no_more : fallen 0 0 line + (bend_in_place samples (break_at bs 0)).fallen + 0 ≡ fallen 0 0 line + (bend_in_place samples (break_at bs 0)).fallen = omega arith in
+          let no_more : fallen 0 0 line + n + 0 ≡ fallen 0 0 line + n = omega arith in
           fell_by_lem measure penalty bs 0 (states (best answer ∷ [])) one (both (bends crossing ok)) fallen
           ∙ rw (pair, last, ap (lt (mul binary64 three penalty)) score_nan ∙ less_nan (mul binary64 three penalty)) no_more
 
-      pub one_bent_refused : (bend_in_place samples (break_at bs 0)).ok ≡ false → optimize_of measure bs penalty ≡ refused8
+      pub one_bent_refused : bend_in_place samples (break_at bs 0) ≡ None → optimize_of measure bs penalty ≡ refused8
       unfolding bent bend_in_place
       one_bent_refused bad = optimized_by measure penalty bs 0 refused one (both (bends_not crossing bad))
 
 -- ---- as the code finds it
 module _ (samples : List (List Float)) (a : Break) where
-  pub bend_none : None ≡ intersect_of a.xy a.dir a.xy a.dir → record { ok = true; fallen = 0 } ≡ bend_in_place samples a
+  pub bend_none : None ≡ intersect_of a.xy a.dir a.xy a.dir → Some 0 ≡ bend_in_place samples a
   unfolding bend_in_place
   bend_none e = rw (← e) refl
 
@@ -169,24 +168,24 @@ module _ (samples : List (List Float)) (a : Break) where
     abbrev q : Quad
     q = record { p0 = a.xy; p1 = r; p2 = a.xy }
 
-    pub bend_by : (w : Option M.Measure) {n : ℕ} → measure_of samples a.s a.s q ≡ w → n ≡ fallen_of samples a.s a.s q → measured_ok w n ≡ bend_in_place samples a
+    pub bend_by : (w : Option M.Measure) {n : ℕ} → measure_of samples a.s a.s q ≡ w → n ≡ fallen_of samples a.s a.s q → measured_fell w n ≡ bend_in_place samples a
     unfolding bend_in_place
     bend_by w g h = rw (h, ← e, ← f, g) refl
 
 -- at most 80 fall
-pub bend_most : (samples : List (List Float)) (a : Break) → (bend_in_place samples a).fallen ≤ 80
+pub bend_most : (samples : List (List Float)) (a : Break) {fell : ℕ} → bend_in_place samples a ≡ Some fell → fell ≤ 80
 unfolding bend_in_place
-bend_most samples a = go (intersect_of a.xy a.dir a.xy a.dir)
+bend_most samples a {fell} = go (intersect_of a.xy a.dir a.xy a.dir)
   where
-    at_most : (w : Option M.Measure) (n : ℕ) → n ≤ 80 → (measured_ok w n).fallen ≤ 80
-    at_most (Some m) n h = h
-    at_most None n h = omega arith
+    at_most : (w : Option M.Measure) (n : ℕ) → n ≤ 80 → measured_fell w n ≡ Some fell → fell ≤ 80
+    at_most (Some m) n h e = omega (arith, same_Some n fell e)
+    at_most None n h e = absurd (none-some fell e)
 
-    go : (c : Option Point) → (bend_ok samples a c).fallen ≤ 80
-    go None = omega arith
-    go (Some p) =
+    go : (c : Option Point) → bend_fell samples a c ≡ Some fell → fell ≤ 80
+    go None e = omega (arith, same_Some 0 fell e)
+    go (Some p) e =
         let q : Quad = record { p0 = a.xy; p1 = round_point_of p; p2 = a.xy } in
-        at_most (measure_of samples a.s a.s q) (fallen_of samples a.s a.s q) (fallen_most samples a.s a.s q)
+        at_most (measure_of samples a.s a.s q) (fallen_of samples a.s a.s q) (fallen_most samples a.s a.s q) e
 
 -- the straight piece of a point whose coordinates are doubles
 pub in_place_lem : (samples : List (List Float)) (s : Float) (p : Point) {q : Quad} {r : Option Counted} → T (fits binary64 p.x) → T (fits binary64 p.y) →
@@ -203,7 +202,7 @@ Straight samples c w = Counts (measure_of samples c.s c.s (in_place c.xy)) (fall
 pub measured_line : (samples : List (List Float)) (c : Break) {a : Break} (w v : Option Counted) → Straight samples a w → w ≡ v → a ≡ c → Straight samples c v
 measured_line samples c w v told e f = rw (e, f) at told
 
-pub bent_ok : (samples : List (List Float)) {a c : Break} {t : Trial} → t ≡ bend_in_place samples a → a ≡ c → bend_in_place samples c ≡ t
+pub bent_ok : (samples : List (List Float)) {a c : Break} {t : Option ℕ} → t ≡ bend_in_place samples a → a ≡ c → bend_in_place samples c ≡ t
 bent_ok samples e f = rw (← f, ← e) refl
 
 first_total : (q line : Quad) (m penalty s : Float) (x : A.Answer) → x ≡ nothing_at 0 q → q ≡ line → s ≡ total_of (best_of x) q m penalty → s ≡ total_of none line m penalty

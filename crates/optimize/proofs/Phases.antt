@@ -16,7 +16,6 @@ use Rattle.breaks.specs.Breaks.{Row, break_at}
 use Rattle.attempt.specs.Answers.{Best, ok_for_half}
 use Rattle.optimize.specs.Fallen.{Fallen, fallen_between, fell_if, fell_bent_at, fell_bent, fell_then_bent, fell_pair, fell_onward, fell_all}
 use Rattle.optimize.specs.Optimize.{Measure, best_at, States, refused, states, straight, bent_quad, onward, try_line_quad, try_all, splits_from, falling, search_from}
-use Rattle.optimize.specs.declared.Trial.{Trial}
 use Rattle.optimize.specs.Stored.{Stands, lacks, has, Phase, early, late, Uses, Fresh, Rep, Room, Into, Ready, Holding, Becomes, stops, goes}
 use Rattle.optimize.proofs.Held.{wider}
 use Rattle.optimize.proofs.Trying.{went, stopped, same_room}
@@ -226,13 +225,13 @@ module _ {measure : Measure} {fallen : Fallen} {penalty : Float} {n : ℕ} {bs :
   holding h = record { st = (x.reach h.st h.rep).now; room = same_room x.same_rs x.same_ls h.room; rep = (x.reach h.st h.rep).rep }
 
   -- what a call on some of the pairs makes of the rows
-  abbrev Calls : Phase → List (List Float) → List ℕ → List (ℕ × ℕ) → Trial → Type 0
+  abbrev Calls : Phase → List (List Float) → List ℕ → List (ℕ × ℕ) → Option ℕ → Type 0
   Calls g rs' ls' ps r =
       (st : List Best) → Rep f n bs rs ls st → Becomes g n bs rs' ls' (try_all measure bs penalty ps (states st)) (fell_all measure fallen bs penalty ps (states st)) r
 
-  pub moves : (ps more : List (ℕ × ℕ)) {g : Phase} {rs' : List (List Float)} {ls' : List ℕ} {r : Trial} → rest ≡ ps ++ more →
-      length rs' ≡ length rs → length ls' ≡ length ls → Calls g rs' ls' ps r → r.ok ≡ true →
-      Reaching measure fallen penalty n bs f₀ rs₀ ls₀ all g rs' ls' (so_far + r.fallen) more
+  pub moves : (ps more : List (ℕ × ℕ)) {g : Phase} {rs' : List (List Float)} {ls' : List ℕ} {r : Option ℕ} → rest ≡ ps ++ more →
+      length rs' ≡ length rs → length ls' ≡ length ls → Calls g rs' ls' ps r → {fell : ℕ} → r ≡ Some fell →
+      Reaching measure fallen penalty n bs f₀ rs₀ ls₀ all g rs' ls' (so_far + fell) more
   moves ps more is e e' made ok = record {
     same_rs = e ∙ x.same_rs;
     same_ls = e' ∙ x.same_ls;
@@ -264,8 +263,8 @@ module _ {measure : Measure} {fallen : Fallen} {penalty : Float} {n : ℕ} {bs :
   }
 
   -- the count so far, and with one call more, is at most that of all pairs
-  pub counts : (ps more : List (ℕ × ℕ)) {g : Phase} {rs' : List (List Float)} {ls' : List ℕ} {r : Trial} → ((i j : ℕ) (q : Quad) → fallen i j q ≤ 80) →
-      rest ≡ ps ++ more → Calls g rs' ls' ps r → r.ok ≡ true → Holding f₀ n bs rs₀ ls₀ → so_far + r.fallen ≤ 160 * length all
+  pub counts : (ps more : List (ℕ × ℕ)) {g : Phase} {rs' : List (List Float)} {ls' : List ℕ} {r : Option ℕ} → ((i j : ℕ) (q : Quad) → fallen i j q ≤ 80) →
+      rest ≡ ps ++ more → Calls g rs' ls' ps r → {fell : ℕ} → r ≡ Some fell → Holding f₀ n bs rs₀ ls₀ → so_far + fell ≤ 160 * length all
   counts ps more few is made ok h =
       let t = x.reach h.st h.rep in
       let w = went (made t.now t.rep) ok in
@@ -273,19 +272,19 @@ module _ {measure : Measure} {fallen : Fallen} {penalty : Float} {n : ℕ} {bs :
       let most = all_most measure fallen bs penalty few all (states h.st) in
       omega (arith, t.fell, split, w.fell, most)
 
-  pub breaks_off : (ps more : List (ℕ × ℕ)) {g : Phase} (h : Phase) {rs' : List (List Float)} {ls' : List ℕ} {r : Trial} → rest ≡ ps ++ more →
-      Calls g rs' ls' ps r → r.ok ≡ false → (st : List Best) → Rep f₀ n bs rs₀ ls₀ st →
-      Becomes h n bs rs' ls' (try_all measure bs penalty all (states st)) (fell_all measure fallen bs penalty all (states st)) r
+  pub breaks_off : (ps more : List (ℕ × ℕ)) {g : Phase} (h : Phase) {rs' : List (List Float)} {ls' : List ℕ} {r : Option ℕ} → rest ≡ ps ++ more →
+      Calls g rs' ls' ps r → r ≡ None → (st : List Best) → Rep f₀ n bs rs₀ ls₀ st →
+      Becomes h n bs rs' ls' (try_all measure bs penalty all (states st)) (fell_all measure fallen bs penalty all (states st)) None
   breaks_off ps more h is made bad st rep =
       let t = x.reach st rep in
-      rw (t.left ∙ all_step measure bs penalty ps more rest (states t.now) refused is (stopped (made t.now t.rep) bad) ∙ all_refused measure bs penalty more) (stops bad)
+      rw (t.left ∙ all_step measure bs penalty ps more rest (states t.now) refused is (stopped (made t.now t.rep) bad) ∙ all_refused measure bs penalty more) (stops refl)
 
-  pub arrives : {g : Phase} {r : Trial} → f ≡ g → rest ≡ [] → r.ok ≡ true → r.fallen ≡ so_far → (st : List Best) → Rep f₀ n bs rs₀ ls₀ st →
-      Becomes g n bs rs ls (try_all measure bs penalty all (states st)) (fell_all measure fallen bs penalty all (states st)) r
-  arrives at is ok sum st rep =
+  pub arrives : {g : Phase} → f ≡ g → rest ≡ [] → (st : List Best) → Rep f₀ n bs rs₀ ls₀ st →
+      Becomes g n bs rs ls (try_all measure bs penalty all (states st)) (fell_all measure fallen bs penalty all (states st)) (Some so_far)
+  arrives at is st rep =
       let t = x.reach st rep in
       rw (← at, t.left ∙ all_step measure bs penalty [] [] rest (states t.now) (states t.now) is (all_none measure bs penalty (states t.now)) ∙ all_none measure bs penalty (states t.now))
-      (goes ok (sum ∙ ended t) t.rep)
+      (goes (ap Some (ended t)) t.rep)
     where
       ended : {s : States} {c : ℕ} (t : Reached measure fallen penalty f n bs rs ls so_far rest s c) → so_far ≡ c
       ended t =
@@ -293,7 +292,7 @@ module _ {measure : Measure} {fallen : Fallen} {penalty : Float} {n : ℕ} {bs :
           omega (arith, t.fell, none)
 
 -- one pair alone, as the code tries it
-pub alone : (measure : Measure) (fallen : Fallen) (penalty : Float) (bs : Row) (i j : ℕ) {k : ℕ} {f : Phase} {n : ℕ} {rs rs' : List (List Float)} {ls ls' : List ℕ} {r : Trial} →
+pub alone : (measure : Measure) (fallen : Fallen) (penalty : Float) (bs : Row) (i j : ℕ) {k : ℕ} {f : Phase} {n : ℕ} {rs rs' : List (List Float)} {ls ls' : List ℕ} {r : Option ℕ} →
     Room n bs rs ls → Into f n i j k →
     ((f : Phase) (n : ℕ) (st : List Best) → Room n bs rs ls → Into f n i j k → Rep f n bs rs ls st →
     Becomes f n bs rs' ls' (try_line_quad measure bs penalty i j st) (fell_pair measure fallen bs penalty i j st) r) → (st : List Best) → Rep f n bs rs ls st →
@@ -303,29 +302,29 @@ alone measure fallen penalty bs i j {f = f} {n = n} room into call st rep =
 
 -- the next pair of the search into break i
 module _ {measure : Measure} {fallen : Fallen} {penalty : Float} {n : ℕ} {bs : Row} {f₀ : Phase} {rs₀ rs rs' : List (List Float)} {ls₀ ls ls' : List ℕ} {all : List (ℕ × ℕ)}
-    {i j so_far : ℕ} {r : Trial} (x : Reaching measure fallen penalty n bs f₀ rs₀ ls₀ all (late i) rs ls so_far (falling j i)) (h : Holding f₀ n bs rs₀ ls₀)
+    {i j so_far : ℕ} {r : Option ℕ} (x : Reaching measure fallen penalty n bs f₀ rs₀ ls₀ all (late i) rs ls so_far (falling j i)) (h : Holding f₀ n bs rs₀ ls₀)
     (more : 0 < j) (low : j ≤ i) (upto : i ≤ n)
     (call : (f : Phase) (n : ℕ) (st : List Best) → Room n bs rs ls → Into f n (j - 1) i (2 * i + 1) → Rep f n bs rs ls st →
     Becomes f n bs rs' ls' (try_line_quad measure bs penalty (j - 1) i st) (fell_pair measure fallen bs penalty (j - 1) i st) r) where
   this : Calls x (late i) rs' ls' ((j - 1, i) ∷ []) r
   this = alone measure fallen penalty bs (j - 1) i (holding x h).room (into_search (j - 1) i n (omega arith) upto) call
 
-  pub next_moves : length rs' ≡ length rs → length ls' ≡ length ls → r.ok ≡ true →
-      Reaching measure fallen penalty n bs f₀ rs₀ ls₀ all (late i) rs' ls' (so_far + r.fallen) (falling (j - 1) i)
+  pub next_moves : length rs' ≡ length rs → length ls' ≡ length ls → {fell : ℕ} → r ≡ Some fell →
+      Reaching measure fallen penalty n bs f₀ rs₀ ls₀ all (late i) rs' ls' (so_far + fell) (falling (j - 1) i)
   next_moves e e' ok = moves x ((j - 1, i) ∷ []) (falling (j - 1) i) (fall_more j i more) e e' this ok
 
-  pub next_counts : ((i j : ℕ) (q : Quad) → fallen i j q ≤ 80) → r.ok ≡ true → so_far + r.fallen ≤ 160 * length all
+  pub next_counts : ((i j : ℕ) (q : Quad) → fallen i j q ≤ 80) → {fell : ℕ} → r ≡ Some fell → so_far + fell ≤ 160 * length all
   next_counts few ok = counts x ((j - 1, i) ∷ []) (falling (j - 1) i) few (fall_more j i more) this ok h
 
-  pub next_breaks_off : r.ok ≡ false → (st : List Best) → Rep f₀ n bs rs₀ ls₀ st →
-      Becomes (late i) n bs rs' ls' (try_all measure bs penalty all (states st)) (fell_all measure fallen bs penalty all (states st)) r
+  pub next_breaks_off : r ≡ None → (st : List Best) → Rep f₀ n bs rs₀ ls₀ st →
+      Becomes (late i) n bs rs' ls' (try_all measure bs penalty all (states st)) (fell_all measure fallen bs penalty all (states st)) None
   next_breaks_off bad = breaks_off x ((j - 1, i) ∷ []) (falling (j - 1) i) (late i) (fall_more j i more) this bad
 
 pub ready : {f : Phase} {n i j k : ℕ} {bs : Row} {rs : List (List Float)} {ls : List ℕ} → Holding f n bs rs ls → Into f n i j k → Ready bs rs ls i j k
 ready {f} {n} h into = record { phase = f; last = n; st = h.st; room = h.room; into = into; rep = h.rep }
 
 -- a phase that leads to the next
-pub rephased : {f g : Phase} {n : ℕ} {bs : Row} {rs : List (List Float)} {ls : List ℕ} {s : States} {c : ℕ} {r : Trial} →
+pub rephased : {f g : Phase} {n : ℕ} {bs : Row} {rs : List (List Float)} {ls : List ℕ} {s : States} {c : ℕ} {r : Option ℕ} →
     ((st : List Best) → Rep f n bs rs ls st → Rep g n bs rs ls st) → Becomes f n bs rs ls s c r → Becomes g n bs rs ls s c r
 rephased h (stops e) = stops e
-rephased h (goes {st = st} e fell rep) = goes e fell (h st rep)
+rephased h (goes {st = st} e rep) = goes e (h st rep)

@@ -2,7 +2,7 @@
 use Rattle.std.specs.Prelude.{Option, Some, None}
 use Prim.Native.Nat.{ℕ, ◌+◌, ◌*◌, ◌≤◌, ◌<◌}
 use native.Mathlib.Omega.{arith}
-use mathlib.Core.Bool.{Bool, true, false, not, ◌&&◌, false≢true, true≢false}
+use mathlib.Core.Bool.{Bool, true, false, not, ◌&&◌}
 use mathlib.Core.List.{List}
 use mathlib.Core.Path.{◌≡◌, refl, sym, ap, subst, ◌∙◌}
 use lib.ListN.{length, set}
@@ -14,7 +14,6 @@ use Rattle.geometry.specs.declared.Quad.{Quad}
 use Rattle.measure.specs.declared.Measure as M
 use Rattle.breaks.specs.Breaks.{Row, break_at}
 use Rattle.attempt.specs.declared.answer.Answer as A
-use Rattle.optimize.specs.declared.Trial.{Trial}
 use Rattle.attempt.specs.Answers.{Best, none, best, is_curve, ok_for_half, combined}
 use Rattle.optimize.specs.Optimize.{Measure, best_at, States, refused, states, try_quad, try_if, bent_quad, bent_at, bent, then_bent, try_line_quad}
 use Rattle.optimize.specs.Fallen.{Fallen, fell_if, fell_bent_at, fell_bent, fell_then_bent, fell_pair}
@@ -23,7 +22,7 @@ use Rattle.attempt.specs.Value.{best_of, combine_of}
 use Rattle.optimize.specs.Stored.{slot_at, loaded, standing_at, row_of, Inside, Phase, Room, Into, Rep, Ready, Becomes, stops, goes}
 use Rattle.optimize.proofs.Held.{slot_break}
 use Rattle.optimize.proofs.Attempt.{readable, attempted}
-use Rattle.std.specs.Prelude.{Some, None}
+use Rattle.std.proofs.lemmas.Option.{none-some, same_Some}
 
 -- ---- one attempt
 module _ (measure : Measure) (breaks : Row) (penalty : Float) (i j : ℕ) (q : Quad) (st : List Best) where
@@ -40,9 +39,9 @@ module _ (measure : Measure) (breaks : Row) (penalty : Float) (i j : ℕ) (q : Q
 module _ {f : Phase} {n : ℕ} {bs : Row} {rs : List (List Float)} {ls : List ℕ} {st : List Best} {i j k : ℕ} (room : Room n bs rs ls) (into : Into f n i j k) (rep : Rep f n bs rs ls st) where
   pub made : (measure : Measure) (q : Quad) (m : M.Measure) (penalty : Float) (x : A.Answer) {c c' : ℕ} → c ≡ c' → q.p0 ≡ (break_at bs i).xy → q.p2 ≡ (break_at bs j).xy → measure i j q ≡ Some m →
       x ≡ combine_of (loaded bs rs ls (slot_at ls j)) (standing_at bs rs ls i) m.error q penalty →
-      Becomes f n bs (set rs k (row_of x)) (set ls k x.link) (try_quad measure bs penalty i j q st) c' (record { ok = true; fallen = c })
+      Becomes f n bs (set rs k (row_of x)) (set ls k x.link) (try_quad measure bs penalty i j q st) c' (Some c)
   made measure q m penalty x fell begins ends e is =
-      rw (quad_made measure bs penalty i j q st m e) (goes refl fell (attempted room into rep q begins ends m.error penalty x is))
+      rw (quad_made measure bs penalty i j q st m e) (goes (ap Some fell) (attempted room into rep q begins ends m.error penalty x is))
 
 -- ---- the bent piece
 pub crossing_of : {a b c d : Break} → a ≡ c → b ≡ d → intersect_of a.xy a.dir b.xy b.dir ≡ intersect_of c.xy c.dir d.xy d.dir
@@ -174,27 +173,26 @@ module _ {bs : Row} {rs : List (List Float)} {ls : List ℕ} {i j k : ℕ} (r : 
   pub reads_both : Reads bs rs ls i j
   reads_both = record { from = break_from; to = break_to; links_of = room_from; stands = readable_from }
 
--- ---- after an attempt
-pub record Went (f : Phase) (n : ℕ) (bs : Row) (rs : List (List Float)) (ls : List ℕ) (s : States) (c : ℕ) (r : Trial) : Type 0 where
+-- ---- after an attempt in which so many lookups fell
+pub record Went (f : Phase) (n : ℕ) (bs : Row) (rs : List (List Float)) (ls : List ℕ) (s : States) (c fallen : ℕ) : Type 0 where
   pub st : List Best
   pub is : s ≡ states st
-  pub fell : r.fallen ≡ c
+  pub fell : fallen ≡ c
   pub rep : Rep f n bs rs ls st
 
 module _ {f : Phase} {n : ℕ} {bs : Row} {rs : List (List Float)} {ls : List ℕ} where
-  pub went : {s : States} {c : ℕ} {r : Trial} → Becomes f n bs rs ls s c r → r.ok ≡ true → Went f n bs rs ls s c r
-  went (stops e) ok = absurd (false≢true (sym e ∙ ok))
-  went (goes {st = st} e fell rep) ok = record { st = st; is = refl; fell = fell; rep = rep }
+  pub went : {s : States} {c fallen : ℕ} {r : Option ℕ} → Becomes f n bs rs ls s c r → r ≡ Some fallen → Went f n bs rs ls s c fallen
+  went {fallen = fallen} (stops e) ok = absurd (none-some fallen (sym e ∙ ok))
+  went {c = c} {fallen = fallen} (goes {st = st} e rep) ok = record { st = st; is = refl; fell = same_Some fallen c (sym ok ∙ e); rep = rep }
 
-  pub stopped : {s : States} {c : ℕ} {r : Trial} → Becomes f n bs rs ls s c r → r.ok ≡ false → s ≡ refused
+  pub stopped : {s : States} {c : ℕ} {r : Option ℕ} → Becomes f n bs rs ls s c r → r ≡ None → s ≡ refused
   stopped (stops e) bad = refl
-  stopped (goes e fell rep) bad = absurd (true≢false (sym e ∙ bad))
+  stopped {c = c} (goes e rep) bad = absurd (none-some c (sym bad ∙ e))
 
-  -- two attempts, of which the first was not refused
-  pub thens : {s : States} {c k : ℕ} (t u r : Trial) → t.fallen ≡ k → Becomes f n bs rs ls s c u →
-      (r.ok ≡ u.ok) × (u.ok ≡ true → r.fallen ≡ t.fallen + u.fallen) → Becomes f n bs rs ls s (k + c) r
-  thens t u r first (stops e) is = stops (is.0 ∙ e)
-  thens {c = c} {k = k} t u r first (goes {st = st} e fell rep) is = goes {c = k + c} (is.0 ∙ e) (is.1 e ∙ rw (first, fell) refl) rep
+  -- two attempts, of which neither was refused
+  pub thens : {s : States} {c k : ℕ} (t u : ℕ) {r : Option ℕ} → t ≡ k → Becomes f n bs rs ls s c r → r ≡ Some u → Becomes f n bs rs ls s (k + c) (Some (t + u))
+  thens {c = c} t u first (stops e) ok = absurd (none-some u (sym e ∙ ok))
+  thens {c = c} t u first (goes e rep) ok = goes (rw (first, same_Some u c (sym ok ∙ e)) refl) rep
 
 pub same_room : {n : ℕ} {bs : Row} {rs rs' : List (List Float)} {ls ls' : List ℕ} → length rs' ≡ length rs → length ls' ≡ length ls → Room n bs rs ls → Room n bs rs' ls'
 same_room e f room = record {
@@ -208,8 +206,8 @@ pub line_of : {a b c d : Break} {q : Quad} → q ≡ line_quad a.xy b.xy → a �
 line_of e f g = e ∙ rw (f, g) refl
 
 -- the rows are ready for the next attempt of the pair
-pub again : {bs : Row} {rs rs' : List (List Float)} {ls ls' : List ℕ} {i j k : ℕ} {s : States} {c : ℕ} {r : Trial} (x : Ready bs rs ls i j k) → length rs' ≡ length rs → length ls' ≡ length ls →
-    Becomes x.phase x.last bs rs' ls' s c r → r.ok ≡ true → Ready bs rs' ls' i j k
+pub again : {bs : Row} {rs rs' : List (List Float)} {ls ls' : List ℕ} {i j k : ℕ} {s : States} {c fallen : ℕ} {r : Option ℕ} (x : Ready bs rs ls i j k) → length rs' ≡ length rs → length ls' ≡ length ls →
+    Becomes x.phase x.last bs rs' ls' s c r → r ≡ Some fallen → Ready bs rs' ls' i j k
 again x e f b ok =
     let w = went b ok in
     record { phase = x.phase; last = x.last; st = w.st; room = same_room e f x.room; into = x.into; rep = w.rep }

@@ -7,7 +7,6 @@ use Rattle.geometry.specs.Geometry.{is_whole, line_quad}
 use Rattle.geometry.specs.declared.Quad.{Quad}
 use Rattle.measure.specs.NotNegative.{not_negative, Measurable}
 use Rattle.breaks.specs.Breaks.{Row, break_at}
-use Rattle.optimize.specs.declared.Trial.{Trial}
 use Rattle.optimize.specs.declared.Solved.{Solved}
 use Rattle.attempt.specs.Answers.{Best, is_curve, total_of}
 use Rattle.attempt.specs.Value.{best_of}
@@ -58,13 +57,13 @@ module _ (samples : List (List Float)) (breaks : Row) (penalty : Float) where
 -- ---- what is left in the rows for answers and links
 
 -- by a step on the pair (i, j), whose answer goes to stored answer k
-abbrev pub Takes : Row → Lent (List Float) → Lent ℕ → ℕ → ℕ → ℕ → Step → Trial → Type 0
+abbrev pub Takes : Row → Lent (List Float) → Lent ℕ → ℕ → ℕ → ℕ → Step → Option ℕ → Type 0
 Takes breaks answers links i j k next r =
     (f : Phase) (n : ℕ) (st : List Best) → Room n breaks (before answers) (before links) → Into f n i j k → Rep f n breaks (before answers) (before links) st →
     Becomes f n breaks (after answers) (after links) (next st).0 (next st).1 r
 
 -- by many, which lead from the phase f to the phase g
-abbrev pub Leads : Phase → Phase → ℕ → Row → Lent (List Float) → Lent ℕ → Step → Trial → Type 0
+abbrev pub Leads : Phase → Phase → ℕ → Row → Lent (List Float) → Lent ℕ → Step → Option ℕ → Type 0
 Leads f g n breaks answers links next r =
     (st : List Best) → Rep f n breaks (before answers) (before links) st → Becomes g n breaks (after answers) (after links) (next st).0 (next st).1 r
 

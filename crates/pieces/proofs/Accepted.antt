@@ -142,14 +142,14 @@ module _ (samples : List (List Float)) (breaks : Row) (penalty : Float) where
     unfolding pieces_of sum_from
     answer_yes m made whole = says_yes _ _ (stays_shaped whole) (totals penalty none line m made)
 
-    bent_sound : (m : M.Measure) → measure_of samples there.s there.s line ≡ Some m → is_whole there.xy ≡ true → (ok : Bool) → (bend_in_place samples there).ok ≡ ok →
+    bent_sound : (m : M.Measure) → measure_of samples there.s there.s line ≡ Some m → is_whole there.xy ≡ true → (fell : Option ℕ) → bend_in_place samples there ≡ fell →
         Sound Yes (optimize_of measure breaks penalty)
-    bent_sound m made whole true ok = rw (one_solved samples breaks penalty one whole m made (still samples there.s there.s there.xy fits-x fits-y whole m made) ok) (solves (answer_yes m made whole))
-    bent_sound m made whole false bad = rw (one_bent_refused samples breaks penalty one whole m made (still samples there.s there.s there.xy fits-x fits-y whole m made) bad) refuses
+    bent_sound m made whole (Some n) ok = rw (one_solved samples breaks penalty one whole m made (still samples there.s there.s there.xy fits-x fits-y whole m made) ok) (solves (answer_yes m made whole))
+    bent_sound m made whole None bad = rw (one_bent_refused samples breaks penalty one whole m made (still samples there.s there.s there.xy fits-x fits-y whole m made) bad) refuses
 
     line_sound : is_whole there.xy ≡ true → (w : Option M.Measure) → measure_of samples there.s there.s line ≡ w → Sound Yes (optimize_of measure breaks penalty)
     line_sound whole None made = rw (one_refused samples breaks penalty one whole made) refuses
-    line_sound whole (Some m) made = bent_sound m made whole (bend_in_place samples there).ok refl
+    line_sound whole (Some m) made = bent_sound m made whole (bend_in_place samples there) refl
 
     one_sound : (whole : Bool) → is_whole there.xy ≡ whole → Sound Yes (optimize_of measure breaks penalty)
     one_sound true e = line_sound e (measure_of samples there.s there.s line) refl

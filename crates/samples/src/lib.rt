@@ -81,7 +81,7 @@ pub fn as_quad(s: Seg) -> Quad
 }
 
 // A place and a direction, as a row has them.
-fn packed(p: Point, d: Point) -> [f64; 4]
+pub fn packed(p: Point, d: Point) -> [f64; 4]
     ensures { result ≡ sample_from p d }
 {
     [p.x, p.y, d.x, d.y]
@@ -134,7 +134,7 @@ pub fn step_at(q: Quad, f: ArclenFunctor, t: f64, y: f64) -> Step
 }
 
 // The samples after the last step, up to the length + 2. None: the row is full, refusal 6.
-fn finish<S: Unitize>(row: &mut [[f64; 4]], w: Walk, q: Quad) -> Option<Thetas>
+pub fn finish<S: Unitize>(row: &mut [[f64; 4]], w: Walk, q: Quad) -> Option<Thetas>
     requires { w.n ≤ length row.old }
     ensures row { finished (length row.old) q w.len (walked_in row.old w) ≡ run_in row.new result }
     ensures places { places_sampled result ≤ length row.old }
@@ -153,7 +153,7 @@ fn finish<S: Unitize>(row: &mut [[f64; 4]], w: Walk, q: Quad) -> Option<Thetas>
 }
 
 // Before the first segment.
-fn begin() -> Walk
+pub fn begin() -> Walk
     ensures { result ≡ start }
 {
     let here = Point { x: 0.0, y: 0.0 };

@@ -4,14 +4,15 @@ use Rattle.halving.specs.Exact.{ExactCubic}
 use Rattle.halving.proofs.Halving.{first_part_lem, second_part_lem, bent_part, reach_roomy, roomy_less}
 use Rattle.cubics.proofs.Making.{makes_more, reach_next, none_left, not_halved, halved}
 use Rattle.cubics.proofs.+between.Goals as goal
+use Rattle.cubics.proofs.+between.Goals.{then-left-eq0-via-then-left-eq0, then-left-eq0-via-else-left-eq0+then-not-is_bent}
 
 pub returns-then-left-eq0 : goal.returns-then-left-eq0
-returns-then-left-eq0 t c = λ n e b reach v. rw (none_left c.args.left e n c.if-left-eq0.true) (c.put_control.ensures n e b (reach_roomy reach) v)
-
-pub returns-then-not-is_bent : goal.returns-then-not-is_bent
-returns-then-not-is_bent t c = λ n e b reach v.
-    let flat : bent e n ≡ false = sym (bent_part (roomy_less (reach_roomy reach)) v) ∙ sym c.is_bent.ensures ∙ c.if-not-is_bent.true in
-    rw (not_halved c.args.left e n flat) (c.put_control-then-not-is_bent.ensures n e b (reach_roomy reach) v)
+returns-then-left-eq0 t c = λ n e b reach v. elim c.then-left-eq0.branch [
+  | then-left-eq0-via-then-left-eq0 w ↦ rw (none_left c.args.left e n w.if-left-eq0.true) (c.put_control.ensures n e b (reach_roomy reach) v)
+  | then-left-eq0-via-else-left-eq0+then-not-is_bent w ↦
+      (let flat : bent e n ≡ false = sym (bent_part (roomy_less (reach_roomy reach)) v) ∙ sym w.is_bent.ensures ∙ w.if-not-is_bent.true in
+      rw (not_halved c.args.left e n flat) (c.put_control.ensures n e b (reach_roomy reach) v))
+]
 
 pub returns : goal.returns
 returns t c = λ n e b reach v.

@@ -1,18 +1,24 @@
 -- Calls of fontcrunch_read_glif, fontcrunch_write_glif and fontcrunch_crunch_glif, and what they promise. Definitions and statements; the theorems stand in
 -- proofs/Stated/Glif.
-use Rattle.std.specs.Prelude.{ℕ, List, ◌≡◌, Float, ℤ, length}
+use Rattle.std.specs.Prelude.{ℕ, List, ◌≡◌, Float, ℤ, length, Result, Ok, Err}
+use Rattle.refusals.specs.Number.{number_of}
+use Rattle.refusals.specs.declared.refusal.Refusal.{Refusal}
 use denote.Triple.Both.{Both}
 use Rattle.rows.specs.Rows.{work}
+use Rattle.rows.specs.Lent.{Shown}
 use Rattle.settings.specs.Settings.{settings_of}
 use Rattle.settings.specs.declared.Settings.{Settings}
 use Rattle.glifread.specs.Enter.{rows, filled}
-use Rattle.glifread.specs.Reads.{Kept, kept, rooms_of}
+use Rattle.glifread.specs.Reads.{Kept, kept, rooms_of, answer_by}
 use Rattle.glifread.specs.Entry as Reading
-use Rattle.glifread.specs.declared.read.GlifReadReport.{GlifReadReport}
-use Rattle.glifwrite.specs.Writes.{GivenRows, given}
+use Rattle.glifread.specs.declared.read.Counts.{Counts}
+use Rattle.glifwrite.specs.Writes.{GivenRows, given, answer_of}
 use Rattle.glifwrite.specs.Entry as Writing
-use Rattle.glifwrite.specs.declared.write.GlifWriteReport.{GlifWriteReport}
+use Rattle.glifs.specs.Glifs.{shown_of}
 use Rattle.glifs.specs.Entry as Crunching
+use Rattle.exports.specs.Glif.{read_report, write_report}
+use Rattle.exports.specs.declared.glif_files.GlifReadReport.{GlifReadReport}
+use Rattle.exports.specs.declared.glif_files.GlifWriteReport.{GlifWriteReport}
 
 -- ---- fontcrunch_read_glif
 
@@ -40,7 +46,16 @@ read_glif_rows g l = record { entry = read_glif_before g; exit = kept (filled l.
 
 -- the reader's promise, for what the caller gave
 pub record ReadGlifIs (g : ReadGlifGiven) (l : ReadGlifLeft) : Type 0 where
-  pub promise : Reading.Promise g.bytes (read_glif_rows g l) l.report
+  pub shown : Shown read_report (Reading.Promise g.bytes (read_glif_rows g l)) l.report
+
+-- what the reader's definition answers, for what the caller gave
+abbrev pub read_glif_defined : ReadGlifGiven → Result Counts Refusal
+read_glif_defined g = answer_by (Reading.judged_in g.bytes (rooms_of (read_glif_before g))) (rooms_of (read_glif_before g))
+
+-- the report of a refusal shows its number and nothing else; else how many contours and points there are
+abbrev pub ReadGlifShows : Result Counts Refusal → GlifReadReport → Type 0
+ReadGlifShows (Err k) r = (r.number ≡ number_of k) × (r.contours ≡ 0) × (r.points ≡ 0)
+ReadGlifShows (Ok c) r = (r.number ≡ 0) × (r.contours ≡ c.contours) × (r.points ≡ c.points)
 
 -- one file, in rows of equal lengths
 pub record ReadGlifAlike (g g' : ReadGlifGiven) : Type 0 where
@@ -69,7 +84,16 @@ write_glif_row g l = record { entry = g.out; exit = l.out }
 
 -- the writer's promise, for what the caller gave
 pub record WriteGlifIs (g : WriteGlifGiven) (l : WriteGlifLeft) : Type 0 where
-  pub promise : Writing.Promise g.bytes (write_glif_rows g) (write_glif_row g l) l.report
+  pub shown : Shown write_report (Writing.Promise g.bytes (write_glif_rows g) (write_glif_row g l)) l.report
+
+-- what the writer's definition answers, for what the caller gave
+abbrev pub write_glif_defined : WriteGlifGiven → Result ℕ Refusal
+write_glif_defined g = answer_of g.bytes (write_glif_rows g) (length g.out)
+
+-- the report of a refusal shows its number and nothing else; else how many bytes are written, of a file that is written or crunched
+abbrev pub GlifBytesShow : Result ℕ Refusal → GlifWriteReport → Type 0
+GlifBytesShow (Err k) r = (r.number ≡ number_of k) × (r.bytes ≡ 0)
+GlifBytesShow (Ok n) r = (r.number ≡ 0) × (r.bytes ≡ n)
 
 -- one file and one glyph, in rows of equal length
 pub record WriteGlifAlike (g g' : WriteGlifGiven) : Type 0 where
@@ -134,7 +158,11 @@ crunch_glif_rows g l = record { entry = crunch_glif_before g; exit = crunch_glif
 
 -- the promise of the entry that crunches a file, for what the caller gave
 pub record CrunchGlifIs (g : CrunchGlifGiven) (l : CrunchGlifLeft) : Type 0 where
-  pub promise : Crunching.Promise g.bytes (crunch_glif_settings g) (crunch_glif_rows g l) l.report
+  pub shown : Shown write_report (Crunching.Promise g.bytes (crunch_glif_settings g) (crunch_glif_rows g l)) l.report
+
+-- what the definition of crunching a file answers, for what the caller gave
+abbrev pub crunch_glif_defined : CrunchGlifGiven → Result ℕ Refusal
+crunch_glif_defined g = shown_of g.bytes (length g.out) (Crunching.whole_of g.bytes (crunch_glif_settings g) (crunch_glif_before g))
 
 -- one order, in rows of equal lengths
 pub record CrunchGlifAlike (g g' : CrunchGlifGiven) : Type 0 where

@@ -3,11 +3,7 @@ use native.Mathlib.Omega.{arith}
 use mathlib.Core.Path.{sym}
 use Rattle.optimize.proofs.Held.{slot_most}
 use Rattle.optimize.proofs.Solving.{above_none, above_some}
-use borrow.Author.Rules.{rules}
 use Rattle.optimize.proofs.above.Goals as goal
-
-pub slot_of-k-requires : goal.slot_of-k-requires
-slot_of-k-requires c = search rules
 
 pub offset_bounds-links-k : goal.offset_bounds-links-k
 offset_bounds-links-k c = omega (arith, c.slot_of-k.ensures, slot_most c.args.links.now c.args.n, c.requires.2)
@@ -23,9 +19,6 @@ offset_bounds-answers-k c = omega (arith, c.slot_of-k.ensures, slot_most c.args.
 
 pub bounds-answers-k : goal.bounds-answers-k
 bounds-answers-k c = omega (arith, c.slot_of-k.ensures, slot_most c.args.links.now c.args.n, c.requires.1)
-
-pub bounds-answers-0 : goal.bounds-answers-0
-bounds-answers-0 c = search rules
 
 pub returns : goal.returns
 returns c = rw c.slot_of-k.ensures (sym (above_some _ _ _ _ (λ z. c.if-links-k-eq0.false (rw c.slot_of-k.ensures z))))

@@ -1,8 +1,6 @@
 -- `optimize::find_bend` meets its contract. Assumes nothing.
--- once it is known whether the bent piece is allowed
 use Rattle.std.specs.Prelude.{Some, None}
 use native.Mathlib.Omega.{arith}
-use borrow.Author.Rules.{rules}
 use mathlib.Core.Bool.{true, false}
 use mathlib.Core.Path.{◌≡◌, refl, sym, ◌∙◌}
 use Rattle.geometry.specs.Geometry.{round_point_of, intersect_of}
@@ -15,19 +13,10 @@ use Rattle.optimize.proofs.Attempt.{stands_half}
 use Rattle.optimize.proofs.Trying.{crossing_of, quad_of_lem, half_of, bend_nowhere, bend_allowed, bend_not_allowed}
 use Rattle.optimize.proofs.find_bend.Goals as goal
 
-pub read-a-requires : goal.read-a-requires
-read-a-requires c = c.requires.from
-
-pub read-b-requires : goal.read-b-requires
-read-b-requires c = c.requires.to
-
 pub returns-in_err-p : goal.returns-in_err-p
 returns-in_err-p c = λ f n st upto rep.
     let gone : c.from_residual.result ≡ None = grind arith in
     rw gone (bend_nowhere _ _ _ _ (sym c.in_err-p.was ∙ c.intersect.ensures ∙ crossing_of c.read-a.ensures c.read-b.ensures))
-
-pub standing-previous-requires : goal.standing-previous-requires
-standing-previous-requires c = (c.requires.links_of, c.requires.stands)
 
 pub returns-then-ok_for_half : goal.returns-then-ok_for_half
 returns-then-ok_for_half c = λ f n st upto rep.

@@ -1,5 +1,4 @@
 -- `optimize::is_idle` meets its contract: each way to `true` is one of the two reasons. Assumes nothing.
-use borrow.Author.Rules.{rules}
 use borrow.Author.Tests.{not-true}
 use native.Mathlib.Omega.{arith}
 use mathlib.Core.Bool.{false≢true}
@@ -8,39 +7,21 @@ use Rattle.optimize.specs.Steps.{beaten, untried}
 use Rattle.optimize.proofs.Trying.{break_of, is_whole_of}
 use Rattle.optimize.proofs.is_idle.Goals as goal
 
-pub standing-previous-requires : goal.standing-previous-requires
-standing-previous-requires c = c.requires
-
-pub never_below-requires : goal.never_below-requires
-never_below-requires c = tt
-
 pub offset_bounds-breaks-j : goal.offset_bounds-breaks-j
 offset_bounds-breaks-j c = omega (arith, (break_of _ c.requires.1).1)
 
 pub bounds-breaks-j : goal.bounds-breaks-j
 bounds-breaks-j c = (break_of _ c.requires.1).0
 
-pub bounds-breaks-0 : goal.bounds-breaks-0
-bounds-breaks-0 c = search rules
-
-pub sees_any-requires : goal.sees_any-requires
-sees_any-requires c = tt
-
 pub returns-then-sees_any : goal.returns-then-sees_any
 returns-then-sees_any c h =
     beaten (c.sees_any.ensures c.if-sees_any.true) (rw c.standing-previous.ensures at (c.never_below.ensures c.if-never_below.true))
-
-pub is_curve-requires : goal.is_curve-requires
-is_curve-requires c = tt
 
 pub returns-then-is_curve : goal.returns-then-is_curve
 returns-then-is_curve c h = absurd (false≢true h)
 
 pub read-requires : goal.read-requires
 read-requires c = (break_of _ c.requires.1).0
-
-pub is_whole-requires : goal.is_whole-requires
-is_whole-requires c = tt
 
 pub returns : goal.returns
 returns c h =

@@ -1,4 +1,4 @@
--- `optimize::search` meets its contract. The loop's invariant is `Reaching`, and where the search has come to; the measure is what is left of it. Assumes nothing.
+-- `optimize::search` meets its contract. The loop's invariant is `Reaching`, and where the search has come to. Assumes nothing.
 use Prim.Native.Nat.{◌+◌, ◌-◌, ◌≤◌, ◌<◌}
 use Rattle.optimize.specs.Optimize.{measure_by, search, search_from}
 use Rattle.optimize.specs.Fallen.{fallen_between}

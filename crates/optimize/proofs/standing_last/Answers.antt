@@ -3,11 +3,7 @@ use native.Mathlib.Omega.{arith}
 use mathlib.Core.Path.{sym}
 use Rattle.optimize.proofs.Held.{slot_most}
 use Rattle.optimize.proofs.Solving.{solved_at_none, solved_at_some}
-use borrow.Author.Rules.{rules}
 use Rattle.optimize.proofs.standing_last.Goals as goal
-
-pub slot_of-k-requires : goal.slot_of-k-requires
-slot_of-k-requires c = search rules
 
 pub offset_bounds-links-k : goal.offset_bounds-links-k
 offset_bounds-links-k c = omega (arith, c.slot_of-k.ensures, slot_most c.args.links.now c.args.n, c.requires.1)

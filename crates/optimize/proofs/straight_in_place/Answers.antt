@@ -1,15 +1,8 @@
 -- `optimize::straight_in_place` meets its contract. Assumes nothing.
 use mathlib.Core.Path.{sym, subst}
 use lib.Dec.{T}
-use borrow.Author.Rules.{rules}
 use Rattle.optimize.proofs.One.{in_place_lem}
 use Rattle.optimize.proofs.straight_in_place.Goals as goal
-
-pub line-requires : goal.line-requires
-line-requires c = search rules
-
-pub measure_quad-requires : goal.measure_quad-requires
-measure_quad-requires c = search rules
 
 pub returns : goal.returns
 returns c = record {

@@ -1,5 +1,4 @@
 -- `optimize::try_bent` meets its contract. Assumes nothing.
-use borrow.Author.Rules.{rules}
 use mathlib.Core.Path.{refl, sym, ◌∙◌}
 use Rattle.optimize.specs.Optimize.{measure_by}
 use Rattle.optimize.specs.Fallen.{fallen_between}
@@ -10,12 +9,6 @@ use Rattle.optimize.proofs.try_bent.Goals as goal
 pub find_bend-requires : goal.find_bend-requires
 find_bend-requires c = reads_both c.requires
 
-pub shape_of-answers-in_default : goal.shape_of-answers-in_default
-shape_of-answers-in_default c = search rules
-
-pub shape_of-links-in_default : goal.shape_of-links-in_default
-shape_of-links-in_default c = search rules
-
 pub returns-in_default : goal.returns-in_default
 returns-in_default c = λ f n st room into rep.
     let measure = measure_by c.args.samples.now c.args.breaks.now in
@@ -24,18 +17,12 @@ returns-in_default c = λ f n st room into rep.
       bent_is measure (fallen_between c.args.samples.now c.args.breaks.now) c.args.breaks.now c.args.penalty c.args.i c.args.j st none,
       fell_is measure (fallen_between c.args.samples.now c.args.breaks.now) c.args.breaks.now c.args.penalty c.args.i c.args.j st none,
     )
-    (goes refl refl rep)
+    (goes refl rep)
 
 pub try_quad-requires : goal.try_quad-requires
 try_quad-requires c =
     let is = sym c.in-Some.is ∙ c.find_bend.ensures c.requires.phase c.requires.last c.requires.st (from_upto c.requires.into) c.requires.rep in
     record { ready = c.requires; p0_value = bend_ends _ _ _ _ is }
-
-pub shape_of-answers : goal.shape_of-answers
-shape_of-answers c = search rules
-
-pub shape_of-links : goal.shape_of-links
-shape_of-links c = search rules
 
 pub returns : goal.returns
 returns c = λ f n st room into rep.

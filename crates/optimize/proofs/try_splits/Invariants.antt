@@ -1,4 +1,4 @@
--- `optimize::try_splits` meets its contract. The loop's invariant is `Reaching`, and where the splits have come to; the measure is what is left of them. Assumes nothing.
+-- `optimize::try_splits` meets its contract. The loop's invariant is `Reaching`, and where the splits have come to. Assumes nothing.
 use Prim.Native.Nat.{◌-◌, ◌≤◌, ◌<◌}
 use Rattle.optimize.specs.Optimize.{measure_by, splits, splits_from}
 use Rattle.optimize.specs.Fallen.{fallen_between}

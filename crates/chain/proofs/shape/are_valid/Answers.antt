@@ -1,17 +1,10 @@
-use Prim.Native.Nat.{◌+◌, ◌^◌, ◌<◌}
+use Prim.Native.Nat.{◌<◌}
 use native.Mathlib.Omega.{arith}
 use mathlib.Core.Path.{sym, ◌∙◌}
 use borrow.Author.Tests.{not-true, not-false}
 use lib.ListN.{length, get_or}
-use Rattle.chain.proofs.Along.{all_inside, inside, passing, all_valid, one_invalid, passes_on}
+use Rattle.chain.proofs.Along.{inside, all_valid, one_invalid, passes_on}
 use Rattle.chain.proofs.shape.are_valid.Goals as goal
-
-pub loop-i-init : goal.loop-i-init
-loop-i-init c = (omega arith, passing _ _ _ _ _)
-
-pub read-p-requires : goal.read-p-requires
-read-p-requires c =
-    all_inside c.args.starts.now c.args.ends.now c.args.xs.now c.args.ys.now _ c.requires.breaks_nonzero.1 c.loop-i-test.true
 
 pub read-a-requires : goal.read-a-requires
 read-a-requires c =
@@ -22,9 +15,6 @@ pub read-b-requires : goal.read-b-requires
 read-b-requires c =
     let numbers : (get_or c.args.starts.now c.loop-i.i 0 < length c.args.breaks.now) × (get_or c.args.ends.now c.loop-i.i 0 < length c.args.breaks.now) = inside _ _ _ _ _ _ c.requires.breaks_nonzero.0 c.requires.ys_value c.loop-i-test.true in
     rw c.read-p.ensures (numbers).1
-
-pub is_valid-requires : goal.is_valid-requires
-is_valid-requires c = tt
 
 pub returns-then-not-is_valid : goal.returns-then-not-is_valid
 returns-then-not-is_valid c =

@@ -1,5 +1,5 @@
 -- `chain::shape::are_valid` meets its contract. The invariant is `Passing`; the measure is what is left of the pieces. Assumes nothing.
-use Prim.Native.Nat.{◌-◌, ◌≤◌}
+use Prim.Native.Nat.{◌≤◌}
 use lib.ListN.{length}
 use Rattle.chain.proofs.Along.{Passing}
 use Rattle.chain.proofs.shape.are_valid.Given as goal

@@ -1,5 +1,5 @@
 -- `chain::shape::leads` meets its contract. The invariant is `Leading`; the measure is what is left of the pieces. Assumes nothing.
-use Prim.Native.Nat.{◌-◌, ◌≤◌}
+use Prim.Native.Nat.{◌≤◌}
 use lib.ListN.{length}
 use Rattle.chain.proofs.Along.{Leading}
 use Rattle.chain.proofs.shape.leads.Given as goal

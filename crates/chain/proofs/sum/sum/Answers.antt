@@ -1,15 +1,8 @@
-use Prim.Native.Nat.{◌+◌, ◌-◌, ◌^◌, ◌<◌}
+use Prim.Native.Nat.{◌-◌, ◌<◌}
 use native.Mathlib.Omega.{arith}
 use lib.ListN.{length, get_or}
-use Rattle.chain.proofs.Along.{all_inside, inside, joined_few, summing, summed, one_refused, sums_on, falling, none_counted, all_counted, counted_few, falls_on}
+use Rattle.chain.proofs.Along.{inside, joined_few, summed, one_refused, sums_on, none_counted, all_counted, counted_few, falls_on}
 use Rattle.chain.proofs.sum.sum.Goals as goal
-
-pub loop-i-init : goal.loop-i-init
-loop-i-init c = (omega arith, summing _ _ _ _ _ _ _, falling _ _ _ _ _ _)
-
-pub read-p-requires : goal.read-p-requires
-read-p-requires c =
-    all_inside c.args.starts.now c.args.ends.now c.args.xs.now c.args.ys.now _ c.requires.breaks_nonzero.1 c.loop-i-test.true
 
 pub quad_of-q-requires : goal.quad_of-q-requires
 quad_of-q-requires c =
@@ -26,9 +19,6 @@ read-b-requires c =
     let numbers : (get_or c.args.starts.now c.loop-i.i 0 < length c.args.breaks.now) × (get_or c.args.ends.now c.loop-i.i 0 < length c.args.breaks.now) = inside _ _ _ _ _ _ c.requires.breaks_nonzero.0 c.requires.ys_value c.loop-i-test.true in
     rw c.read-p.ensures (numbers).1
 
-pub measure_quad-requires : goal.measure_quad-requires
-measure_quad-requires c = tt
-
 pub returns-in_default : goal.returns-in_default
 returns-in_default c =
     let none = rw c.in_default.is at c.measure_quad.ensures in
@@ -36,9 +26,6 @@ returns-in_default c =
     one_refused _ _ _ _ _ _ _ _ _ _ c.loop-i.invariant.1 c.loop-i-test.true _ c.read-p.ensures _ c.quad_of-q.ensures
     _ _ c.read-a.ensures c.read-b.ensures none in
     (is, none_counted _ _ _ _ _ _ _ is)
-
-pub joint-requires : goal.joint-requires
-joint-requires c = tt
 
 pub overflow_add-fallen : goal.overflow_add-fallen
 overflow_add-fallen c =

@@ -1,5 +1,5 @@
 -- `chain::sum::sum` meets its contract. The invariant is `Summing`; the measure is what is left of the pieces. Assumes nothing.
-use Prim.Native.Nat.{◌-◌, ◌≤◌}
+use Prim.Native.Nat.{◌≤◌}
 use lib.ListN.{length}
 use Rattle.chain.proofs.Along.{Summing, Falling}
 use Rattle.chain.proofs.sum.sum.Given as goal

@@ -20,6 +20,6 @@ shape_of-points c = c.clear-2.auto.points ∙ c.judge-f.auto.points ∙ c.clear.
 
 pub returns : goal.returns
 returns c = record {
-  answer = read_answer c.args.bytes.now c.args.ends.now c.args.xs.now c.args.ys.now c.args.flags.now c.args.points.now c.clear.ensures c.judge-f.ensures (c.judge-f.auto.points ∙ c.clear.auto.points) c.refuse-k.ensures c.pick.ensures c.enter_all.ensures c.clear-2.ensures c.report_of.ensures;
-  left = read_left c.args.bytes.now c.args.ends.now c.args.xs.now c.args.ys.now c.args.flags.now c.args.points.now c.clear.ensures c.judge-f.ensures (c.judge-f.auto.points ∙ c.clear.auto.points) c.refuse-k.ensures c.pick.ensures c.enter_all.ensures c.clear-2.ensures c.report_of.ensures;
+  answer = read_answer c.args.bytes.now c.args.ends.now c.args.xs.now c.args.ys.now c.args.flags.now c.args.points.now c.clear.ensures c.judge-f.ensures (c.judge-f.auto.points ∙ c.clear.auto.points) c.refuse-k.ensures (rw c.is_some.ensures at c.pick.ensures) c.enter_all.ensures c.clear-2.ensures c.answer_of.ensures;
+  left = read_left c.args.bytes.now c.args.ends.now c.args.xs.now c.args.ys.now c.args.flags.now c.args.points.now c.clear.ensures c.judge-f.ensures (c.judge-f.auto.points ∙ c.clear.auto.points) c.refuse-k.ensures (rw c.is_some.ensures at c.pick.ensures) c.enter_all.ensures c.clear-2.ensures c.answer_of.ensures;
 }

@@ -5,7 +5,7 @@ use Rattle.glifread.proofs.read.refuse.Goals as goal
 pub returns : goal.returns
 unfolding refusal
 returns c = rw (
-  c.pick-4.ensures,
+  c.or.ensures,
   c.pick-short.ensures,
   c.pick-3.ensures,
   c.pick-output.ensures,

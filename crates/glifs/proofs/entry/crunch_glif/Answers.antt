@@ -1,55 +1,9 @@
 -- `glifs::entry::crunch_glif` meets its contract. Assumes nothing.
-use mathlib.Core.Path.{◌∙◌}
 use lib.ListN.{length}
 use Rattle.edition.specs.Laws.{cleared_work}
 use Rattle.crunch.proofs.Whole.{cleared_points}
 use Rattle.glifs.proofs.Reading.{rows_zero}
 use Rattle.glifs.proofs.entry.crunch_glif.Goals as goal
-
-pub crunch_bytes-r-requires : goal.crunch_bytes-r-requires
-crunch_bytes-r-requires c = tt
-
-pub clear_rows-requires : goal.clear_rows-requires
-clear_rows-requires c = tt
-
-pub clear_work-requires : goal.clear_work-requires
-clear_work-requires c = tt
-
-pub clear_points-requires : goal.clear_points-requires
-clear_points-requires c = tt
-
-pub shape_of-out : goal.shape_of-out
-shape_of-out c = c.crunch_bytes-r.auto.out
-
-pub shape_of-ends : goal.shape_of-ends
-shape_of-ends c = c.clear_rows.auto.ends ∙ c.crunch_bytes-r.auto.ends
-
-pub shape_of-xs : goal.shape_of-xs
-shape_of-xs c = c.clear_rows.auto.xs ∙ c.crunch_bytes-r.auto.xs
-
-pub shape_of-ys : goal.shape_of-ys
-shape_of-ys c = c.clear_rows.auto.ys ∙ c.crunch_bytes-r.auto.ys
-
-pub shape_of-flags : goal.shape_of-flags
-shape_of-flags c = c.clear_rows.auto.flags ∙ c.crunch_bytes-r.auto.flags
-
-pub shape_of-marks : goal.shape_of-marks
-shape_of-marks c = c.crunch_bytes-r.auto.marks
-
-pub shape_of-samples : goal.shape_of-samples
-shape_of-samples c = c.clear_work.auto.samples ∙ c.crunch_bytes-r.auto.samples
-
-pub shape_of-breaks : goal.shape_of-breaks
-shape_of-breaks c = c.clear_work.auto.breaks ∙ c.crunch_bytes-r.auto.breaks
-
-pub shape_of-answers : goal.shape_of-answers
-shape_of-answers c = c.clear_work.auto.answers ∙ c.crunch_bytes-r.auto.answers
-
-pub shape_of-links : goal.shape_of-links
-shape_of-links c = c.clear_work.auto.links ∙ c.crunch_bytes-r.auto.links
-
-pub shape_of-points : goal.shape_of-points
-shape_of-points c = c.clear_points.auto.points ∙ c.crunch_bytes-r.auto.points
 
 pub returns : goal.returns
 returns c =

@@ -1,11 +1,11 @@
 -- `glifs::entry::crunch_read` meets its contract. Assumes nothing.
-use mathlib.Core.Path.{refl, sym}
+use mathlib.Core.Path.{sym}
 use native.Mathlib.Omega.{arith}
-use borrow.Author.Rules.{rules}
 use lib.ListN.{length}
 use lib.Seq.{length-take-le}
 use Rattle.rows.specs.Rows.{work}
 use Rattle.edition.specs.Scratch.{rooms_of}
+use Rattle.refusals.proofs.Passing.{handed_up}
 use Rattle.glyphs.proofs.Writing.{none_anew, all_anew}
 use Rattle.glifs.proofs.Renewing.{held, not_held, not_crunched, all_crunched}
 use Rattle.glifs.proofs.entry.crunch_read.Goals as goal
@@ -18,7 +18,7 @@ slice_bounds-belongs-end-2 c = sym (length-take-le _ c.args.ends.now c.requires.
 
 pub returns-then-not-belongs : goal.returns-then-not-belongs
 returns-then-not-belongs c =
-    not_held c.args.ends.now c.args.xs.now c.args.ys.now c.args.flags.now c.requires c.belongs.ensures (rooms_of (work c.args.samples.now c.args.breaks.now c.args.answers.now c.args.links.now)) c.args.settings (length c.args.points.now) c.args.bytes.now c.args.out.now c.if-not-belongs.true-raw c.refused.ensures
+    not_held c.args.ends.now c.args.xs.now c.args.ys.now c.args.flags.now c.requires c.belongs.ensures (rooms_of (work c.args.samples.now c.args.breaks.now c.args.answers.now c.args.links.now)) c.args.settings (length c.args.points.now) c.args.bytes.now c.args.out.now c.if-not-belongs.true-raw
 
 pub crunch_rows-requires : goal.crunch_rows-requires
 crunch_rows-requires c =
@@ -27,31 +27,32 @@ crunch_rows-requires c =
 pub slice_bounds-write_glif-end : goal.slice_bounds-write_glif-end
 slice_bounds-write_glif-end c = omega (arith, c.crunch_rows.auto.ends, c.requires.in_ends)
 
-pub slice_bounds-write_glif-end-in-Ok : goal.slice_bounds-write_glif-end-in-Ok
-slice_bounds-write_glif-end-in-Ok c = sym (length-take-le _ _ (omega (arith, c.crunch_rows.auto.ends, c.requires.in_ends)))
+pub slice_bounds-write_glif-end-2 : goal.slice_bounds-write_glif-end-2
+slice_bounds-write_glif-end-2 c = sym (length-take-le _ _ (omega (arith, c.crunch_rows.auto.ends, c.requires.in_ends)))
 
-pub slice_bounds-write_glif-end-in-Ok-2 : goal.slice_bounds-write_glif-end-in-Ok-2
-slice_bounds-write_glif-end-in-Ok-2 c = (all_anew c.crunch_rows.ensures c.in-Ok.is).placed.in_xs
+pub slice_bounds-write_glif-end-3 : goal.slice_bounds-write_glif-end-3
+slice_bounds-write_glif-end-3 c = (all_anew c.crunch_rows.ensures c.in_ok-n.was).placed.in_xs
 
-pub slice_bounds-write_glif-end-in-Ok-3 : goal.slice_bounds-write_glif-end-in-Ok-3
-slice_bounds-write_glif-end-in-Ok-3 c = sym (length-take-le _ _ (all_anew c.crunch_rows.ensures c.in-Ok.is).placed.in_xs)
+pub slice_bounds-write_glif-end-4 : goal.slice_bounds-write_glif-end-4
+slice_bounds-write_glif-end-4 c = sym (length-take-le _ _ (all_anew c.crunch_rows.ensures c.in_ok-n.was).placed.in_xs)
 
-pub slice_bounds-write_glif-end-in-Ok-4 : goal.slice_bounds-write_glif-end-in-Ok-4
-slice_bounds-write_glif-end-in-Ok-4 c = (all_anew c.crunch_rows.ensures c.in-Ok.is).placed.in_ys
+pub slice_bounds-write_glif-end-5 : goal.slice_bounds-write_glif-end-5
+slice_bounds-write_glif-end-5 c = (all_anew c.crunch_rows.ensures c.in_ok-n.was).placed.in_ys
 
-pub slice_bounds-write_glif-end-in-Ok-5 : goal.slice_bounds-write_glif-end-in-Ok-5
-slice_bounds-write_glif-end-in-Ok-5 c = sym (length-take-le _ _ (all_anew c.crunch_rows.ensures c.in-Ok.is).placed.in_ys)
+pub slice_bounds-write_glif-end-6 : goal.slice_bounds-write_glif-end-6
+slice_bounds-write_glif-end-6 c = sym (length-take-le _ _ (all_anew c.crunch_rows.ensures c.in_ok-n.was).placed.in_ys)
 
-pub slice_bounds-write_glif-end-in-Ok-6 : goal.slice_bounds-write_glif-end-in-Ok-6
-slice_bounds-write_glif-end-in-Ok-6 c = (all_anew c.crunch_rows.ensures c.in-Ok.is).placed.in_flags
+pub slice_bounds-write_glif-end-7 : goal.slice_bounds-write_glif-end-7
+slice_bounds-write_glif-end-7 c = (all_anew c.crunch_rows.ensures c.in_ok-n.was).placed.in_flags
 
-pub slice_bounds-write_glif-end-in-Ok-7 : goal.slice_bounds-write_glif-end-in-Ok-7
-slice_bounds-write_glif-end-in-Ok-7 c = sym (length-take-le _ _ (all_anew c.crunch_rows.ensures c.in-Ok.is).placed.in_flags)
+pub slice_bounds-write_glif-end-8 : goal.slice_bounds-write_glif-end-8
+slice_bounds-write_glif-end-8 c = sym (length-take-le _ _ (all_anew c.crunch_rows.ensures c.in_ok-n.was).placed.in_flags)
 
-pub returns-in-Err : goal.returns-in-Err
-returns-in-Err c =
-    not_crunched c.args.ends.now c.args.xs.now c.args.ys.now c.args.flags.now c.requires c.belongs.ensures (rooms_of (work c.args.samples.now c.args.breaks.now c.args.answers.now c.args.links.now)) c.args.settings (length c.args.points.now) c.args.bytes.now c.args.out.now c.if-not-belongs.false-raw (none_anew c.crunch_rows.ensures c.in-Err.is) (rw c.number.ensures at c.refused-in-Err.ensures)
+pub returns-in_err-n : goal.returns-in_err-n
+returns-in_err-n c =
+    rw (handed_up c.from_residual.result _ c.from_residual.ensures.1)
+    (not_crunched c.args.ends.now c.args.xs.now c.args.ys.now c.args.flags.now c.requires c.belongs.ensures (rooms_of (work c.args.samples.now c.args.breaks.now c.args.answers.now c.args.links.now)) c.args.settings (length c.args.points.now) c.args.bytes.now c.args.out.now c.if-not-belongs.false-raw (none_anew c.crunch_rows.ensures c.in_err-n.was))
 
-pub returns-in-Ok : goal.returns-in-Ok
-returns-in-Ok c =
-    all_crunched c.args.ends.now c.args.xs.now c.args.ys.now c.args.flags.now c.requires c.belongs.ensures (rooms_of (work c.args.samples.now c.args.breaks.now c.args.answers.now c.args.links.now)) c.args.settings (length c.args.points.now) c.args.bytes.now c.args.out.now c.if-not-belongs.false-raw (all_anew c.crunch_rows.ensures c.in-Ok.is) c.write_glif.ensures
+pub returns : goal.returns
+returns c =
+    all_crunched c.args.ends.now c.args.xs.now c.args.ys.now c.args.flags.now c.requires c.belongs.ensures (rooms_of (work c.args.samples.now c.args.breaks.now c.args.answers.now c.args.links.now)) c.args.settings (length c.args.points.now) c.args.bytes.now c.args.out.now c.if-not-belongs.false-raw (all_anew c.crunch_rows.ensures c.in_ok-n.was) c.write_glif.ensures

@@ -5,9 +5,9 @@ use Rattle.glifwrite.proofs.write.refuse.Goals as goal
 pub returns : goal.returns
 unfolding rows_refused
 returns c = rw (
-  c.pick-2.ensures,
+  c.or.ensures,
   c.pick-rows.ensures,
-  c.pick.ensures,
+  c.pick-two.ensures,
   c.either-empty.ensures,
   c.both.ensures,
   c.some_empty.ensures,

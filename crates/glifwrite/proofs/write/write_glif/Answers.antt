@@ -12,9 +12,12 @@ pub shape_of-out : goal.shape_of-out
 shape_of-out c = c.write_all.auto.out
 
 pub returns : goal.returns
-returns c = record {
-  answer = write_answer c.args.bytes.now c.args.ends.now c.args.xs.now c.args.ys.now c.args.flags.now c.args.out.now c.judge-f.ensures c.refuse-k.ensures c.pick-n.ensures c.write_all-size.ensures
-      c.pick.ensures c.pick-number.ensures
-      c.pick-m.ensures c.write_all.ensures c.report_of.ensures;
-  left = write_left c.args.bytes.now c.args.ends.now c.args.xs.now c.args.ys.now c.args.flags.now c.args.out.now c.judge-f.ensures c.refuse-k.ensures c.pick-n.ensures c.write_all-size.ensures c.pick.ensures c.pick-number.ensures c.pick-m.ensures c.write_all.ensures c.report_of.ensures;
-}
+returns c =
+    let n_is = rw c.is_some.ensures at c.pick-n.ensures in
+    let m_is = rw c.is_some-2.ensures at c.pick-m.ensures in
+    record {
+      answer = write_answer c.args.bytes.now c.args.ends.now c.args.xs.now c.args.ys.now c.args.flags.now c.args.out.now c.judge-f.ensures c.refuse-k.ensures n_is c.write_all-size.ensures
+          c.pick-short.ensures c.or-refusal.ensures
+          m_is c.write_all.ensures c.answer_as.ensures;
+      left = write_left c.args.bytes.now c.args.ends.now c.args.xs.now c.args.ys.now c.args.flags.now c.args.out.now c.judge-f.ensures c.refuse-k.ensures n_is c.write_all-size.ensures c.pick-short.ensures c.or-refusal.ensures m_is c.write_all.ensures c.answer_as.ensures;
+    }

@@ -1,8 +1,0 @@
--- `cubics::coordinate` meets its contract. Assumes nothing.
-use mathlib.Core.Path.{sym}
-use lib.IntN.{pos}
-use lib.ListN.{get_or-eq_default}
-use Rattle.cubics.proofs.coordinate.Goals as goal
-
-pub returns-else-i-row : goal.returns-else-i-row
-returns-else-i-row c = sym (get_or-eq_default c.args.row.now (pos 0) c.if-i-row.false)
