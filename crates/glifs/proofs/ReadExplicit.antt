@@ -10,7 +10,7 @@ use Rattle.std.specs.Prelude.{Option, Some, None, Ok, is_ok}
 use Rattle.std.specs.Option.{option_or}
 use Rattle.refusals.specs.Number.{number_of}
 use Rattle.refusals.specs.declared.refusal.Refusal.{Refusal}
-use Rattle.refusals.specs.declared.refusal.Refusal.TheVariants.{TooLarge, OutputTooShort, Malformed, CubicOrOpen, NoOnCurve}
+use Rattle.refusals.specs.declared.refusal.Refusal.TheVariants.{TooLarge, Malformed, CubicOrOpen, NoOnCurve}
 use lib.IntN.{ℤ, pos}
 use lib.ListN.{length, take, replicate, length-map, length-replicate}
 use Rattle.contour.specs.Points.{Points}

@@ -1,28 +1,25 @@
 -- What was read stands in the first places of rows that were zero. Assumes nothing.
 use Prim.Native.Nat.{ℕ, ◌≤◌}
 use native.Mathlib.Omega.{arith}
-use mathlib.Core.Bool.{Bool, false}
 use mathlib.Core.List.{List}
 use mathlib.Core.Path.{◌≡◌, refl, sym, ap, subst, ◌∙◌}
 use borrow.Author.Tests.{ltb-false}
 use lib.Dec.{ltb}
 use Rattle.std.specs.Prelude.{Option, Some, None, Result, Ok, Err}
-use Rattle.std.specs.Option.{option_or}
 use Rattle.refusals.specs.declared.refusal.Refusal.{Refusal}
 use Rattle.refusals.specs.declared.refusal.Refusal.TheVariants.{OutputTooShort}
 use lib.IntN.{ℤ, pos}
-use lib.ListN.{length, take, replicate, length-replicate}
-use Rattle.gliftext.specs.Pick.{pick}
+use lib.ListN.{length, replicate, length-replicate}
 use Rattle.glif.specs.Scan.{Judged, judged}
 use Rattle.glif.specs.declared.scan.Totals.{Totals}
 use Rattle.edition.specs.Edition as Edition
 use Rattle.settings.specs.declared.Settings.{Settings}
 use Rattle.glifread.specs.Enter.{no_place, Filled, filled, rows}
-use Rattle.glifread.specs.Reads.{Kept, kept, rooms, rooms_of, nine, refusal, answer_of, answer_by, enters_by}
+use Rattle.glifread.specs.Reads.{Kept, kept, rooms, rooms_of, refusal, answer_of, answer_by, enters_by}
 use Rattle.glifread.specs.Reads as Reads
 use Rattle.glifread.specs.Entry.{judged_in, Promise}
 use Rattle.glifread.specs.declared.read.Counts.{Counts}
-use Rattle.glifwrite.specs.Writes.{GivenRows, given}
+use Rattle.glifwrite.specs.Writes.{GivenRows}
 use Rattle.glyf.specs.Layout.{Outcome, done, refused}
 use Rattle.glifs.specs.Glifs.{Rooms, zero_rows, first_of, found_by, read_of, renewed_of, crunch_glif_of}
 use Rattle.glifs.specs.Entry.{zero_kept}

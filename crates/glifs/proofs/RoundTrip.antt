@@ -15,10 +15,8 @@ use Rattle.std.specs.Prelude.{Option, Some, None, Result, Ok, is_ok}
 use Rattle.refusals.specs.declared.refusal.Refusal.{Refusal}
 use Rattle.refusals.specs.declared.refusal.Refusal.TheVariants.{UnevenRows, NoPoint, TooLarge, OutputTooShort}
 use Rattle.glyphs.specs.Glyphs.{stretch}
-use Rattle.gliftext.specs.Utf8.{is_utf8}
 use Rattle.gliftext.specs.Pick.{pick, both, either, more, most, sum}
 use Rattle.glif.specs.Outline.{nowhere}
-use Rattle.glif.specs.Scan.{Judged}
 use Rattle.glif.specs.Scan as Scan
 use Rattle.glif.specs.declared.scan.Totals.{Totals}
 use Rattle.glifread.specs.Enter.{no_place, rows, filled, enter_all}
@@ -26,7 +24,7 @@ use Rattle.glifread.specs.Reads.{refusal, Rooms, rooms, refusal_in, answer_by, e
 use Rattle.glifread.specs.Entry.{judged_in}
 use Rattle.glifwrite.specs.Puts.{Putting, put, put_byte}
 use Rattle.glifwrite.specs.Contours.{is_on, end_at, start_of, empty_to, some_empty, even, rows_refused}
-use Rattle.glifwrite.specs.Writes.{GivenRows, given, no_points, read_to, scan_in, totals_in, place_in, row_in, file_in, refused_by, size_of, answer_as, write_all}
+use Rattle.glifwrite.specs.Writes.{GivenRows, given, place_in, row_in, file_in, refused_by, size_of, answer_as, write_all}
 use Rattle.glifwrite.specs.Writes.{left_in, answer_of}
 use Rattle.glifwrite.specs.Writes as Writes
 use Rattle.glifwrite.specs.Worked as Worked
