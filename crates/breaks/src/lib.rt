@@ -2,11 +2,9 @@
 // is left in the row, with a definition of specs/Breaks.antt.
 #![tactic(auto)]
 
-ghost use Rattle.std.specs.Prelude.{◌≡◌, ◌≤◌, ◌<◌, length, take, refl, Float};
-ghost use Rattle.std.specs.Float.Ieee.{lt};
-ghost use Rattle.float.specs.Numbers.{nought};
+ghost use Rattle.std.specs.Prelude.{◌≡◌, ◌≤◌, ◌<◌, length, take, Float};
 ghost use Rattle.breaks.specs.Breaks.{half_grid, whole_grid, on_grid, grid_point, packed_of, break_at, places_of, place_at, opens, opened};
-ghost use Rattle.breaks.specs.Breaks.{placed_by, join_of, breaks_of, joined_by, count_joined, breaks_in, count_found};
+ghost use Rattle.breaks.specs.Breaks.{join_of, breaks_of, joined_by, count_joined, breaks_in, count_found};
 
 use geometry::{Break, Point};
 
@@ -41,25 +39,6 @@ pub struct Progress {
     pub count: usize,
     pub opened: f64,
 }
-
-// How the distances of places are held: as they are, or as what is sooner known and compares alike.
-pub trait Distances {
-    // The distance that is held as this number.
-    ghost distance: { Float → Float };
-
-    // The place at the length s.
-    fn place(samples: &[[f64; 4]], g: Grid, s: f64) -> Result<Placed, Stopped>
-        ensures { placed_by distance result ≡ place_at samples.now g s };
-
-    // Whether the first distance is less than the second.
-    fn is_less(a: f64, b: f64) -> bool
-        ensures { result ≡ lt (distance a) (distance b) };
-
-    ghost none: { distance nought ≡ nought };
-}
-
-// Distances as they are.
-pub struct Plain;
 
 impl Grid {
     // Half units: 0.5 * round(2 * x).
@@ -125,6 +104,22 @@ pub fn places(len: f64) -> usize
     float::to_index(float::round(10.0 * len)).min(0x7fff_ffff)
 }
 
+// The place at the length s.
+fn place(samples: &[[f64; 4]], g: Grid, s: f64) -> Result<Placed, Stopped>
+    ensures { result ≡ place_at samples.now g s }
+{
+    if samples.len() <= float::to_index(s) {
+        return Err(Stopped::Past);
+    }
+    let o = lookup::xy(samples, s).ok_or(Stopped::Missing)?;
+    let dir = lookup::dir(samples, s).ok_or(Stopped::Missing)?;
+    let xy = g.point(o);
+    Ok(Placed {
+        place: Break { s, xy, dir },
+        dist: xy.distance(o),
+    })
+}
+
 // Whether a place opens a break: the first does, and one that is not close to the last of n.
 pub fn opens(row: &[[f64; 6]], n: usize, p: Point) -> bool
     requires { n ≤ length row.now }
@@ -154,21 +149,16 @@ pub fn push(row: &mut [[f64; 6]], n: usize, b: Break, dist: f64) -> Result<Progr
 }
 
 // The breaks so far, with a break that the next place would be.
-fn join<D: Distances>(
-    row: &mut [[f64; 6]],
-    p: Progress,
-    b: Break,
-    dist: f64,
-) -> Result<Progress, Stopped>
+fn join(row: &mut [[f64; 6]], p: Progress, b: Break, dist: f64) -> Result<Progress, Stopped>
     requires { p.count ≤ length row.old }
-    ensures row { join_of (length row.old) (take p.count row.old) (D.distance p.opened) b (D.distance dist) ≡ joined_by D.distance row.new result }
+    ensures row { join_of (length row.old) (take p.count row.old) p.opened b dist ≡ joined_by (λ d. d) row.new result }
     ensures count { count_joined result ≤ length row.old }
 {
     let n = p.count;
     if opens(row, n, b.xy) {
         return push(row, n, b, dist);
     }
-    if D::is_less(dist, p.opened) {
+    if dist < p.opened {
         row[n - 1] = packed(b);
         return Ok(p);
     }
@@ -176,7 +166,7 @@ fn join<D: Distances>(
 }
 
 // The breaks of a run of this length: how many there are.
-pub fn find<D: Distances>(
+pub fn find_breaks(
     samples: &[[f64; 4]],
     len: f64,
     g: Grid,
@@ -191,44 +181,8 @@ pub fn find<D: Distances>(
         opened: 0.0,
     };
     for i in 0..=n {
-        let next = D::place(samples, g, len * (i as f64) / (n as f64))?;
-        p = join::<D>(row, p, next.place, next.dist)?;
+        let next = place(samples, g, len * (i as f64) / (n as f64))?;
+        p = join(row, p, next.place, next.dist)?;
     }
     Ok(p.count)
-}
-
-impl Distances for Plain {
-    ghost distance = { λ d. d };
-
-    ghost none = { refl };
-
-    fn place(samples: &[[f64; 4]], g: Grid, s: f64) -> Result<Placed, Stopped> {
-        if samples.len() <= float::to_index(s) {
-            return Err(Stopped::Past);
-        }
-        let o = lookup::xy(samples, s).ok_or(Stopped::Missing)?;
-        let dir = lookup::dir(samples, s).ok_or(Stopped::Missing)?;
-        let xy = g.point(o);
-        Ok(Placed {
-            place: Break { s, xy, dir },
-            dist: xy.distance(o),
-        })
-    }
-
-    fn is_less(a: f64, b: f64) -> bool {
-        a < b
-    }
-}
-
-// The same, by distances as they are.
-pub fn find_breaks(
-    samples: &[[f64; 4]],
-    len: f64,
-    g: Grid,
-    row: &mut [[f64; 6]],
-) -> Result<usize, Stopped>
-    ensures row { breaks_of (length row.old) samples.now g len ≡ breaks_in row.new result }
-    ensures count { count_found result ≤ length row.old }
-{
-    find::<Plain>(samples, len, g, row)
 }

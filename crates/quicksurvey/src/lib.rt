@@ -2,14 +2,38 @@
 #![tactic(auto)]
 
 ghost use Rattle.std.specs.Prelude.{◌≡◌, ◌≤◌, length};
-ghost use Rattle.survey.specs.Survey.{survey_of, survey_in, samples_used, breaks_used};
+ghost use Rattle.breaks.specs.Breaks.{breaks_of};
+ghost use Rattle.survey.specs.Survey.{break_room, searched, survey_of, survey_in, samples_used, breaks_used};
 
-use breaks::Grid;
-use quickbreaks::Squares;
-use quicksamples::Quick;
+use breaks::{Grid, Stopped};
 use refusals::Refusal;
 use survey::Surveyed;
 
+// The breaks between these samples of a run of this length, in a row with its room.
+fn search(
+    samples: &[[f64; 4]],
+    len: f64,
+    g: Grid,
+    breaks: &mut [[f64; 6]],
+) -> Result<Option<Surveyed>, Refusal>
+    ensures breaks { searched samples.now (breaks_of (break_room (length breaks.old)) samples.now g len)
+        ≡ survey_in samples.now breaks.new result }
+    ensures samples { samples_used result ≤ length samples.now }
+    ensures places { breaks_used result ≤ length breaks.old }
+{
+    let room = rows::least(2048, breaks.len());
+    match quickbreaks::find_breaks(samples, len, g, &mut breaks[..room]) {
+        Ok(n) => Ok(Some(Surveyed {
+            samples: samples.len(),
+            breaks: n,
+        })),
+        Err(Stopped::Full) => Err(Refusal::TooManyBreaks),
+        Err(Stopped::Missing) => Err(Refusal::PastLastSample),
+        Err(Stopped::Past) => Ok(None),
+    }
+}
+
+// The run of `count` segments from segment `first` on.
 pub fn survey(
     xs: &[i16],
     ys: &[i16],
@@ -26,5 +50,9 @@ pub fn survey(
     ensures samples { samples_used result ≤ length samples.old }
     ensures breaks { breaks_used result ≤ length breaks.old }
 {
-    survey::run::<Quick, Squares>(xs, ys, flags, first, count, g, samples, breaks)
+    let room = rows::least(16384, samples.len());
+    match quicksamples::sample_run(xs, ys, flags, first, count, &mut samples[..room]) {
+        None => Err(Refusal::TooManySamples),
+        Some(thetas) => search(&samples[..thetas.count], thetas.length, g, breaks),
+    }
 }

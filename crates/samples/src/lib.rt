@@ -5,7 +5,6 @@
 ghost use Rattle.std.specs.Prelude.{◌≡◌, ◌≤◌, length, take};
 ghost use Rattle.float.specs.Numbers.{nought};
 ghost use Rattle.arclen.specs.Arclen.{arclen_functor_of};
-ghost use Rattle.geometry.specs.Geometry.{unitize_of};
 ghost use Rattle.samples.specs.Samples.{quad_of, quads_of, sample_from, sample_at, step_at, fill_to, sweep_from, length_after};
 ghost use Rattle.samples.specs.Samples.{finished, thetas_of, start, walked_in, filled_in, places_filled};
 ghost use Rattle.samples.specs.Samples.{swept_in, places_swept, length_swept, run_in, places_sampled};
@@ -46,25 +45,6 @@ pub struct Thetas {
     pub length: f64,
 }
 
-// How a direction gets the length 1: as the Rust does, or quicker.
-pub trait Unitize {
-    fn unitize(p: Point) -> Point
-        ensures { result ≡ unitize_of p };
-}
-
-// How a quad is sampled: as the Rust does, or quicker.
-pub trait Sampling: Unitize {
-    // 100 steps over one quad. None: the row is full.
-    fn sweep(row: &mut [[f64; 4]], from: Walk, q: Quad) -> Option<Walk>
-        requires { from.n ≤ length row.old }
-        ensures row { sweep_from 100 (length row.old) q nought from.len (walked_in row.old from) ≡ swept_in row.new result }
-        ensures places { places_swept result ≤ length row.old }
-        ensures length { length_swept (length_after q from.len) result ≡ length_after q from.len };
-}
-
-// Step by step, as the Rust does.
-pub struct Plain;
-
 // A segment as a quad: a line's control is the lerp of its ends at 0.5.
 pub fn as_quad(s: Seg) -> Quad
     ensures { result ≡ quad_of s }
@@ -88,17 +68,17 @@ pub fn packed(p: Point, d: Point) -> [f64; 4]
 }
 
 // The sample at the length ix, between the last step and this one.
-fn sample<S: Unitize>(last: Step, this: Step, ix: f64) -> [f64; 4]
+fn sample(last: Step, this: Step, ix: f64) -> [f64; 4]
     ensures { result ≡ sample_at last this ix }
 {
     let u = (ix - last.s) / (this.s - last.s);
     let from = last.xy;
     let turn = last.d;
-    packed(from.lerp(this.xy, u), S::unitize(turn.lerp(this.d, u)))
+    packed(from.lerp(this.xy, u), turn.lerp(this.d, u).unitize())
 }
 
 // Samples while the next whole length is at most limit. None: the row is full.
-pub fn fill<S: Unitize>(
+fn fill(
     row: &mut [[f64; 4]],
     n: usize,
     ix: f64,
@@ -116,7 +96,7 @@ pub fn fill<S: Unitize>(
         if row.len() <= m {
             return None;
         }
-        row[m] = sample::<S>(last, this, x);
+        row[m] = sample(last, this, x);
         m += 1;
         x = x + 1.0;
     }
@@ -133,8 +113,39 @@ pub fn step_at(q: Quad, f: ArclenFunctor, t: f64, y: f64) -> Step
     Step { xy, d, s: y }
 }
 
+// 100 steps over one quad. None: the row is full.
+fn sweep(row: &mut [[f64; 4]], from: Walk, q: Quad) -> Option<Walk>
+    requires { from.n ≤ length row.old }
+    ensures row { sweep_from 100 (length row.old) q nought from.len (walked_in row.old from) ≡ swept_in row.new result }
+    ensures places { places_swept result ≤ length row.old }
+    ensures length { length_swept (length_after q from.len) result ≡ length_after q from.len }
+{
+    let f = ArclenFunctor::new(q);
+    let h = 1.0 / 100.0;
+    let mut n = from.n;
+    let mut ix = from.ix;
+    let mut last = from.last;
+    let mut t = 0.0;
+    let mut y = from.len;
+    for _ in 0..100usize {
+        let this = step_at(q, f, t, y);
+        let filled = fill(row, n, ix, last, this, y)?;
+        n = filled.count;
+        ix = filled.ix;
+        last = this;
+        y = arclen::rk4(f, h, t, y);
+        t = t + h;
+    }
+    Some(Walk {
+        n,
+        ix,
+        last,
+        len: y,
+    })
+}
+
 // The samples after the last step, up to the length + 2. None: the row is full, refusal 6.
-pub fn finish<S: Unitize>(row: &mut [[f64; 4]], w: Walk, q: Quad) -> Option<Thetas>
+pub fn finish(row: &mut [[f64; 4]], w: Walk, q: Quad) -> Option<Thetas>
     requires { w.n ≤ length row.old }
     ensures row { finished (length row.old) q w.len (walked_in row.old w) ≡ run_in row.new result }
     ensures places { places_sampled result ≤ length row.old }
@@ -145,7 +156,7 @@ pub fn finish<S: Unitize>(row: &mut [[f64; 4]], w: Walk, q: Quad) -> Option<Thet
     let len = w.len;
     let last = w.last;
     let this = Step { xy, d, s: len };
-    let filled = fill::<S>(row, w.n, w.ix, last, this, len + 2.0)?;
+    let filled = fill(row, w.n, w.ix, last, this, len + 2.0)?;
     Some(Thetas {
         count: filled.count,
         length: len,
@@ -170,7 +181,7 @@ pub fn begin() -> Walk
 }
 
 // The run of `count` segments from segment `first` on. Each starts at the place where the one before it ended. None: the row is full, refusal 6.
-pub fn run<S: Sampling>(
+pub fn sample_run(
     xs: &[i16],
     ys: &[i16],
     flags: &[u8],
@@ -192,57 +203,8 @@ pub fn run<S: Sampling>(
     let mut a = outline::start_of(flags, first);
     for _ in 0..count {
         q = as_quad(outline::read_from(xs, ys, flags, a));
-        w = S::sweep(row, w, q)?;
+        w = sweep(row, w, q)?;
         a = outline::end_of(flags, a);
     }
-    finish::<S>(row, w, q)
-}
-
-// The same, step by step.
-pub fn sample_run(
-    xs: &[i16],
-    ys: &[i16],
-    flags: &[u8],
-    first: usize,
-    count: usize,
-    row: &mut [[f64; 4]],
-) -> Option<Thetas>
-    ensures row { thetas_of (length row.old) (quads_of xs.now ys.now flags.now first count)
-        ≡ run_in row.new result }
-    ensures places { places_sampled result ≤ length row.old }
-{
-    run::<Plain>(xs, ys, flags, first, count, row)
-}
-
-impl Unitize for Plain {
-    fn unitize(p: Point) -> Point {
-        p.unitize()
-    }
-}
-
-impl Sampling for Plain {
-    fn sweep(row: &mut [[f64; 4]], from: Walk, q: Quad) -> Option<Walk> {
-        let f = ArclenFunctor::new(q);
-        let h = 1.0 / 100.0;
-        let mut n = from.n;
-        let mut ix = from.ix;
-        let mut last = from.last;
-        let mut t = 0.0;
-        let mut y = from.len;
-        for _ in 0..100usize {
-            let this = step_at(q, f, t, y);
-            let filled = fill::<Plain>(row, n, ix, last, this, y)?;
-            n = filled.count;
-            ix = filled.ix;
-            last = this;
-            y = arclen::rk4(f, h, t, y);
-            t = t + h;
-        }
-        Some(Walk {
-            n,
-            ix,
-            last,
-            len: y,
-        })
-    }
+    finish(row, w, q)
 }

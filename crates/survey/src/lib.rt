@@ -1,15 +1,13 @@
-// One run surveyed: its samples (module 5), then its breaks (module 7). How a run is sampled and how distances are held are the
-// caller's. What is tested of the answer rows is another step: two editions share one survey. None is a length past the samples,
-// which leaves the contour unchanged.
+// One run surveyed: its samples (module 5), then its breaks (module 7). What is tested of the answer rows is another step: two editions
+// share one survey. None is a length past the samples, which leaves the contour unchanged.
 #![tactic(auto)]
 
 ghost use Rattle.std.specs.Prelude.{◌≡◌, ◌≤◌, length};
 ghost use Rattle.breaks.specs.Breaks.{breaks_of};
 ghost use Rattle.survey.specs.Survey.{break_room, searched, survey_of, survey_in, samples_used, breaks_used};
 
-use breaks::{Distances, Grid, Stopped};
+use breaks::{Grid, Stopped};
 use refusals::Refusal;
-use samples::Sampling;
 
 // How many samples and how many breaks a run has.
 #[derive(Clone, Copy, Debug, PartialEq, Eq)]
@@ -19,7 +17,7 @@ pub struct Surveyed {
 }
 
 // The breaks between these samples of a run of this length, in a row with its room.
-fn search<D: Distances>(
+fn search(
     samples: &[[f64; 4]],
     len: f64,
     g: Grid,
@@ -31,7 +29,7 @@ fn search<D: Distances>(
     ensures places { breaks_used result ≤ length breaks.old }
 {
     let room = rows::least(2048, breaks.len());
-    match breaks::find::<D>(samples, len, g, &mut breaks[..room]) {
+    match breaks::find_breaks(samples, len, g, &mut breaks[..room]) {
         Ok(n) => Ok(Some(Surveyed {
             samples: samples.len(),
             breaks: n,
@@ -42,31 +40,7 @@ fn search<D: Distances>(
     }
 }
 
-// The run of `count` segments from segment `first` on, sampled as S does, with distances held as D does.
-pub fn run<S: Sampling, D: Distances>(
-    xs: &[i16],
-    ys: &[i16],
-    flags: &[u8],
-    first: usize,
-    count: usize,
-    g: Grid,
-    samples: &mut [[f64; 4]],
-    breaks: &mut [[f64; 6]],
-) -> Result<Option<Surveyed>, Refusal>
-    ensures rows { survey_of (length samples.old) (length breaks.old)
-        xs.now ys.now flags.now first count g
-        ≡ survey_in samples.new breaks.new result }
-    ensures samples { samples_used result ≤ length samples.old }
-    ensures breaks { breaks_used result ≤ length breaks.old }
-{
-    let room = rows::least(16384, samples.len());
-    match samples::run::<S>(xs, ys, flags, first, count, &mut samples[..room]) {
-        None => Err(Refusal::TooManySamples),
-        Some(thetas) => search::<D>(&samples[..thetas.count], thetas.length, g, breaks),
-    }
-}
-
-// The same, as the Rust does.
+// The run of `count` segments from segment `first` on.
 pub fn survey(
     xs: &[i16],
     ys: &[i16],
@@ -83,5 +57,9 @@ pub fn survey(
     ensures samples { samples_used result ≤ length samples.old }
     ensures breaks { breaks_used result ≤ length breaks.old }
 {
-    run::<samples::Plain, breaks::Plain>(xs, ys, flags, first, count, g, samples, breaks)
+    let room = rows::least(16384, samples.len());
+    match samples::sample_run(xs, ys, flags, first, count, &mut samples[..room]) {
+        None => Err(Refusal::TooManySamples),
+        Some(thetas) => search(&samples[..thetas.count], thetas.length, g, breaks),
+    }
 }

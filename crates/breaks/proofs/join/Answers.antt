@@ -6,19 +6,19 @@ use Rattle.breaks.proofs.Laws.{join_opens, not_first, join_replaces, join_keeps}
 use Rattle.breaks.proofs.join.Goals as goal
 
 pub returns-then-opens : goal.returns-then-opens
-returns-then-opens g c =
-    record { row = join_opens _ _ c.requires _ _ _ (sym c.opens.ensures ∙ c.if-opens.true) ∙ c.push.ensures.row g.D.Distances.distance; count = c.push.ensures.count }
+returns-then-opens c =
+    record { row = join_opens _ _ c.requires _ _ _ (sym c.opens.ensures ∙ c.if-opens.true) ∙ c.push.ensures.row (λ d. d); count = c.push.ensures.count }
 
 pub overflow_sub-n : goal.overflow_sub-n
-overflow_sub-n g c = omega (arith, pos_of_ne-zero (not_first _ _ c.requires _ (sym c.opens.ensures ∙ c.if-opens.false)))
+overflow_sub-n c = omega (arith, pos_of_ne-zero (not_first _ _ c.requires _ (sym c.opens.ensures ∙ c.if-opens.false)))
 
 pub bounds-row-n : goal.bounds-row-n
-bounds-row-n g c = omega (arith, pos_of_ne-zero (not_first _ _ c.requires _ (sym c.opens.ensures ∙ c.if-opens.false)))
+bounds-row-n c = omega (arith, pos_of_ne-zero (not_first _ _ c.requires _ (sym c.opens.ensures ∙ c.if-opens.false)))
 
-pub returns-then-is_less : goal.returns-then-is_less
-returns-then-is_less g c =
-    record { row = rw c.packed.ensures (join_replaces _ _ c.requires _ _ _ (sym c.opens.ensures ∙ c.if-opens.false) (sym c.is_less.ensures ∙ c.if-is_less.true)); count = c.requires }
+pub returns-then-dist-p : goal.returns-then-dist-p
+returns-then-dist-p c =
+    record { row = rw c.packed.ensures (join_replaces _ _ c.requires _ _ _ (sym c.opens.ensures ∙ c.if-opens.false) c.if-dist-p.true); count = c.requires }
 
 pub returns : goal.returns
-returns g c =
-    record { row = join_keeps _ _ c.requires _ _ _ (sym c.opens.ensures ∙ c.if-opens.false) (sym c.is_less.ensures ∙ c.if-is_less.false); count = c.requires }
+returns c =
+    record { row = join_keeps _ _ c.requires _ _ _ (sym c.opens.ensures ∙ c.if-opens.false) c.if-dist-p.false; count = c.requires }

@@ -7,8 +7,8 @@ use Rattle.samples.specs.Samples.{fill_to}
 use Rattle.samples.proofs.fill.Given as goal
 
 abbrev pub invariant-loop-x : goal.invariant-loop-x
-invariant-loop-x g l =
+invariant-loop-x l =
     (length l.row ≡ length l.initial.row) × (l.m ≤ length l.initial.row) × (fill_to (length l.initial.row) l.this l.limit (take l.n l.initial.row) l.ix l.last ≡ fill_to (length l.initial.row) l.this l.limit (take l.m l.row) l.x l.last)
 
 abbrev pub decreases-loop-x : goal.decreases-loop-x
-decreases-loop-x g l = length l.row - l.m
+decreases-loop-x l = length l.row - l.m

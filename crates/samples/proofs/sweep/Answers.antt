@@ -1,7 +1,7 @@
 use mathlib.Core.Path.{refl, ◌∙◌}
 use native.Mathlib.Omega.{arith}
 use Rattle.samples.proofs.Turns.{sweeps, sweeps_over, swept_all, length_all_lem}
-use Rattle.samples.proofs.PlainSampling.sweep.Goals as goal
+use Rattle.samples.proofs.sweep.Goals as goal
 
 pub returns-in_err-filled : goal.returns-in_err-filled
 returns-in_err-filled c =

@@ -1,12 +1,12 @@
--- `breaks::PlainDistances::place` meets its contract. Assumes nothing.
+-- `breaks::place` meets its contract. Assumes nothing.
 use Prim.Native.Nat.{◌<◌}
 use lib.ListN.{length}
 use lib.Ieee.{to_unsigned}
 use mathlib.Core.Path.{sym, ◌∙◌}
 use Rattle.std.proofs.lemmas.Result.{err_from_is_err_and}
 use Rattle.breaks.proofs.Laws.{place_past, missing, no_place, no_direction, both_there}
-use Rattle.breaks.proofs.PlainDistances.place.Goals as goal
-use Rattle.breaks.proofs.PlainDistances.place.Goals.{Else-samples-to_index}
+use Rattle.breaks.proofs.place.Goals as goal
+use Rattle.breaks.proofs.place.Goals.{Else-samples-to_index}
 
 -- the length is not past the samples
 inside : (c : Else-samples-to_index) → to_unsigned 64 c.args.s < length c.args.samples.now

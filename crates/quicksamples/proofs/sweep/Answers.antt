@@ -5,8 +5,8 @@ use lib.ListN.{length}
 use Rattle.arclen.specs.Arclen.{hundredth}
 use Rattle.quickarclen.specs.Stages.{time_from, Ready}
 use Rattle.quicksamples.proofs.Turns.{straight_speeds, sweeps, sweeps_over, swept_all, length_all_lem}
-use Rattle.quicksamples.proofs.QuickSampling.sweep.Goals as goal
-use Rattle.quicksamples.proofs.QuickSampling.sweep.Goals.{Joined-not-straight, then-not-straight, else-not-straight}
+use Rattle.quicksamples.proofs.sweep.Goals as goal
+use Rattle.quicksamples.proofs.sweep.Goals.{Joined-not-straight, then-not-straight, else-not-straight}
 
 -- the speeds of these ten steps are known, and those of a straight quad stay
 record Speeds (c : Joined-not-straight) : Type 0 where

@@ -1,4 +1,4 @@
--- `quickbreaks::SquaresDistances::place` meets its contract. Assumes nothing.
+-- `quickbreaks::place` meets its contract. Assumes nothing.
 use Prim.Native.Nat.{◌<◌}
 use lib.ListN.{length}
 use lib.Ieee.{to_unsigned}
@@ -6,8 +6,8 @@ use mathlib.Core.Path.{sym, ◌∙◌}
 use Rattle.std.proofs.lemmas.Result.{err_from_is_err_and}
 use Rattle.breaks.proofs.Laws.{place_past, missing}
 use Rattle.quickbreaks.proofs.Laws.{place_found, place_last}
-use Rattle.quickbreaks.proofs.SquaresDistances.place.Goals as goal
-use Rattle.quickbreaks.proofs.SquaresDistances.place.Goals.{Else-samples-to_index}
+use Rattle.quickbreaks.proofs.place.Goals as goal
+use Rattle.quickbreaks.proofs.place.Goals.{Else-samples-to_index}
 
 -- the length is not past the samples
 inside : (c : Else-samples-to_index) → to_unsigned 64 c.args.s < length c.args.samples.now

@@ -1,7 +1,0 @@
--- `samples::run` meets its contract. The loop's invariant is `Running`. Assumes nothing.
-use Rattle.samples.specs.Samples.{quads_of}
-use Rattle.samples.proofs.Turns.{Running}
-use Rattle.samples.proofs.run.Given as goal
-
-abbrev pub invariant-loop : goal.invariant-loop
-invariant-loop g l = Running l.xs l.ys l.flags (quads_of l.xs l.ys l.flags l.first l.count) l.count l.initial.row l.row l.q l.w l.a l.counter
