@@ -1,5 +1,5 @@
 -- Closed mode: the points as they came, one after the other; and the start put before what was written, whose last point goes. Assumes nothing.
-use Rattle.std.proofs.Common.{ℕ, zero, suc, ◌+◌, ◌-◌, ◌≤◌, ◌<◌, Bool, true, false, List, [], ◌∷◌, ◌++◌, ◌≡◌, refl, sym, ap, ◌∙◌, le_antisymm, add-one, arith, lt-ltb, le-ltb, ℤ, length, take, drop, set, get_or, length-append, length-take, length-drop, drop_of_length-le, length-take-le, take_all, take-take, drop-cons}
+use Rattle.std.proofs.Common.{ℕ, zero, suc, ◌+◌, ◌-◌, ◌≤◌, ◌<◌, Bool, true, false, List, [], ◌∷◌, ◌++◌, ◌≡◌, refl, sym, ap, ◌∙◌, le_antisymm, le_of_suc-le-suc, add-one, arith, lt-ltb, le-ltb, ℤ, length, take, drop, set, get_or, length-append, length-take, length-drop, length-take-le, take_all}
 use lib.Seq.{take-append-le}
 use Rattle.outline.specs.Segments.{on_at}
 use Rattle.contour.specs.declared.Written.{Written}
@@ -36,19 +36,44 @@ module _ {xs ys : List ℤ} {fs : List ℕ} {room : ℕ} {row : Points} {w : Wri
 abbrev pub shifted : List ℤ → Points → ℕ → Points
 shifted s ps i = take i (s ∷ ps) ++ drop i ps
 
+shift_set : (s : List ℤ) (ps : Points) (i : ℕ) → i < length ps → set (shifted s ps i) i (get_or (s ∷ ps) i []) ≡ shifted s ps (suc i)
+shift_set s [] i h = absurd (omega arith)
+shift_set s (p ∷ ps) zero h = refl
+shift_set s (p ∷ ps) (suc i) h = ap (λ (qs : Points). s ∷ qs) (shift_set p ps i (le_of_suc-le-suc h))
+
+shift_read : (s : List ℤ) (ps : Points) (i : ℕ) → i < length ps → get_or (shifted s ps i) i [] ≡ get_or ps i []
+shift_read s [] i h = absurd (omega arith)
+shift_read s (p ∷ ps) zero h = refl
+shift_read s (p ∷ ps) (suc i) h = shift_read p ps i (le_of_suc-le-suc h)
+
 length_shifted : (s : List ℤ) (ps : Points) (i : ℕ) → i ≤ length ps → length (shifted s ps i) ≡ length ps
 length_shifted s ps i h = omega (arith, length-append (take i (s ∷ ps)) (drop i ps), length-take i (s ∷ ps), length-drop i ps)
 
--- so after the first n are turned by one, and s is put in the first place
-pub put_first_is : (s : List ℤ) (ps turned : Points) (n : ℕ) → 0 < n → n ≤ length ps →
-    turned ≡ drop (length (take n ps) - 1) (take n ps) ++ take (length (take n ps) - 1) (take n ps) → set (turned ++ drop n ps) 0 s ≡ shifted s ps n
-put_first_is s ps turned zero some fits e = absurd (omega arith)
-put_first_is s ps turned (suc m) some fits e =
-    let long : length (take (suc m) ps) ≡ suc m = length-take-le (suc m) ps fits in
-    let less : length (take (suc m) ps) - 1 ≡ m = omega arith in
-    let none : drop (suc m) (take (suc m) ps) ≡ [] = drop_of_length-le (take (suc m) ps) {i = suc m} (omega arith) in
-    let last : drop m (take (suc m) ps) ≡ get_or (take (suc m) ps) m [] ∷ [] = rw (drop-cons (take (suc m) ps) m [] (omega arith), none) refl in
-    rw (e, less, last, take-take m (suc m) ps (omega arith)) refl
+pub record Shifting (old : Points) (s : List ℤ) (n : ℕ) (row : Points) (carried : List ℤ) (i : ℕ) : Type 0 where
+  pub few : i ≤ n
+  pub within : n ≤ length old
+  pub same : length row ≡ length old
+  pub is : row ≡ shifted s old i
+  pub next : carried ≡ get_or (s ∷ old) i []
+
+pub shift_start : (old : Points) (s : List ℤ) (n : ℕ) → n ≤ length old → Shifting old s n old s 0
+shift_start old s n h = record { few = omega arith; within = h; same = refl; is = refl; next = refl }
+
+pub shift_more : {old : Points} {s : List ℤ} {n : ℕ} {row : Points} {carried : List ℤ} {i : ℕ} → Shifting old s n row carried i → i < n →
+    Shifting old s n (set row i carried) (get_or row i []) (i + 1)
+shift_more {old} {s} {n} {row} {carried} {i} g h =
+    let in-old : i < length old = omega (arith, g.within) in
+    let set_is : set row i carried ≡ shifted s old (suc i) = rw (g.is, g.next) (shift_set s old i in-old) in
+    record {
+      few = omega arith;
+      within = g.within;
+      same = ap length set_is ∙ length_shifted s old (suc i) in-old;
+      is = rw add-one set_is;
+      next = rw add-one (ap (λ (ps : Points). get_or ps i []) g.is ∙ shift_read s old i in-old);
+    }
+
+pub shift_all : {old : Points} {s : List ℤ} {n : ℕ} {row : Points} {carried : List ℤ} {i : ℕ} → Shifting old s n row carried i → n ≤ i → row ≡ shifted s old n
+shift_all {old} {s} g h = g.is ∙ ap (shifted s old) (le_antisymm g.few h)
 
 -- ---- round from s
 

@@ -1,7 +1,6 @@
 -- One turn of dropping implied points, by the test's answer; and a point taken out of a row, by moving those after it up. Assumes nothing.
-use Rattle.std.proofs.Common.{ℕ, zero, suc, ◌+◌, ◌-◌, ◌%◌, ◌≤◌, ◌<◌, Bool, true, false, List, [], ◌++◌, append_assoc, ◌≡◌, refl, sym, ap, ◌∙◌, arith, ℤ, length, take, drop, get_or, length-append, length-drop, length-take-le, take-take, take_at, drop-drop, get_or-take, mod-lt}
-use Rattle.std.proofs.lemmas.Slice.{between_is}
-use borrow.Rule.Slice.PartMut.{put_mid, mid_of, post_of}
+use Rattle.std.proofs.Common.{ℕ, zero, suc, ◌+◌, ◌-◌, ◌%◌, ◌≤◌, ◌<◌, Bool, true, false, List, [], ◌≡◌, refl, sym, ap, ◌∙◌, arith, ℤ, length, take, drop, set, get_or, length-append, length-drop, length-set, length-take-le, take-take, get_or-take, mod-lt}
+use lib.Seq.{take-add, drop_at, get_or-drop, paste, paste-zero, paste-suc, take-paste, drop-paste}
 use Rattle.outline.specs.Segments.{previous}
 use Rattle.contour.specs.Points.{Points}
 use Rattle.contour.specs.Writing.{Holds}
@@ -79,19 +78,67 @@ unfolding implied_at
 implied_in implied row n i h k =
     rw (length-take-le n row k, get_or-take n row (previous n i) [] (previous_below n i h), get_or-take n row i [] h, get_or-take n row ((i + 1) % n) [] (mod-lt (i + 1) (omega arith)))
 
--- ---- a point taken out: those after it move up, as the part from its place on is turned by one
-pub taken_out : (ps turned : Points) (at n : ℕ) → at < n → n ≤ length ps → turned ≡ drop 1 (mid_of at (n - at) ps) ++ take 1 (mid_of at (n - at) ps) →
-    Holds (put_mid at (n - at) ps turned) (n - 1) (removed (take n ps) at)
-taken_out ps turned at n h fits e =
-    let mid : Points = take (n - at) (drop at ps) in
-    let past : Points = take 1 mid ++ post_of at (n - at) ps in
-    let before : length (take at ps) ≡ at = length-take-le at ps (omega arith) in
-    let long : length mid ≡ n - at = length-take-le (n - at) (drop at ps) (omega (arith, length-drop at ps)) in
-    let few : length (take at ps ++ drop 1 mid) ≡ n - 1 = omega (arith, length-append (take at ps) (drop 1 mid), before, long, length-drop 1 mid) in
-    let whole : put_mid at (n - at) ps turned ≡ (take at ps ++ drop 1 mid) ++ past =
-    rw (e, append_assoc (drop 1 mid) (take 1 mid) (post_of at (n - at) ps)) (sym (append_assoc (take at ps) (drop 1 mid) past)) in
-    let back : drop (at + 1) (take n ps) ≡ drop 1 mid = sym (drop-drop 1 at (take n ps)) ∙ ap (drop 1) (sym (between_is ps at n)) in
-    record {
-      within = omega (arith, ap length whole, length-append (take at ps ++ drop 1 mid) past, few);
-      are = rw (whole, back, take-take at n ps (omega arith)) (take_at (take at ps ++ drop 1 mid) past (n - 1) few);
-    }
+-- ---- a point taken out: k of those after place at stand one place further up
+
+module _ (l : Points) (at k : ℕ) where
+  abbrev rest : Points
+  rest = drop (at + 1) l
+
+  abbrev moved : Points
+  moved = paste l at rest k
+
+  -- the place after those that are moved is as it was
+  next_is : at + 1 + k ≤ length l → get_or moved (at + k + 1) [] ≡ get_or rest k []
+  next_is h =
+      let there : drop (at + k) moved ≡ drop (at + k) l = drop-paste l at rest k (omega arith) (omega (arith, length-drop (at + 1) l)) in
+      let place : at + k + 1 ≡ at + 1 + k = omega arith in
+      sym (get_or-drop (at + k) moved 1 []) ∙ ap (λ (m : Points). get_or m 1 []) there ∙ get_or-drop (at + k) l 1 []
+      ∙ ap (λ (j : ℕ). get_or l j []) place
+      ∙ sym (get_or-drop (at + 1) l k [])
+
+  one_more : at + 1 + k < length l → set moved (at + k) (get_or moved (at + k + 1) []) ≡ paste l at rest (suc k)
+  one_more h =
+      ap (set moved (at + k)) (next_is (omega arith))
+      ∙ paste-suc l at rest k [] (omega arith) (omega (arith, length-drop (at + 1) l))
+
+  -- all are moved
+  all_moved : at + 1 + k ≤ length l → take (at + k) moved ≡ removed (take (at + 1 + k) l) at
+  all_moved h =
+      let front : take at (take (at + 1 + k) l) ≡ take at l = take-take at (at + 1 + k) l (omega arith) in
+      let back : drop (at + 1) (take (at + 1 + k) l) ≡ take k rest =
+      ap (drop (at + 1)) (take-add (at + 1) k l) ∙ drop_at (take (at + 1) l) (take k rest) (at + 1) (length-take-le (at + 1) l (omega arith)) in
+      take-paste l at rest k (omega arith) (omega (arith, length-drop (at + 1) l)) ∙ sym (rw (front, back))
+
+pub record Moving (l m : Points) (at n i : ℕ) : Type 0 where
+  pub after : at < i
+  pub within : i ≤ n
+  pub fits : n ≤ length l
+  pub same : length m ≡ length l
+  pub is : m ≡ moved l at (i - (at + 1))
+
+pub move_start : (l : Points) (at n : ℕ) → at < n → n ≤ length l → Moving l l at n (at + 1)
+move_start l at n h k =
+    let none : at + 1 - (at + 1) ≡ 0 = omega arith in
+    record { after = omega arith; within = omega arith; fits = k; same = refl; is = rw none (paste-zero l at (rest l at 0)) }
+
+module _ {l m : Points} {at n i : ℕ} (r : Moving l m at n i) where
+  pub move_more : i < n → Moving l (set m (i - 1) (get_or m i [])) at n (i + 1)
+  move_more h =
+      let k : ℕ = i - (at + 1) in
+      let here : i ≡ at + k + 1 = omega (arith, r.after) in
+      let gap : i - 1 ≡ at + k = omega (arith, r.after) in
+      let more : i + 1 - (at + 1) ≡ suc k = omega (arith, r.after) in
+      record {
+        after = omega (arith, r.after);
+        within = omega arith;
+        fits = r.fits;
+        same = simp length-set r.same;
+        is = (λ q. set (r.is q) (gap q) (get_or (r.is q) (here q) [])) ∙ one_more l at k (omega (arith, r.fits, r.after)) ∙ ap (moved l at) (sym more);
+      }
+
+  pub move_all : n ≤ i → Holds m (n - 1) (removed (take n l) at)
+  move_all h =
+      let k : ℕ = i - (at + 1) in
+      let end : n ≡ at + 1 + k = omega (arith, r.after, r.within) in
+      let gap : n - 1 ≡ at + k = omega (arith, r.after, r.within) in
+      record { within = omega (arith, r.fits, r.same); are = rw (gap, end, r.is) (all_moved l at k (omega (arith, r.fits))) }

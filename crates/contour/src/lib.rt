@@ -155,11 +155,15 @@ pub fn unchanged_in(
 
 // The point s before the first n, whose last goes.
 fn put_first(points: &mut [[i16; 3]], n: usize, s: [i16; 3])
-    requires { (0 < n) × (n ≤ length points.old) }
+    requires { n ≤ length points.old }
     ensures { points.new ≡ take n (s ∷ points.old) ++ drop n points.old }
 {
-    points[..n].rotate_right(1);
-    points[0] = s;
+    let mut carried = s;
+    for i in 0..n {
+        let p = points[i];
+        points[i] = carried;
+        carried = p;
+    }
 }
 
 // The start first, and the last piece's end, for which it stands, not again.
@@ -269,7 +273,9 @@ fn remove(points: &mut [[i16; 3]], at: usize, n: usize)
     requires { (at < n) × (n ≤ length points.old) }
     ensures { Holds points.new (n - 1) (removed (take n points.old) at) }
 {
-    points[at..n].rotate_left(1);
+    for i in at + 1..n {
+        points[i - 1] = points[i];
+    }
 }
 
 // Where implied points are looked for first: in closed mode the point at place 0 stays.

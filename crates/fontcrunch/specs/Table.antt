@@ -11,8 +11,7 @@ use Rattle.float.specs.Numbers.{nought, one}
 use Rattle.float.proofs.Table.{each}
 use Rattle.geometry.specs.declared.Point.{Point}
 use Rattle.refusals.specs.Refusals.{off_neighbours, judged}
-use Rattle.refusals.specs.declared.refusal.Refusal.TheVariants.{NoPoint, StartsOffCurve, PastLastSample, NoSuchPenalty}
-use Rattle.refusals.specs.declared.refusal.Refusal.{Refusal}
+use Rattle.refusals.specs.Number.{number_of}
 use Rattle.outline.specs.Segments.{count_of, end_of, place_after, seg_from}
 use Rattle.corners.specs.Corners as Corners
 use Rattle.corners.specs.Corners.{angle_corner}
@@ -46,7 +45,8 @@ pub data Case : Type 0 where
 
 -- what comes of it
 pub data Comes : Type 0 where
-  refused : Refusal → Comes
+  -- by this number
+  refused : ℕ → Comes
   -- the points out, and the pairs tried
   gives : Points → ℕ → Comes
   -- whether the angle makes a corner
@@ -63,7 +63,7 @@ pub record Row : Type 0 where
 -- ---- evaluation
 
 abbrev pub outcome : Outcome → Comes
-outcome (Crunch.refused k) = refused k
+outcome (Crunch.refused k) = refused (number_of k)
 outcome (Crunch.crunched ps t) = gives ps t.pairs
 
 -- n breaks from (k, 0) on, each a unit after the one before, all with the direction (1, 0): no two of them cross
@@ -75,7 +75,7 @@ abbrev pub at_error : Float → Measure
 at_error e i j q = Some (record { error = e })
 
 abbrev pub pairs_of : Optimised → Comes
-pairs_of refused8 = refused PastLastSample
+pairs_of refused8 = refused 8
 pairs_of (unchanged p) = tried p
 pairs_of (solved a p) = tried p
 
@@ -179,10 +179,10 @@ at_once =
     ∷ record { case = run 32 1 (number 4); result = tried 1 }
     ∷ record { case = run 32 1 (number 7); result = tried 2 }
     -- penalties outside 1 to 256, after the refusals of the rows
-    ∷ record { case = contour 0 0 (pos 7 ∷ []) (pos 9 ∷ []) (1 ∷ []); result = refused NoSuchPenalty }
-    ∷ record { case = contour 257 0 (pos 7 ∷ []) (pos 9 ∷ []) (1 ∷ []); result = refused NoSuchPenalty }
-    ∷ record { case = contour 257 0 [] [] []; result = refused NoPoint }
-    ∷ record { case = contour 0 0 (pos 7 ∷ []) (pos 9 ∷ []) (0 ∷ []); result = refused StartsOffCurve }
+    ∷ record { case = contour 0 0 (pos 7 ∷ []) (pos 9 ∷ []) (1 ∷ []); result = refused 16 }
+    ∷ record { case = contour 257 0 (pos 7 ∷ []) (pos 9 ∷ []) (1 ∷ []); result = refused 16 }
+    ∷ record { case = contour 257 0 [] [] []; result = refused 2 }
+    ∷ record { case = contour 0 0 (pos 7 ∷ []) (pos 9 ∷ []) (0 ∷ []); result = refused 4 }
     ∷ []
 
 -- rows that work a run, each with one pair

@@ -1,6 +1,11 @@
--- `contour::put_first` meets its contract. Assumes nothing.
-use Rattle.contour.proofs.Closing.{put_first_is}
+use Rattle.contour.proofs.Closing.{shift_start, shift_more, shift_all}
 use Rattle.contour.proofs.put_first.Goals as goal
 
+pub loop-i-init : goal.loop-i-init
+loop-i-init c = shift_start _ _ _ c.requires
+
+pub loop-i-preserved : goal.loop-i-preserved
+loop-i-preserved c = shift_more c.loop-i.invariant c.loop-i-test.true
+
 pub returns : goal.returns
-returns c = put_first_is c.args.s c.args.points.now _ c.args.n c.requires.0 c.requires.1 c.rotate_right.ensures.after
+returns c = shift_all c.loop-i.invariant c.loop-i-test.false
