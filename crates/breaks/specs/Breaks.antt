@@ -116,7 +116,7 @@ walk (suc k) room place i f = walk k room place (i + 1) (stepped room f (place i
 
 -- ---- the whole
 
--- the breaks of a run; the number of a refusal; or the contour is unchanged
+-- the breaks of a run; a refusal; or the contour is unchanged
 pub data RunBreaks : Type 0 where
   breaks : Row → RunBreaks
   refused : Refusal → RunBreaks

@@ -13,7 +13,7 @@ use Rattle.edition.specs.Edition.{RunOutcome, Rooms, work_of}
 use Rattle.edition.specs.Edition as Edition
 use Rattle.pieces.specs.Pieces.{pieces_of}
 
--- the number of a refusal; a run that leaves the contour unchanged; or the chain and its score. With the pairs tried and the lookups that fell in them
+-- a refusal; a run that leaves the contour unchanged; or the chain and its score. With the pairs tried and the lookups that fell in them
 pub data Outcome : Type 0 where
   refused : Refusal → Outcome
   unchanged : Tally → Outcome

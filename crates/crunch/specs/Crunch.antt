@@ -10,7 +10,7 @@ use Rattle.contour.specs.Points.{Points}
 use Rattle.contour.specs.Implied.{finished}
 use Rattle.assembly.specs.Assembly.{State, crunch_runs}
 
--- the number of a refusal; or the points out, the pairs tried and the lookups that fell in them
+-- a refusal; or the points out, the pairs tried and the lookups that fell in them
 pub data Outcome : Type 0 where
   refused : Refusal → Outcome
   crunched : Points → Tally → Outcome

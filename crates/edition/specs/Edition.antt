@@ -18,7 +18,7 @@ pub use Rattle.survey.specs.Laws.{FoundBreaks}
 use Rattle.edition.specs.declared.Worked as W
 use Rattle.edition.specs.declared.Worked.TheVariants as Worked
 
--- what becomes of a run: the number of a refusal; no answer at the last break; or the answer. With the pairs tried and the lookups that fell in them
+-- what becomes of a run: a refusal; no answer at the last break; or the answer. With the pairs tried and the lookups that fell in them
 pub data RunOutcome : Type 0 where
   refused : Refusal → RunOutcome
   unchanged : Tally → RunOutcome

@@ -11,7 +11,7 @@ use Rattle.survey.specs.Survey.{Survey, survey_of}
 use Rattle.edition.specs.Edition.{answer_room, Rooms}
 use Rattle.edition.specs.Edition as Counted
 
--- the number of a refusal; no answer at the last break, after so many pairs; or the answer and the pairs tried
+-- a refusal; no answer at the last break, after so many pairs; or the answer and the pairs tried
 pub data RunOutcome : Type 0 where
   refused : Refusal → RunOutcome
   unchanged : ℕ → RunOutcome

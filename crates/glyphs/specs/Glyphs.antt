@@ -40,7 +40,7 @@ abbrev pub onward : ℕ → Crunch.Outcome → (ℕ → Outcome (List Points)) �
 onward room (Crunch.refused k) later = refused k
 onward room (Crunch.crunched ps tally) later = with_first ps (later (room - length ps))
 
--- the points of each contour, or the number of the first that is refused
+-- the points of each contour, or why the first that is refused is
 unfoldable pub crunch_each : Edition.Rooms → Settings → ℕ → List Inputs → Outcome (List Points)
 crunch_each rooms settings room [] = done []
 crunch_each rooms settings room (inputs xs ys fs ∷ contours) =

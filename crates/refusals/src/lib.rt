@@ -1,6 +1,6 @@
-// What a contour is refused for before it is worked: document 01's numbers 1 to 5, each a test of its
-// own, and their order. A contour is three rows: x, y, and flags whose bit 0 means on-curve. Each
-// contract equates the result with a definition of specs/, and asks nothing.
+// Why nothing is done, `Refusal`, with the numbers 1 to 21. And what a contour is refused for before it is worked: document 01's
+// numbers 1 to 5, each a test of its own, and their order. A contour is three rows: x, y, and flags whose bit 0 means on-curve.
+// Each contract equates the result with a definition of specs/, and asks nothing.
 #![tactic(auto)]
 
 mod refusal;

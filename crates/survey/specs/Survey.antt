@@ -17,7 +17,7 @@ sample_room row = min 16384 row
 abbrev pub break_room : ℕ → ℕ
 break_room row = min 2048 row
 
--- the samples and the breaks; the number of a refusal; or a length past the samples, which leaves the contour unchanged
+-- the samples and the breaks; a refusal; or a length past the samples, which leaves the contour unchanged
 pub data Survey : Type 0 where
   refused : Refusal → Survey
   past : Survey
