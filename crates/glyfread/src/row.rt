@@ -60,7 +60,9 @@ pub fn copy_bytes(bytes: &[u8], from: usize, row: &mut [u8], n: usize)
     requires { (from + n ≤ length bytes.now) × (n ≤ length row.old) }
     ensures { row.new ≡ laid (take n (drop from bytes.now)) row.old }
 {
-    row[..n].copy_from_slice(&bytes[from..from + n]);
+    for i in 0..n {
+        row[i] = bytes[from + i];
+    }
 }
 
 // A place of a row; past its end nothing is stored.
