@@ -293,7 +293,8 @@ fn put_read<const N: usize>(text: &mut [u8], at: usize, line: &[u8], order: Orde
 pub fn put_answer(text: &mut [u8], at: usize, line: &[u8], order: Order) -> usize
     ensures { Put text.old at (line_text order line.now ++ (10 ∷ [])) text.new result }
 {
-    let a = if line.len() < 192 {
+    let is_brief = line.len() < 192;
+    let a = if is_brief {
         put_read::<32>(text, at, line, order)
     } else {
         put_read::<1025>(text, at, line, order)
