@@ -1,3 +1,4 @@
 -- What the proofs share.
 mod Laws
+mod Numbers
 pub mod Passing
