@@ -2,9 +2,11 @@
 // is left in the row, with a definition of specs/Breaks.antt.
 #![tactic(auto)]
 
-ghost use Rattle.std.specs.Prelude.{◌≡◌, ◌≤◌, ◌<◌, length, take, Float};
+ghost use Rattle.std.specs.Prelude.{◌≡◌, ◌≤◌, ◌<◌, length, take, refl, Float};
+ghost use Rattle.std.specs.Float.Ieee.{lt};
+ghost use Rattle.float.specs.Numbers.{nought};
 ghost use Rattle.breaks.specs.Breaks.{half_grid, whole_grid, on_grid, grid_point, packed_of, break_at, places_of, place_at, opens, opened};
-ghost use Rattle.breaks.specs.Breaks.{join_of, breaks_of, joined_by, count_joined, breaks_in, count_found};
+ghost use Rattle.breaks.specs.Breaks.{placed_by, join_of, breaks_of, joined_by, count_joined, breaks_in, count_found};
 
 use geometry::{Break, Point};
 
@@ -39,6 +41,26 @@ pub struct Progress {
     pub count: usize,
     pub opened: f64,
 }
+
+// How the distances of places are held: as they are, or as what is sooner known and compares alike. It is for callers in other crates, who
+// may have a way of their own: `find_breaks` goes the plain way and that of `quickbreaks` goes by squares, and neither asks which.
+pub trait Distances {
+    // The distance that is held as this number.
+    ghost distance: { Float → Float };
+
+    // The place at the length s.
+    fn place(samples: &[[f64; 4]], g: Grid, s: f64) -> Result<Placed, Stopped>
+        ensures { placed_by distance result ≡ place_at samples.now g s };
+
+    // Whether the first distance is less than the second.
+    fn is_less(a: f64, b: f64) -> bool
+        ensures { result ≡ lt (distance a) (distance b) };
+
+    ghost none: { distance nought ≡ nought };
+}
+
+// Distances as they are.
+pub struct Plain;
 
 impl Grid {
     // Half units: 0.5 * round(2 * x).
@@ -185,4 +207,18 @@ pub fn find_breaks(
         p = join(row, p, next.place, next.dist)?;
     }
     Ok(p.count)
+}
+
+impl Distances for Plain {
+    ghost distance = { λ d. d };
+
+    ghost none = { refl };
+
+    fn place(samples: &[[f64; 4]], g: Grid, s: f64) -> Result<Placed, Stopped> {
+        place(samples, g, s)
+    }
+
+    fn is_less(a: f64, b: f64) -> bool {
+        a < b
+    }
 }

@@ -6,9 +6,13 @@ ghost use Rattle.std.specs.Prelude.{◌≡◌, true, ◌≤◌, length, take};
 ghost use Rattle.std.specs.Float.Ieee.{lt};
 ghost use Rattle.float.specs.Float.{root_of};
 ghost use Rattle.breaks.specs.Breaks.{placed_by, place_at, join_of, joined_by, breaks_of, count_joined, breaks_in, count_found};
+ghost use Rattle.quickbreaks.specs.Squares.{root_none};
 
-use breaks::{Grid, Placed, Progress, Stopped};
+use breaks::{Distances, Grid, Placed, Progress, Stopped};
 use geometry::Break;
+
+// Distances held by their squares.
+pub struct Squares;
 
 // The place at the length s, with the square of its distance.
 fn place(samples: &[[f64; 4]], g: Grid, s: f64) -> Result<Placed, Stopped>
@@ -90,4 +94,18 @@ pub fn find_breaks(
         p = join(row, p, next.place, next.dist)?;
     }
     Ok(p.count)
+}
+
+impl Distances for Squares {
+    ghost distance = { root_of };
+
+    ghost none = { root_none };
+
+    fn place(samples: &[[f64; 4]], g: Grid, s: f64) -> Result<Placed, Stopped> {
+        place(samples, g, s)
+    }
+
+    fn is_less(a: f64, b: f64) -> bool {
+        nearer(a, b)
+    }
 }

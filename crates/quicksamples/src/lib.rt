@@ -13,7 +13,10 @@ ghost use Rattle.quicksamples.specs.Tens.{NoneDue, TenSteps};
 
 use arclen::ArclenFunctor;
 use geometry::{Point, Quad};
-use samples::{Filled, Step, Thetas, Walk};
+use samples::{Filled, Sampling, Step, Thetas, Unitize, Walk};
+
+// Ten steps at a time, of which most have no sample to work out.
+pub struct Quick;
 
 // A direction of length 1.
 fn unitize(p: Point) -> Point
@@ -187,4 +190,16 @@ pub fn sample_run(
         a = outline::end_of(flags, a);
     }
     samples::finish(row, w, q)
+}
+
+impl Unitize for Quick {
+    fn unitize(p: Point) -> Point {
+        unitize(p)
+    }
+}
+
+impl Sampling for Quick {
+    fn sweep(row: &mut [[f64; 4]], from: Walk, q: Quad) -> Option<Walk> {
+        sweep(row, from, q)
+    }
 }

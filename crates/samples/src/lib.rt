@@ -5,6 +5,7 @@
 ghost use Rattle.std.specs.Prelude.{◌≡◌, ◌≤◌, length, take};
 ghost use Rattle.float.specs.Numbers.{nought};
 ghost use Rattle.arclen.specs.Arclen.{arclen_functor_of};
+ghost use Rattle.geometry.specs.Geometry.{unitize_of};
 ghost use Rattle.samples.specs.Samples.{quad_of, quads_of, sample_from, sample_at, step_at, fill_to, sweep_from, length_after};
 ghost use Rattle.samples.specs.Samples.{finished, thetas_of, start, walked_in, filled_in, places_filled};
 ghost use Rattle.samples.specs.Samples.{swept_in, places_swept, length_swept, run_in, places_sampled};
@@ -45,6 +46,26 @@ pub struct Thetas {
     pub length: f64,
 }
 
+// How a direction gets the length 1: as the Rust does, or quicker.
+pub trait Unitize {
+    fn unitize(p: Point) -> Point
+        ensures { result ≡ unitize_of p };
+}
+
+// How a quad is sampled: as the Rust does, or quicker. It is for callers in other crates, who may have a way of their own: `sample_run`
+// goes the plain way and that of `quicksamples` the quick one, and neither asks which.
+pub trait Sampling: Unitize {
+    // 100 steps over one quad. None: the row is full.
+    fn sweep(row: &mut [[f64; 4]], from: Walk, q: Quad) -> Option<Walk>
+        requires { from.n ≤ length row.old }
+        ensures row { sweep_from 100 (length row.old) q nought from.len (walked_in row.old from) ≡ swept_in row.new result }
+        ensures places { places_swept result ≤ length row.old }
+        ensures length { length_swept (length_after q from.len) result ≡ length_after q from.len };
+}
+
+// Step by step, as the Rust does.
+pub struct Plain;
+
 // A segment as a quad: a line's control is the lerp of its ends at 0.5.
 pub fn as_quad(s: Seg) -> Quad
     ensures { result ≡ quad_of s }
@@ -78,7 +99,7 @@ fn sample(last: Step, this: Step, ix: f64) -> [f64; 4]
 }
 
 // Samples while the next whole length is at most limit. None: the row is full.
-fn fill(
+pub fn fill(
     row: &mut [[f64; 4]],
     n: usize,
     ix: f64,
@@ -207,4 +228,16 @@ pub fn sample_run(
         a = outline::end_of(flags, a);
     }
     finish(row, w, q)
+}
+
+impl Unitize for Plain {
+    fn unitize(p: Point) -> Point {
+        p.unitize()
+    }
+}
+
+impl Sampling for Plain {
+    fn sweep(row: &mut [[f64; 4]], from: Walk, q: Quad) -> Option<Walk> {
+        sweep(row, from, q)
+    }
 }
